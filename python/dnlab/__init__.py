@@ -18,7 +18,6 @@ python3-numpy python3-pandas python3-scipy python3-jinja2 python3-matplotlib). `
 import importlib
 from typing import TYPE_CHECKING, Any
 
-from dnlab import moved
 from dnlab.errors import Failed, Faulty, Refused
 
 if TYPE_CHECKING:
@@ -41,7 +40,6 @@ _PLACES = {"Experiment": "analysis.results", "Report": "analysis.results", "inte
 _MODULES = ("hosts", "sim")
 _NEEDS: dict[str, tuple[str, ...]] = {"analysis.results": ("numpy", "pandas"), "sweeps.runs": ("numpy", "pandas"),
                                       "sweeps.sweeping": ("numpy", "pandas", "scipy", "jinja2")}
-moved.watch()
 
 
 def __getattr__(name: str) -> Any:

@@ -2,10 +2,10 @@
 import importlib
 import os
 import sys
-import warnings
+from contextlib import nullcontext, suppress
 from pathlib import Path
 from types import ModuleType
-from typing import Optional, Sequence, TextIO, Union
+from typing import Optional, Sequence
 
 if not __package__:
     # Called by the file's name: the package stands above.
@@ -15,14 +15,17 @@ from dnlab import __version__  # noqa: E402  (the path is set first)
 
 # What the machine lacks; `dnlab.errors` has it, which numpy's want must not keep from being said.
 MACHINE = 3
-COMMANDS = ("summary", "plot", "spread", "sweep", "compare", "expect", "view", "pcap", "from-ipfw", "to-ipfw", "to-tc", "replay", "rate-trace")
+COMMANDS = ("summary", "plot", "spread", "sweep", "compare", "expect", "view", "pcap", "from-ipfw", "to-ipfw", "to-tc", "replay", "rate-trace", "hosts")
 NEEDS = {"summary": ("numpy",), "plot": ("numpy", "matplotlib"), "spread": ("numpy",),
          "sweep": ("numpy", "pandas", "scipy", "jinja2"), "compare": ("numpy",), "expect": ("numpy",),
          "view": ("numpy", "plotly"), "pcap": ("numpy", "dpkt"), "from-ipfw": (),
          "to-ipfw": (),
          "to-tc": (),
          "replay": ("dpkt",),
-         "rate-trace": ()}
+         "rate-trace": (),
+         "hosts": ("yaml",)}
+# What pip calls a module, if it has another name.
+PIP = {"yaml": "pyyaml"}
 HELP = """Tools for reports of dnlab, in Python.
 
     python3 -m dnlab COMMAND ..
@@ -41,6 +44,8 @@ HELP = """Tools for reports of dnlab, in Python.
   to-tc SCENARIO --dev ETH1      writes its pipes and rules for tc(8)
   replay FILE .. --link WORDS    sends the packets of a capture through a link
   rate-trace FILE                makes a pipe's rate follow a trace
+  hosts FILE --out RUN           runs unmodified programs over Linux's TCP and a
+                                 link, in simulated time
 
 Each has --help and --version. In Python: import dnlab; help(dnlab).
 
@@ -66,7 +71,9 @@ def missing(modules: Sequence[str]) -> Optional[str]:
 
 def said_of(command: str, module: str) -> str:
     """What is said of a module that isn't there: which Python lacks it, and how it is had."""
-    said = (f"{command}: {module} is missing in {sys.executable} (pip install {module}; Debian, for /usr/bin/python3: "
+    from dnlab.programs import called
+
+    said = (f"{called(command)}: {module} is missing in {sys.executable} (pip install {PIP.get(module, module)}; Debian, for /usr/bin/python3: "
             f"apt-get install python3-{module}")
     if os.path.dirname(sys.executable) == "/usr/bin":
         return f"{said})"
@@ -90,26 +97,38 @@ def help_alone(words: Sequence[str]) -> None:
         module_of(words[0]).main(["--help"])
 
 
-def tell_renamed(command: str) -> None:
-    """From here on older names are warned of on standard error, each once, in a line as the command's others."""
-    from dnlab.analysis.columns import Renamed
-
-    others = warnings.showwarning
-
-    def show(message: Union[Warning, str], category: type[Warning], filename: str, lineno: int,
-             file: Optional[TextIO] = None, line: Optional[str] = None) -> None:
-        if issubclass(category, Renamed):
-            print(f"{command}: {message}", file=sys.stderr)
-        else:
-            others(message, category, filename, lineno, file, line)
-
-    warnings.showwarning = show
-    warnings.simplefilter("once", Renamed)
-
-
 def main(words: Optional[Sequence[str]] = None) -> int:
     """Runs a command by its words, the command first; gives the status."""
-    words = sys.argv[1:] if words is None else words
+    from dnlab.cli.streams import guarded
+
+    with guarded():
+        try:
+            status = begun(sys.argv[1:] if words is None else words)
+            with suppress(OSError) if status == MACHINE else nullcontext():
+                sys.stdout.flush()
+            if status == MACHINE:
+                # It has said what is lacking, so Python's own flush needn't.
+                write_no_more()
+            return status
+        except BrokenPipeError:
+            # Who read the output has left.
+            said = ""
+        except OSError as fault:
+            from dnlab.errors import cause_of
+
+            said = cause_of(fault)
+        except MemoryError:
+            said = "there isn't memory enough"
+        write_no_more()
+        if said:
+            from dnlab.programs import say
+
+            say((words or ["dnlab"])[0], said)
+        return MACHINE
+
+
+def begun(words: Sequence[str]) -> int:
+    """Runs a command; gives its status."""
     if list(words[:1]) in (["--help"], ["-h"]):
         print(HELP, end="")
         return 0
@@ -127,24 +146,7 @@ def main(words: Optional[Sequence[str]] = None) -> int:
         help_alone(words)
         print(said_of(words[0], lacking), file=sys.stderr)
         return MACHINE
-    tell_renamed(words[0])
-    module = module_of(words[0])
-    try:
-        status: int = module.main(words[1:])
-        sys.stdout.flush()
-        return status
-    except BrokenPipeError:
-        # Who read the output has left.
-        write_no_more()
-        return MACHINE
-    except OSError as fault:
-        write_no_more()
-        where = f"{fault.filename}: " if fault.filename else "writing to standard output: "
-        print(f"{words[0]}: {where}{fault.strerror}", file=sys.stderr)
-        return MACHINE
-    except MemoryError:
-        print(f"{words[0]}: there isn't memory enough: name some experiments by --experiment", file=sys.stderr)
-        return MACHINE
+    return int(module_of(words[0]).main(words[1:]))
 
 
 def write_no_more() -> None:
@@ -215,6 +217,11 @@ def replay() -> int:
 def rate_trace() -> int:
     """The script dnlab-rate-trace."""
     return main(["rate-trace", *sys.argv[1:]])
+
+
+def hosts() -> int:
+    """The script dnlab-hosts."""
+    return main(["hosts", *sys.argv[1:]])
 
 
 if __name__ == "__main__":

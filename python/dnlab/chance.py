@@ -10,6 +10,8 @@ from decimal import Context, Decimal
 from typing import Any, Optional, Sequence, Union
 
 Number = Union[int, float]
+# More moments would make a text that no program takes.
+_MOST = 10**6
 _EXACT = Context(prec=28)
 _BITS = 53
 
@@ -47,6 +49,8 @@ class Chance:
         """The moments of a Poisson process, in order: from `begin` on and before `end`, `mean` apart on average."""
         if not mean > 0:
             raise ValueError(f"rng.arrivals({mean}, ..): a mean gap is above 0")
+        if end - begin > _MOST * mean:
+            raise ValueError(f"rng.arrivals({mean}, {end}): more than {_MOST} moments")
         found: list[int] = []
         moment = int(begin) + self.exponential(mean)
         while moment < end:

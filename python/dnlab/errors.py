@@ -39,6 +39,17 @@ def status_of(fault: Exception) -> int:
     return MACHINE if isinstance(fault, (Lacking, OSError, MemoryError)) else INPUT
 
 
+def cause_of(fault: Exception) -> str:
+    """Returns what a command says of a fault: of the machine's the file, or standard output, and the reason.
+
+    >>> cause_of(OSError(28, "No space left on device")), cause_of(Faulty("a.txt: line 3: .."))
+    ('writing to standard output: No space left on device', 'a.txt: line 3: ..')
+    """
+    if isinstance(fault, OSError) and fault.strerror:
+        return f"{fault.filename or 'writing to standard output'}: {fault.strerror}"
+    return str(fault)
+
+
 class Failed(Exception):
     """The program `dnlab` ended with a status that isn't 0: `status` and its standard error."""
 

@@ -11,6 +11,8 @@ from dnlab.errors import Failed
 # The repository, where this package stands in one. By tools/install it stands in PREFIX/share/dnlab/python, and the program in PREFIX/bin.
 ROOT = Path(__file__).resolve().parent.parent.parent
 _SCRIPT = ROOT / "dnlab"
+# What is installed besides Python: beside the package, or in PREFIX/share/dnlab if the package is in PREFIX/lib/python3/dist-packages.
+DATA = ROOT if (ROOT / "hosts").is_dir() else ROOT.parent.parent / "share" / "dnlab"
 # A package for pip carries the program within itself.
 _CARRIED = Path(__file__).resolve().parent / "bin" / "dnlab"
 
@@ -18,6 +20,16 @@ _CARRIED = Path(__file__).resolve().parent / "bin" / "dnlab"
 def is_repository() -> bool:
     """Whether this package stands in its repository."""
     return _SCRIPT.is_file() and (ROOT / "crates").is_dir()
+
+
+def called(command: str) -> str:
+    """Returns the name of a command as its messages have it: `dnlab-plot` if it is installed, `plot` in the repository."""
+    return command if is_repository() or command == "dnlab" else f"dnlab-{command}"
+
+
+def say(command: str, text: object) -> None:
+    """Prints a line of a command on standard error, after its name."""
+    print(f"{called(command)}: {text}", file=sys.stderr)
 
 
 def named_program(named: Optional[str] = None) -> Optional[str]:
@@ -28,7 +40,19 @@ def named_program(named: Optional[str] = None) -> Optional[str]:
     found = shutil.which(wanted)
     if found is None:
         raise Failed(2, f"{wanted} is no program (the environment variable DNLAB names it)")
+    if _is_own(found):
+        raise Failed(2, f"{wanted} starts this package, and is no program (the environment variable DNLAB names it)")
     return os.path.abspath(found)
+
+
+def _is_own(path: str) -> bool:
+    """Whether it is the script that pip makes of `start`, which would start itself."""
+    try:
+        with open(path, "rb") as file:
+            begin = file.read(4096)
+    except OSError:
+        return False
+    return begin.startswith(b"#!") and b"dnlab.programs" in begin
 
 
 def program(named: Optional[str] = None) -> str:
@@ -40,10 +64,11 @@ def program(named: Optional[str] = None) -> str:
         return given
     if is_repository():
         return _of_repository()
-    for place in (_CARRIED, ROOT.parent.parent / "bin" / "dnlab", shutil.which("dnlab")):
-        if place and os.path.isfile(place) and os.access(place, os.X_OK):
+    for place in (_CARRIED, ROOT.parent.parent / "bin" / "dnlab", *(Path(one, "dnlab") for one in os.get_exec_path())):
+        if place.is_file() and os.access(place, os.X_OK) and not _is_own(str(place)):
             return str(place)
-    raise Failed(3, "there is no program dnlab: install it, or name it by the environment variable DNLAB")
+    raise Failed(3, "there is no program dnlab, and this package has none in it: `tools/install` of the repository installs both, a wheel of"
+                 " `tools/release` carries it, or the environment variable DNLAB names it")
 
 
 def start() -> NoReturn:

@@ -46,7 +46,7 @@ def expecting(report: Report, *bounds: Union[str, Path], allow: Union[str, Seque
     if not runs:
         raise Faulty(f"{report.given.report}: it has no experiment, so no bound can hold")
     failed = failing([(one.name, note) for one in runs for note in one.notes], allowed)
-    judged = list(judge(found, [row for one in runs for row in one.rows]))
+    judged = list(judge(found, [row for one in runs for row in one.rows], allow=allowed))
     if failed or not all(one.holds for one in judged):
         pytest.fail("\n".join([*(one.line() for one in failed), *(one.line() for one in judged)]), pytrace=False)
 

@@ -21,7 +21,8 @@ from dnlab.programs import program as program_of  # noqa: E402
 # Whether what is drawn, and what is tried of each scenario, is tried in part: `check_python --quick` says so.
 QUICK = bool(os.environ.get("DNLAB_QUICK"))
 # The files that take longest, which begin first, so that no core waits for one of them at the end.
-LONGEST = ("test_spread", "test_sweep", "test_view", "test_endings", "test_green", "test_commands", "test_seeds", "test_docs", "test_pages")
+LONGEST = ("test_spread", "test_hosts_runs", "test_hosts_endings", "test_sweep", "test_view", "test_endings", "test_green",
+           "test_commands", "test_seeds", "test_docs", "test_pages")
 Case = TypeVar("Case")
 
 
@@ -48,8 +49,8 @@ class Examples:
 
 
 EXAMPLES = Examples()
-# The same examples each time, and no files of them are left.
-settings.register_profile("dnlab", derandomize=True, database=None, deadline=None)
+# No files of examples are left. Each run draws new ones; tools/gate/check_python prints the seed.
+settings.register_profile("dnlab", database=None, deadline=None, print_blob=True)
 settings.load_profile("dnlab")
 
 
@@ -78,6 +79,16 @@ def alone(program: str) -> Callable[[bytes], bytes]:
         assert done.returncode == 0, done.stderr
         return done.stdout
     return run
+
+
+@pytest.fixture(scope="session")
+def kernel() -> Path:
+    """The folder of the guest's kernel, built if need be; without the packages for it the test is skipped."""
+    done = subprocess.run([ROOT / "tools" / "hosts", "--kernel"], capture_output=True, text=True, timeout=3600, check=False)
+    if done.returncode == 3:
+        pytest.skip(f"there is no kernel of the guest: {done.stderr.strip().splitlines()[-1]}")
+    assert done.returncode == 0, done.stderr
+    return Path(done.stdout.strip())
 
 
 def tool(name: str, *words: object, text: bytes = b"", **more: str) -> tuple[int, str, str]:

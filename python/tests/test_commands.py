@@ -71,14 +71,10 @@ def test_other_tables() -> None:
                                                 "p50 mean": 120000001.0, "p50 ci95": None}]
 
 
-@pytest.mark.parametrize("older, now", [("median", "p50"), ("least", "min"), ("greatest", "max"), ("completion", "fct"),
-                                        ("again", "retransmissions"), ("held", "in_flight")])
-def test_older_names_of_columns_are_taken_with_a_warning(older: str, now: str) -> None:
-    words = ("summary", REPORT, SCENARIO, "--by", "of", "--of", "train*", "--json", "--columns")
-    status, out, err = tool(*words, older)
-    assert (status, out) == tool(*words, now)[:2] and f'"{now} mean"' in out
-    assert f"summary: {older} is {now} since version 0.2; the older name goes with version 0.3\n" in err
-    assert "summary: of is sender since version 0.2" in err
+@pytest.mark.parametrize("name", ["median", "least", "completion", "again", "held", "nothing"])
+def test_a_column_has_one_name(name: str) -> None:
+    status, out, err = tool("summary", REPORT, SCENARIO, "--by", "sender", "--columns", name)
+    assert (status, out) == (2, "") and f"no column {name}: experiment, sender, packets, delivered, in_flight, " in err
 
 
 def test_the_printed_table_has_the_names_of_columns() -> None:
@@ -90,21 +86,15 @@ def test_the_printed_table_has_the_names_of_columns() -> None:
     assert {"sender", "in_flight", "rate", "goodput", "retransmissions", "warnings"} < set(printed)
 
 
-@pytest.mark.parametrize("older, now", [("delay.median", "delay.p50"), ("completion", "fct"), ("held", "in_flight")])
-def test_older_names_of_metrics_are_taken_with_a_warning(older: str, now: str, tmp_path: Path) -> None:
-    said = f": {older} is {now} since version 0.2; the older name goes with version 0.3\n"
-    value = "0" if now == "in_flight" else "0ms"
-    status, out, err = tool("expect", REPORT, SCENARIO, f"train 1: {older} >= {value}")
-    assert err.count(f"expect{said}") == 1 and (status, "can't be told" in out) == ((1, True) if now == "fct" else (0, False))
-    _, _, err = tool("compare", REPORT, REPORT, SCENARIO, "--tolerance", f"{older}={value}")
-    assert err.startswith(f"compare{said}")
+@pytest.mark.parametrize("name", ["delay.median", "completion", "held"])
+def test_a_metric_has_one_name(name: str, tmp_path: Path) -> None:
+    for words in (("expect", REPORT, SCENARIO, f"train 1: {name} >= 0"), ("compare", REPORT, REPORT, SCENARIO, "--tolerance", f"{name}=0")):
+        status, out, err = tool(*words)
+        assert (status, out) == (2, "") and f"there is no metric '{name}': packets, delivered, in_flight, " in err
     template = tmp_path / "one.tmpl"
     template.write_text(SCENARIO.read_text().replace("experiment codel-one-drop", "experiment {{ name }}"))
-    words = ("sweep", template, "--of", "train 1", "--csv", "-", "--stat")
-    status, out, err = tool(*words, older)
-    assert status == 0 and err.count(f"sweep{said}") == 1 and f",{older}," in out
-    status, also, err = tool(*words, now)
-    assert (status, also) == (0, out.replace(older, now)) and "since version" not in err
+    status, out, err = tool("sweep", template, "--of", "train 1", "--stat", name)
+    assert (status, out) == (2, "") and f"no stat '{name}': packets, delivered, in_flight, " in err
 
 
 def test_times_for_people_are_ms() -> None:

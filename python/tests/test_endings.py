@@ -33,7 +33,7 @@ LINK = """experiment {{ name }} seed {{ seed }} budget 1000
 @{{ 2 | s }} end
 """
 EXPERIMENTS = 60
-WORDS = ["link.tmpl", "--set", "queue=10,25,50", "--seeds", "1-20", "--of", "injected", "--stat", "delay.p50,lost",
+WORDS = ["link.tmpl", "--set", "queue=10,50", "--seeds", "1-30", "--of", "injected", "--stat", "delay.p50,lost",
          "--csv", "table.csv", "--workers", "2"]
 # What comes to whom, in turn.
 WAYS = [(signal.SIGINT, "tool"), (signal.SIGTERM, "tool"), (signal.SIGHUP, "tool"), (signal.SIGINT, "group"),

@@ -163,3 +163,11 @@ def test_experiments(tmp_path: Path) -> None:
         assert tool(name, file, "--experiment", "b", *more)[0] == 0
         status, _, told = tool(name, "-", *more, text=b"@0 nothing\n")
         assert status == 2 and "line 1" in told and "Traceback" not in told
+
+
+@pytest.mark.parametrize("name", ["em0;touch X", "em0 em1", "$(x)", "`x`", "em0\nx", "-x", "0em", "a" * 40])
+def test_names_of_interfaces(name: str) -> None:
+    """They go into a script, so they have no other characters than FreeBSD's."""
+    for words in (["to-ipfw", "none.txt"], ["from-ipfw", "none.sh"]):
+        status, out, told = tool(*words, f"--if={name}=10.0.0.0/24")
+        assert (status, out) == (2, "") and "an interface and the addresses behind it" in told

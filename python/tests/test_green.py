@@ -240,18 +240,71 @@ def test_a_package_that_is_missing(files: Callable[..., list[Path]], tmp_path: P
 
 def test_patterns_name_flows(files: Callable[..., list[Path]]) -> None:
     texts = files(FLOWS, "flows")
-    status, out, _ = tool("expect", *texts, "flow *: goodput > 1kbit/s", "flow * acks: delivered > 0", "flow *: loss < 1%")
+    status, out, _ = tool("expect", *texts, "--allow", "unsent", "flow *: goodput > 1kbit/s", "flow * acks: delivered > 0", "flow *: loss < 1%")
     assert status == 0 and out.count("the nearest of 2 rows") == 3
-    status, out, _ = tool("expect", *texts, "flow *: fct < 10s")
+    status, out, _ = tool("expect", *texts, "--allow", "unsent", "flow *: fct < 10s")
     assert status == 1 and "it can't be told of f/flow 2: it hadn't ended when the experiment did, at 0.1s" in out
-    assert tool("expect", *texts, "flow 1: fct < 10s")[0] == 0
+    assert tool("expect", *texts, "--allow", "unsent", "flow 1: fct < 10s")[0] == 0
     for bound, said in (("train 1: drops < 1", "no row 'train 1'"), ("pipe 1.0: utilisation < 101%", ""),
                         ("pipe 2.0: utilisation < 50%", "the pipe has no rate"), ("all: delay.p95 < 1s", "name `there` or `back`"),
                         ("pipe 1.0: loss < 1%", "under `trace 1`"), ("flow 1 acks: goodput > 1bit/s", "rows of this kind")):
-        status, out, err = tool("expect", *texts, bound)
+        status, out, err = tool("expect", *texts, "--allow", "unsent", bound)
         assert said in out + err and status == (0 if not said else 2 if "row '" in said else 1), (bound, out, err)
     rows = tool("summary", *texts, "--of", "flow *", "--csv")[1].split("\n")[1:-1]
     assert [row.split(",")[1] for row in rows] == ["flow 1", "flow 2"]
+
+
+def test_bounds_that_say_nothing(files: Callable[..., list[Path]]) -> None:
+    """A bound that holds whatever happens fails, with the reason, unless that is allowed."""
+    call = files(CALL)
+    for bound, said in (("train 9: loss >= 0%", "each loss keeps to it"), ("train 9: loss <= 100%", "each loss"),
+                        ("train 9: drops >= 0", "each drops"), ("train 9: delay.p95 > 0ms", "")):
+        status, out, _ = tool("expect", *call, bound)
+        assert (status, said in out) == (1 if said else 0, True) and ("vacuous" in out) == bool(said), out
+        assert tool("expect", *call, bound, "--allow", "vacuous")[0] == 0
+    one = files("experiment a seed 0 budget 99\n@0 add 1 allow ip from any to any\n@0 flow 1 10.0.0.1 1 10.0.0.2 2 smss 100 segments 3\n@9 end\n"
+                .replace("@9 end", "@9000000000 end"), "one")
+    assert "one flow alone" in tool("expect", *one, "there: jain > 0.9")[1]
+    denied = files("experiment a seed 0 budget 99\n@0 add 1 deny ip from any to any\n"
+                   "@0 train 1 udp 10.0.0.1 1 10.0.0.2 2 100 count 3 gap 10\n@9000 end\n", "denied")
+    status, out, _ = tool("expect", *denied, "all: drops.full == 0")
+    assert status == 1 and "rules denied all 3 packets" in out
+    two = files(CALL + CALL.replace("experiment a", "experiment b").replace("train 9", "train 8"), "two")
+    status, out, _ = tool("expect", *two, "train 9: loss < 1%")
+    assert status == 1 and "experiment b has no row 'train 9'" in out
+    assert tool("expect", *two, "a/train 9: loss < 1%")[0] == 0
+
+
+def test_percentiles_below_the_first(files: Callable[..., list[Path]]) -> None:
+    texts = files(CALL)
+    for words in (["expect", *texts, "train 9: delay.p0.95 < 150ms"], ["summary", *texts, "--percentiles", "0.95"]):
+        status, out, err = tool(*map(str, words))
+        assert (status, out) == (2, "") and ("write p95" in err or "write 95" in err)
+    assert tool("expect", *texts, "train 9: delay.p1 < 150ms")[0] == 0
+
+
+def test_packets_dropped_for_the_budget_fail(files: Callable[..., list[Path]]) -> None:
+    """By hand: of five packets at once four go beyond the budget."""
+    texts = files(CALL.replace("budget 100", "budget 1"))
+    status, out, _ = tool("expect", *texts, "train 9: delay.p95 < 150ms")
+    assert status == 1 and "FAILS  budget: experiment a: train 9: 4 of 5 packets" in out
+    assert tool("expect", *texts, "train 9: delay.p95 < 150ms", "--allow", "budget")[0] == 0
+
+
+def test_run_and_judge_at_once(files: Callable[..., list[Path]], tmp_path: Path) -> None:
+    """`--run` judges a report that it has just made, so that none can be of another scenario."""
+    report, scenario = files(CALL)
+    report.unlink()
+    bounds = tmp_path / "bounds.txt"
+    bounds.write_text("train 9: loss == 0%\n")
+    status, out, err = tool("expect", "--run", scenario, "--bounds", bounds)
+    assert status == 0 and out.startswith("holds  ") and not err
+    assert tool("expect", "--run", scenario, "train 9: delay.p95 < 1ns")[0] == 1
+    (tmp_path / "wrong.txt").write_text("nothing\n")
+    for words in (["--run", tmp_path / "wrong.txt", "all: drops == 0"], ["--run", tmp_path / "gone.txt", "all: drops == 0"],
+                  ["--run", "-", "all: drops == 0"], [scenario, "--run", scenario, "all: drops == 0"], ["--run", scenario, "all: nothing < 1"]):
+        status, out, err = tool("expect", *words)
+        assert (status, out) == (2, "") and err and "Traceback" not in err, (words, err)
 
 
 def test_a_bound_on_delay_that_losses_make_easy(files: Callable[..., list[Path]]) -> None:
@@ -276,7 +329,7 @@ def test_figures_by_hand(files: Callable[..., list[Path]]) -> None:
     for bound in ("train 9: delay.mean == 13ms", "train 1: jitter < 0.235ms", "train 1: jitter > 0.234ms", "all: refused == 0",
                   "pipe 1.0: utilisation > 12.89%", "pipe 1.0: utilisation < 12.9%", "all: ended == end"):
         assert tool("expect", *texts, bound)[0] == 0, bound
-    assert metric_of("jitter").kind == "time" and metric_of("utilisation").kind == "share" and percentile_name(50) == "median"
+    assert metric_of("jitter").kind == "time" and metric_of("utilisation").kind == "share" and percentile_name(50) == "p50"
 
 
 def test_jitter_as_the_page_has_it() -> None:
@@ -338,13 +391,6 @@ def test_stored_summaries(files: Callable[..., list[Path]], tmp_path: Path) -> N
         assert tool("compare", base, second, other, "--tolerance", f"delay.p95={share}", "--of", "train 9")[0] == status
     got = tool("compare", base, second, other, "--tolerance", "delay.p99=5%")
     assert got[0] == 2 and "base.json was made without it" in got[2]
-    older = base.read_text()
-    for now, before in (("sender", "of"), ("in_flight", "held"), ("min", "least"), ("p50", "median"), ("max", "greatest"),
-                        ("retransmissions", "again"), ("fct", "completion"), ("params", "settings"), ("warnings", "marks")):
-        assert f'"{now}": ' in older
-        older = older.replace(f'"{now}": ', f'"{before}": ')
-    (tmp_path / "older.json").write_text(older)
-    assert tool("compare", tmp_path / "older.json", first, plan)[:2] == same[:2]
     (tmp_path / "packed.gz").write_bytes(gzip.compress(base.read_bytes()))
     assert tool("compare", tmp_path / "packed.gz", first, plan)[0] == 0
     for text in ("[1]", "[{}]", base.read_text()[:-9], '[{"experiment": "a", "of": "b"}]',
@@ -389,3 +435,16 @@ def test_words_of_all_tools() -> None:
         assert status == 0 and out == f"dnlab-{name} {newest()}\n"
     assert tool("expect")[2].endswith("error: the following arguments are required: REPORT\n")
     assert tool("expect", "a", "all: drops < 1", "--all", "--first")[0] == 2
+
+
+def test_a_typed_text_may_lack_its_last_line_feed(program: str, tmp_path: Path) -> None:
+    """Python's quotes often end with the last line; a file without its last line feed may have been cut, and is refused."""
+    import dnlab
+
+    typed = CALL.rstrip("\n")
+    first, second = dnlab.run(typed, dnlab=program, out=tmp_path / "1"), dnlab.run(CALL, dnlab=program, out=tmp_path / "2")
+    assert (tmp_path / "1").read_bytes() == (tmp_path / "2").read_bytes() and len(list(first)) == len(list(second)) > 0
+    (tmp_path / "cut.txt").write_text(typed)
+    for text in (tmp_path / "cut.txt", typed.encode()):
+        with pytest.raises(dnlab.Failed, match="cut"):
+            dnlab.run(text, dnlab=program)

@@ -6,7 +6,7 @@ import pytest
 from conftest import QUICK, text_of, view_of
 
 from dnlab.analysis.makings import makings_of
-from dnlab.analysis.packets import FATES, nowhere as lost_in
+from dnlab.analysis.packets import OUTCOMES, nowhere as lost_in
 from dnlab.analysis.view import View
 from dnlab.errors import Refused
 from dnlab.io import report, scenario
@@ -64,7 +64,7 @@ def test_makings_by_hand() -> None:
     timeouts = view_of("reno_timeouts").packets
     assert timeouts.made.tolist() == [0, 0, 0, 10**9, 3 * 10**9]
     # The first segment is sent anew by both timeouts.
-    assert timeouts.again.tolist() == [False, False, False, True, True]
+    assert timeouts.retransmission.tolist() == [False, False, False, True, True]
 
 
 def visits(view: View, packet: int) -> list[tuple[str, int, int, int]]:
@@ -149,7 +149,7 @@ def random_scenario(seed: int) -> str:
 
 def is_told(view: View) -> bool:
     """Whether each packet's pipes can be told."""
-    deleted = (view.packets.fate == FATES.index("deleted")).any()
+    deleted = (view.packets.outcome == OUTCOMES.index("deleted")).any()
     return not lost_in(view.packets, view.visits) and not deleted
 
 
@@ -199,7 +199,7 @@ def test_random_scenarios(tens: int, alone) -> None:
         segments += int((view.packets.kind == DATA).sum())
         if seed % 3 == 0:
             bare = View(experiment)
-            for name in ("made", "ended", "fate", "size", "kind", "flow", "number"):
+            for name in ("made", "ended", "outcome", "size", "kind", "flow", "number"):
                 assert (getattr(bare.packets, name) == getattr(view.packets, name)).all(), f"seed {seed}: {name}"
             assert visits_all(bare) == visits_all(view)
     assert segments and compared

@@ -102,11 +102,11 @@ def test_the_rate_of_the_link(alone: Alone) -> None:
 def test_utilisation_by_what_the_link_could_carry(alone: Alone) -> None:
     """1000 bytes take 1 ms, then 2 ms: it served all that it could, 8 Mbit/s for 1 ms and 4 for 2."""
     text = CHANGING.replace(b"@4000000 pipe 1 config bw 0 delay 1\n@5000000 inject udp 10.0.0.1 1 10.0.0.2 2 1000\n", b"")
-    rows = {row["of"]: row for row in Tables(seen(text, alone)).rows()}
+    rows = {row["sender"]: row for row in Tables(seen(text, alone)).rows()}
     assert rows["pipe 1.0"]["utilisation"] == 1.0
     later = text.replace(b"@1000000 inject", b"@2000000 inject")
     # The same bytes until 4 ms: 16000 bits of 8000 and 12000.
-    assert {row["of"]: row for row in Tables(seen(later, alone)).rows()}["pipe 1.0"]["utilisation"] == 0.8
+    assert {row["sender"]: row for row in Tables(seen(later, alone)).rows()}["pipe 1.0"]["utilisation"] == 0.8
 
 
 SELECT = ("const one = document.getElementById('%s'); one.value = '%s'; one.dispatchEvent(new Event('change'));"

@@ -68,7 +68,15 @@ MARKS = [
     ("a long fat link", BOTH.replace("10Mbit/s", "100Mbit/s").replace("queue 50", "queue 1000")
      + FLOW.replace("segments 30", "segments 1000000"), 5 * 10**9, "window-limited"),
     ("a window of two segments", BOTH + FLOW.replace("segments 30", "segments 30 window 2920"), 5 * 10**9, "window-limited"),
-    ("a short queue", BOTH.replace("queue 50", "queue 10") + FLOW.replace("segments 30", "segments 1000000"), 5 * 10**9, ""),
+    # In recovery each duplicate adds a segment to cwnd, which is then above the window of 44.
+    ("a short queue", BOTH.replace("queue 50", "queue 10") + FLOW.replace("segments 30", "segments 1000000"), 5 * 10**9, "window-limited"),
+    ("a window that never holds back", BOTH + FLOW, 5 * 10**9, ""),
+    ("an earlier rule takes all", "@0 add 10 allow ip from any to any\n" + BOTH + TRAIN, 5 * 10**9, "unused"),
+    ("addresses of nobody", BOTH + "@0 add 300 deny ip from 10.7.0.0/16 to any\n" + TRAIN, 5 * 10**9, "unused"),
+    ("a pipe without a rule", BOTH + "@0 pipe 9 config delay 5\n" + TRAIN, 5 * 10**9, "unused"),
+    ("a pipe behind another", "@0 one_pass 0\n" + BOTH + "@0 pipe 9 config delay 5\n@0 add 300 pipe 9 ip from any to any\n@0 add 400 allow ip"
+     " from any to any\n" + TRAIN, 5 * 10**9, ""),
+    ("a rule of later", BOTH + TRAIN + "@50000000 delete 100\n@50000000 add 50 pipe 1 ip from any to any\n", 5 * 10**9, ""),
     ("a gap in milliseconds", BOTH + TRAIN.replace("gap 20000000", "gap 20"), 5 * 10**9, "units"),
     ("all at once", BOTH + TRAIN.replace("gap 20000000", "gap 0"), 5 * 10**9, ""),
     ("a moment in milliseconds", BOTH + TRAIN.replace("@0", "@100"), 5 * 10**9, "units"),
@@ -76,8 +84,8 @@ MARKS = [
     ("an end in milliseconds", BOTH + TRAIN, 100, "unsent units"),
     ("a rate without its unit", BOTH.replace("10Mbit/s", "10") + TRAIN, 5 * 10**9, "units"),
     ("no way back", LINK + "@0 add 100 pipe 1 ip from 10.0.0.0/24 to any\n" + FLOW, 10**9, "no-way-back unsent"),
-    ("a rule to a pipe that nobody configures", LINK + "@0 add 100 pipe 7 ip from any to any\n" + TRAIN, 5 * 10**9, "nopipe"),
-    ("denied", LINK + "@0 add 100 pipe 1 ip from 10.0.7.0/24 to any\n" + TRAIN, 5 * 10**9, "denied"),
+    ("a rule to a pipe that nobody configures", LINK + "@0 add 100 pipe 7 ip from any to any\n" + TRAIN, 5 * 10**9, "nopipe unused"),
+    ("denied", LINK + "@0 add 100 pipe 1 ip from 10.0.7.0/24 to any\n" + TRAIN, 5 * 10**9, "denied unused"),
 ]
 
 
@@ -143,3 +151,10 @@ def test_columns_of_the_summary(alone: Alone, tmp_path: Path) -> None:
     assert "experiment b: 1 of 7 commands was refused and did nothing: line 14: `train 9" in err
     status, out, _ = tool("summary", tmp_path / "r", tmp_path / "s")
     assert [line.split()[-1] for line in out.split("\n")[1:-1]] == ["-"] * 3 + ["refused"] * 3
+
+
+def test_what_is_unused(alone: Alone) -> None:
+    """It names the pipe and the rule, in the notes that summary and expect print."""
+    made = view(alone, "@0 add 10 allow ip from any to any\n" + BOTH + TRAIN)
+    note = next(note for note in made.notes if note.mark == "unused")
+    assert "pipe 1" in note.text and "`add 100 pipe 1 ip" in note.text and note.of == ""

@@ -1,4 +1,4 @@
-"""Names of columns as users of pandas expect them, and the older ones, which work once more with a DeprecationWarning."""
+"""Names of columns as users of pandas expect them."""
 import pickle
 import warnings
 from pathlib import Path
@@ -41,48 +41,8 @@ def test_the_names_in_use(run: dnlab.Report, tmp_path: Path) -> None:
         *packets.columns, *summary.columns}
 
 
-@pytest.mark.parametrize("old, new", [("of", "sender"), ("fate", "outcome"), ("again", "retransmission")])
-def test_older_names_warn(run: dnlab.Report, old: str, new: str) -> None:
-    packets = run["train"].packets()
-    with pytest.warns(DeprecationWarning, match=f"{old} is {new} since version 0.2") as told:
-        by_attribute = getattr(packets, old)
-    assert told[0].filename == __file__
-    with pytest.warns(DeprecationWarning) as told:
-        by_key = packets[old]
-    assert told[0].filename == __file__
-    assert by_attribute.tolist() == by_key.tolist() == packets[new].tolist()
-
-
-def test_older_names_in_calls_of_pandas(run: dnlab.Report) -> None:
-    packets = run["train"].packets()
-    with pytest.warns(DeprecationWarning):
-        assert packets[["made", "of", "size"]].columns.tolist() == ["made", "sender", "bytes"]
-    with pytest.warns(DeprecationWarning):
-        found = packets.groupby("of", observed=True).agg(packets=("made", "size"), bytes=("bytes", "sum"))
-    assert found.loc["train 1"].tolist() == [4, 4000] and "of" in packets and "nothing" not in packets
-    with pytest.warns(DeprecationWarning):
-        assert dnlab.intervals(run.summary(), "of", "median").loc["train 1", "mean"] == 11_000_000
-    with pytest.warns(DeprecationWarning):
-        assert run["train"].settings == run["train"].params
-    with pytest.raises(KeyError):
-        packets["nothing"]
-    # size and pipe were never columns by attribute: they are what pandas has.
-    assert packets.size == packets.shape[0] * packets.shape[1] and callable(packets.pipe)
-
-
-def test_a_row_knows_them_too(run: dnlab.Report) -> None:
-    for _, row in run.summary().iterrows():
-        with pytest.warns(DeprecationWarning) as told:
-            assert row.of == row["of"] == row.sender and row["held"] == row.in_flight
-        assert {one.filename for one in told} == {__file__} and "median" not in row.index
-    column = run["train"].packets().delay
-    assert column.iloc[0] == 11_000_000 and isinstance(column.astype("Float64") / 2, pd.Series)
-
-
-def test_a_part_of_a_table_knows_them_too(run: dnlab.Report) -> None:
+def test_a_table_passes_to_another_process(run: dnlab.Report) -> None:
     part = run.summary().query("sender == 'train 1'")
-    with pytest.warns(DeprecationWarning):
-        assert part.held.tolist() == [1]
     again = pickle.loads(pickle.dumps(part))
     assert isinstance(again, pd.DataFrame) and again.in_flight.tolist() == [1]
 
@@ -99,20 +59,17 @@ def test_sweeps_have_them(program: str) -> None:
     assert made.long().columns.tolist() == ["size", "seed", "experiment", "sender", "stat", "unit", "value", "warnings"]
 
 
-def test_older_stats_and_metrics_warn(program: str) -> None:
-    text = TRAIN.scenario.decode().replace("experiment train seed 0", "experiment {{ name }} seed {{ seed }}")
-    with pytest.warns(DeprecationWarning, match="delay.median is delay.p50 since version 0.2") as told:
-        made = dnlab.sweep(text, of="train 1", stat="delay.median", dnlab=program)
-    assert told[0].filename == __file__ and made.table()["mean"].tolist() == [11e6]
-    with pytest.warns(DeprecationWarning, match="completion is fct since version 0.2"):
-        assert metric_of("completion") == metric_of("fct")
+@pytest.mark.parametrize("word", ["delay.median", "completion", "again", "held", "delay.least"])
+def test_a_metric_has_one_name(word: str) -> None:
+    with pytest.raises(ValueError, match=f"^there is no metric '{word}': packets, "):
+        metric_of(word)
 
 
-def test_bounds_take_both(tmp_path: Path) -> None:
+def test_bounds_by_these_names(tmp_path: Path) -> None:
     from conftest import tool
 
     opened(FLOWS, tmp_path)
     words = ["expect", tmp_path / "report.txt", tmp_path / "scenario.txt", "--allow", "refused"]
-    for bound in ("flow 1: fct < 13ms", "flow 1: completion < 13ms", "flow 2: retransmissions == 1", "flow 1: delay.max < 13ms"):
+    for bound in ("flow 1: fct < 13ms", "flow 2: retransmissions == 1", "flow 1: delay.max < 13ms"):
         assert tool(*words, bound)[0] == 0
     assert tool(*words, "flow 1: fct < 12ms")[0] == 1

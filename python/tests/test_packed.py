@@ -2,6 +2,8 @@
 import gzip
 import hashlib
 import json
+import time
+import zlib
 from pathlib import Path
 from typing import Callable
 
@@ -64,3 +66,21 @@ def test_spread_keeps_the_scenario_that_run_keeps(tmp_path: Path, program: str) 
     results.run(text, out=tmp_path / "b.txt", dnlab=program)
     one, other = (json.loads((tmp_path / f"{name}.txt.json").read_bytes()) for name in "ab")
     assert one["scenario"] == other["scenario"] and one["report"] == other["report"]
+
+
+@pytest.mark.parametrize("is_file", [True, False])
+def test_a_bomb(tmp_path: Path, is_file: bool) -> None:
+    """4 GB of zeros in 4 MB, without a line feed, are refused within their first blocks, and as a scenario within its bytes."""
+    bomb = tmp_path / "bomb.gz"
+    packer = zlib.compressobj(9, zlib.DEFLATED, 31)
+    with open(bomb, "wb") as file:
+        file.write(packer.compress(b"experiment a\n"))
+        for _ in range(1 << 10):
+            file.write(packer.compress(bytes(1 << 22)))
+        file.write(packer.flush())
+    begin = time.monotonic()
+    status, out, told = tool("summary", *(([bomb]) if is_file else ["-"]), text=b"" if is_file else bomb.read_bytes())
+    assert status == 2 and "line 2: a line of more than" in told and not out
+    assert time.monotonic() - begin < 20
+    status, _, told = tool("spread", bomb)
+    assert status == 2 and "unpacked it has more than" in told

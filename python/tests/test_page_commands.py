@@ -3,7 +3,9 @@
 What a page shows in a block `console` is run with its output by test_pages.py. Here the files that pages name and don't show
 (`scenario.txt`, `rules.sh`, `call.pcap`) are made first; a block ``text title="NAME"`` is one of the page's own.
 """
+import os
 import re
+import shutil
 from pathlib import Path
 from typing import Callable
 
@@ -21,11 +23,12 @@ PAGES = [page for page in [ROOT / "README.md", ROOT / "python/README.md", *sorte
          if "docs/reports" not in str(page)]
 BLOCK = re.compile(r"^```(\w*)(?: title=\"([\w.]+)\")?\n(.*?)^```\n", re.DOTALL | re.MULTILINE)
 COMMAND = re.compile(r"(?:\$ )?(?:[A-Z_]+=\S+ )*(?:\./|(?:tools|cookbook|stacks|examples)/|dnlab(?:-\w+)? |"
-                     r"(?:python3|pip|apt-get|git|cc|rt|tc|export) |\(cd )")
+                     r"(?:python3|pip|apt-get|git|cc|rt|tc|sed|export) |\(cd )")
 # What isn't run here, by page and by how the command begins, and why.
 ELSEWHERE = {
     ("README.md", "git clone"): "a network",
     ("README.md", "apt-get install"): "root",
+    ("README.md", "pip install"): "by tools/gate/check_release",
     ("docs/tutorial.md", "apt-get install"): "root",
     ("docs/explanation/definitions.md", "(cd crates"): "a proof",
     ("docs/explanation/definitions.md", "tools/definitions/changes"): "proofs of hours",
@@ -35,9 +38,18 @@ ELSEWHERE = {
     ("docs/howto/many_machines.md", "tools/spread scenario.txt --parts 8 --ssh"): "a cluster; with stand-ins by test_spread.py",
     ("docs/howto/many_machines.md", "tools/spread scenario.txt --parts 8 --slurm"): "a cluster; with stand-ins by test_spread.py",
     ("docs/howto/many_machines.md", "tools/spread scenario.txt --parts 16 --ssh"): "a cluster; with stand-ins by test_spread.py",
+    ("docs/howto/many_machines.md", "tools/sweep link.tmpl"): "a cluster; with workers of this machine by test_seeds.py",
     ("docs/howto/many_machines.md", "python3 python/examples/queues.py 1000"): "8000 experiments",
     ("docs/howto/own_protocol.md", "$ ./dnlab live"): "by test_live_page.py",
+    ("docs/howto/page_loads.md", "apt-get install"): "root",
+    ("docs/howto/page_loads.md", "tools/sweep loads.yaml --set http=1,2 --set loss=0,0.01,0.02"): "72 loads of a page, five minutes",
     ("docs/howto/playground.md", "tools/playground"): "by tools/gate/check_playground",
+    ("docs/howto/release.md", "apt-get install"): "root",
+    ("docs/howto/release.md", "./dnlab prove"): "a proof",
+    ("docs/howto/release.md", "tools/release"): "by tools/gate/check_release",
+    ("docs/howto/run_your_programs.md", "apt-get install"): "root",
+    ("docs/howto/run_your_programs.md", "tools/hosts --shell"): "a terminal",
+    ("docs/howto/run_your_programs.md", "tools/hosts first.yaml --clock wall"): "by test_hosts_endings.py, which allows for other work",
     ("docs/howto/studies.md", "tools/sweep"): "by test_study_pages.py",
     ("docs/reference/library.md", "tools/library"): "by tools/gate/check_library",
     ("docs/reference/library.md", "export"): "by tools/gate/check_library",
@@ -46,6 +58,8 @@ ELSEWHERE = {
     ("stacks/", ""): "by stacks/check",
     ("cookbook/", "cookbook/"): "by cookbook/check",
 }
+# Programs that a page's commands need; without them it is skipped.
+PROGRAMS = {"docs/howto/page_loads.md": ("chromium-headless-shell", "nginx", "openssl")}
 LINK = """experiment {name} seed 1 budget 1000
 @0 trace 1
 @0 pipe 1 config bw 10Mbit/s delay 10 queue 50
@@ -97,11 +111,16 @@ def given(folder: Path, program: str, alone: Callable[[bytes], bytes]) -> Path:
 
 
 @pytest.mark.parametrize("page", [page for page in PAGES if here(page)], ids=lambda page: str(page.relative_to(ROOT)))
-def test_the_commands_of_a_page(page: Path, given: Path, program: str) -> None:
+def test_the_commands_of_a_page(page: Path, given: Path, program: str, request: pytest.FixtureRequest) -> None:
+    missing = [it for it in PROGRAMS.get(str(page.relative_to(ROOT)), ()) if shutil.which(it, path=f"{os.environ['PATH']}:/usr/sbin") is None]
+    if missing:
+        pytest.skip(f"missing programs: {' '.join(missing)}")
     for _, name, text in BLOCK.findall(page.read_text()):
         if name:
             (given / name).write_text(text)
     for command in here(page):
+        if command.startswith("tools/hosts") or "loads.yaml" in command:
+            request.getfixturevalue("kernel")
         said = run(["bash", "-c", f"set -o pipefail; {command.removeprefix('$ ')}\necho status $?"], given, program)
         assert said.endswith("status 0\n"), f"$ {command}\n{said}"
 

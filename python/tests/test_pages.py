@@ -15,7 +15,9 @@ from pathlib import Path
 import pytest
 from conftest import ROOT
 
-LINKED = ("tools", "cookbook", "examples", "python", "stacks")
+LINKED = ("tools", "cookbook", "examples", "hosts", "python", "stacks")
+# Pages whose commands run programs in the guest's kernel.
+WITH_KERNEL = {"docs/howto/run_your_programs.md"}
 BLOCK = re.compile(r"^```(\w+)(?: title=\"([\w.]+)\")?\n(.*?)^```\n(?:\n((?:    [^\n]*\n)+))?", re.DOTALL | re.MULTILINE)
 PAGES = [page for page in [ROOT / "README.md", *sorted((ROOT / "docs").rglob("*.md"))] if "\n```console\n" in page.read_text()]
 
@@ -57,7 +59,9 @@ def folder(tmp_path: Path, program: str) -> Path:
 
 
 @pytest.mark.parametrize("page", PAGES, ids=lambda page: str(page.relative_to(ROOT)))
-def test_a_page(page: Path, folder: Path, program: str) -> None:
+def test_a_page(page: Path, folder: Path, program: str, request: pytest.FixtureRequest) -> None:
+    if str(page.relative_to(ROOT)) in WITH_KERNEL:
+        request.getfixturevalue("kernel")
     tried = 0
     for kind, name, text, output in BLOCK.findall(page.read_text()):
         if name:
@@ -110,3 +114,23 @@ def test_the_answer_of_another_target(folder: Path, program: str) -> None:
     said = run(["bash", "-c", "./dnlab alone < codel.txt | tools/summary - codel.txt --of 'train 9' --by experiment --columns p50"],
                folder, program)
     assert [line.split()[4:6] for line in said.splitlines()[1:]] == [["1", "104.800"], ["1", "28.800"]]
+
+
+SCENARIOS = {path.parent.name: path.read_text() for path in sorted((ROOT / "cookbook").glob("*/scenario.txt"))}
+TITLED = {f"{page.name} {block[2]}": block[3] for page in PAGES for block in BLOCK.finditer(page.read_text())
+          if block[1] == "text" and block[2].endswith(".txt") and block[3].startswith("experiment ")}
+
+
+@pytest.mark.parametrize("name", [*SCENARIOS, *TITLED])
+def test_no_text_of_a_page_has_a_seed_that_is_warned_of(name: str, program: str) -> None:
+    """A reader types these first; a warning about a habit of the pages themselves would hide those that count."""
+    text = {**SCENARIOS, **TITLED}[name]
+    done = subprocess.run([program, "check", "--explain"], input=text, capture_output=True, text=True, check=False)
+    assert done.returncode in (0, 1) and "its seed" not in done.stderr
+
+
+def test_the_cookbook_is_as_it_is_meant(program: str) -> None:
+    """`--explain` says nothing of the worked scenarios."""
+    said = [subprocess.run([program, "check", "--explain"], input=text, capture_output=True, text=True, check=False).stderr
+            for text in SCENARIOS.values()]
+    assert len(said) >= 9 and not any(said)

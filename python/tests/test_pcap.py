@@ -92,14 +92,14 @@ def test_tcptrace_counts_what_summary_does(alone: Alone, tmp_path: Path) -> None
     path = written(alone, tmp_path, LOSSY)
     said = subprocess.run(["tcptrace", "-ln", path], capture_output=True, text=True, check=True).stdout
     plans = scenario.read(LOSSY.encode())
-    rows = {row["of"]: row for row in Tables(View(next(read(alone(LOSSY.encode()))), plans["lossy"])).rows()}
+    rows = {row["sender"]: row for row in Tables(View(next(read(alone(LOSSY.encode()))), plans["lossy"])).rows()}
     connections = counts_of(said)
     assert len(connections) == 2
     for number, counts in enumerate(connections, 1):
         there, back = rows[f"flow {number}"], rows[f"flow {number} acks"]
-        assert there["again"] > 0
+        assert there["retransmissions"] > 0
         assert counts["actual data pkts"] == (there["packets"], 0)
-        assert counts["rexmt data pkts"] == (there["again"], 0)
+        assert counts["rexmt data pkts"] == (there["retransmissions"], 0)
         assert counts["unique bytes sent"] == (there["useful"], 0)
         assert counts["pure acks sent"] == (0, back["delivered"])
         smss = 1460 if number == 1 else 1000
@@ -147,3 +147,27 @@ def test_what_pcap_refuses(alone: Alone, tmp_path: Path) -> None:
     assert tool("pcap")[0] == 2 and tool("pcap", tmp_path / "good", "--at", "middle")[0] == 2
     status, out, _ = tool("pcap", "--help")
     assert status == 0 and "Example:" in out and "Exit status" in out
+
+
+def test_injected_tcp_is_refused(tmp_path: Path, alone: Callable[[bytes], bytes]) -> None:
+    """No report has a program's sequence numbers, so none are made up; other senders, and UDP, are written."""
+    text = ("experiment a seed 1 budget 9\n@0 trace 1\n@0 add 1 allow ip from any to any\n@1 inject tcp 10.0.0.1 1 10.0.0.2 2 100\n"
+            "@2 inject udp 10.0.0.1 1 10.0.0.2 2 100\n@3 train 4 tcp 10.0.0.3 1 10.0.0.2 2 100 count 2 gap 1\n@99 end\n")
+    scenario, report, out = tmp_path / "s.txt", tmp_path / "r.txt", tmp_path / "o.pcap"
+    scenario.write_text(text)
+    report.write_bytes(alone(text.encode()))
+    for name in (out, "-"):
+        status, said, told = tool("pcap", report, scenario, "--out", name)
+        assert (status, said) == (2, "") and "1 of the packets were injected as TCP" in told and not out.exists()
+    assert tool("pcap", report, scenario, "--of", "train 4", "--out", out)[0] == 0
+    scenario.write_text(text.replace("inject tcp", "inject udp"))
+    report.write_bytes(alone(scenario.read_bytes()))
+    assert tool("pcap", report, scenario, "--out", out)[0] == 0
+
+
+def test_it_says_what_the_capture_lacks(alone: Alone, tmp_path: Path) -> None:
+    """Steps that were spent cut the capture; that a window held a flow back is for `summary` to judge."""
+    (tmp_path / "s").write_text(LOSSY.replace("budget 1000", "budget 1000 steps 500"))
+    (tmp_path / "r").write_bytes(alone((tmp_path / "s").read_bytes()))
+    status, _, err = tool("pcap", tmp_path / "r", tmp_path / "s", "--out", tmp_path / "a.pcap")
+    assert status == 0 and len(err.splitlines()) == 1 and "its steps were spent at" in err

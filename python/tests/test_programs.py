@@ -6,6 +6,7 @@ import stat
 import subprocess
 import sys
 import tomllib
+from importlib.util import find_spec
 from pathlib import Path
 
 import pytest
@@ -139,3 +140,25 @@ def test_help_names_the_installed_commands(tmp_path: Path) -> None:
         code = f"import sys; sys.path.insert(0, {str(place)!r}); from dnlab.__main__ import main; main([{command!r}, '--help'])"
         said = subprocess.run([sys.executable, "-B", "-c", code], capture_output=True, text=True, check=False).stdout
         assert f"dnlab-{command}" in said and "tools/" not in said and "./dnlab" not in said, command
+
+
+def test_pip_install_of_the_sources(tmp_path: Path) -> None:
+    """What pip installs of the sources has no program in it: its script says so, and takes one that is on the PATH, never itself."""
+    shutil.copytree(ROOT / "python", tmp_path / "python", ignore=shutil.ignore_patterns("__pycache__", "tests", "bin"))
+    subprocess.run([sys.executable, "-m", "venv", "--without-pip", "--system-site-packages", tmp_path / "v"], check=True, timeout=60)
+    pip = [sys.executable, "-m", "pip", "--python", tmp_path / "v/bin/python3", "install", "-q", "--no-index", "--no-deps", "--no-build-isolation"]
+    if not all(map(find_spec, ("pip", "setuptools", "wheel"))):
+        pytest.skip("python3-pip and python3-wheel aren't there")
+    subprocess.run([*pip, tmp_path / "python"], check=True, timeout=120, capture_output=True)
+    own = tmp_path / "v/bin/dnlab"
+    bare = {"PATH": f"{own.parent}:/usr/bin:/bin", "HOME": str(tmp_path)}
+
+    def called(**names: str) -> "subprocess.CompletedProcess[str]":
+        return subprocess.run([own, "--version"], capture_output=True, text=True, env={**bare, **names}, timeout=20, check=False)
+
+    lacking = called()
+    assert (lacking.returncode, lacking.stdout) == (3, "") and "tools/install" in lacking.stderr and lacking.stderr.count("\n") == 1
+    assert called(DNLAB=str(own)).returncode == 2
+    there = script(tmp_path / "there" / "dnlab", "echo the program: $*")
+    assert called(PATH=f"{own.parent}:{there.parent}:/usr/bin:/bin").stdout == "the program: --version\n"
+    assert called(DNLAB=str(there)).stdout == "the program: --version\n"

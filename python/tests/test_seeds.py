@@ -51,10 +51,10 @@ def test_the_same_chance_leaves_the_setting_alone(program: str) -> None:
 def test_pairs_by_hand() -> None:
     """Differences 1, 2 and 3: their mean is 2, and t of two degrees, 4.303, by their spread 1 over the root of 3 is 2.484.
     A seed that one of both lacks is left out; 0 lies in the interval."""
-    rows = pd.DataFrame({"q": [1, 1, 1, 1, 2, 2, 2, 2], "seed": [1, 2, 3, 4, 4, 3, 2, 1], "of": "all", "marks": [""] * 7 + ["spent"],
+    rows = pd.DataFrame({"q": [1, 1, 1, 1, 2, 2, 2, 2], "seed": [1, 2, 3, 4, 4, 3, 2, 1], "sender": "all", "warnings": [""] * 7 + ["spent"],
                          "goodput": pd.array([10, 20, 30, 5, None, 33, 22, 11], "Int64")})
     found = compared(rows, ["q"], ["goodput"], "q").iloc[0]
-    assert (found.n, found["mean"], found.differs, found.marks) == (3, 2.0, False, "spent")
+    assert (found.n, found["mean"], found.differs, found.warnings) == (3, 2.0, False, "spent")
     assert (found.low, found.high) == pytest.approx((2 - 2.484, 2 + 2.484), abs=1e-3)
 
 
@@ -75,9 +75,20 @@ def test_names_of_columns_are_no_settings(template: Path) -> None:
     """A setting called as a column of the tables would hide it."""
     for name in ("value", "base", "min", "sender", "n"):
         status, out, err = tool("sweep", template, "--set", f"{name}=1,2")
-        assert (status, out) == (2, "") and f"no setting can be called {name}: the tables" in err and "differs" in err
+        assert (status, out) == (2, "") and f"no setting can be called {name}: the tables" in err and f"call it {name}_ " in err
         with pytest.raises(dnlab.Faulty, match="no setting can be called"):
             dnlab.sweep(ONE + "# {{ " + name + " }}\n", settings={name: [1, 2], "delay": 5})
+
+
+def test_the_name_that_is_advised_works(template: Path) -> None:
+    """`n`, the most natural name of a number of senders, is a column; a template that uses it says the same."""
+    template.write_text(ONE.replace("{{ delay }}", "{{ n }}"))
+    status, _, err = tool("sweep", template)
+    assert status == 2 and "'n' is undefined" in err and "call it n_ here and in the template" in err
+    template.write_text(ONE.replace("{{ delay }}", "{{ n_ }}"))
+    status, out, _ = tool("sweep", template, "--set", "n_=5,20", "--of", "train 1", "--stat", "delay.p50", "--csv", "-")
+    rows = [line.split(",") for line in out.splitlines() if "," in line]
+    assert status == 0 and rows[0][0] == "n_" and [row[0] for row in rows[1:]] == ["5", "20"] and "n" in rows[0]
 
 
 # ---- how many seeds
@@ -105,11 +116,11 @@ def test_needed_is_said_and_a_column(template: Path) -> None:
 def test_long_form(template: Path, tmp_path: Path) -> None:
     """A row for each experiment, of whom and stat: 2 settings, 3 seeds, 2 stats."""
     status, _, err = tool("sweep", template, "--set", "delay=5,20", "--seeds", "1-3", "--of", "train 1", "--stat",
-                          "delivered,completion", "--long", tmp_path / "long.csv")
+                          "delivered,fct", "--long", tmp_path / "long.csv")
     rows = list(csv.DictReader(open(tmp_path / "long.csv")))
     assert status == 0 and len(rows) == 12, err
     assert [(row["delay"], row["seed"], row["stat"], row["unit"], row["value"]) for row in rows[:2]] == [
-        ("5", "1", "delivered", "packets", "1.0"), ("5", "1", "completion", "ns", "")]
+        ("5", "1", "delivered", "packets", "1.0"), ("5", "1", "fct", "ns", "")]
 
 
 def test_marked_cells_are_told_in_the_table(template: Path) -> None:
@@ -149,6 +160,10 @@ def test_rows_and_columns(program: str) -> None:
                        dnlab=program)
     figure = made.plot(along="delay", rows="bw", columns="count")
     assert len(figure.axes) == 6 and figure.axes[5].get_title("left") == "Bw: 4Mbit/s\nCount: 2"
+    several = dnlab.sweep(ONE, delay=[5, 20], count=1, bw=["1Mbit/s", "2Mbit/s"], of="train 1", stat=["delivered", "delay.p95"], dnlab=program)
+    figure = several.plot(along="delay", rows="bw")
+    assert [axes.get_title("left") for axes in figure.axes] == ["train 1\nBw: 1Mbit/s", "train 1\nBw: 2Mbit/s"] * 2
+    assert [axes.get_ylabel()[:5] for axes in figure.axes] == ["Packe"] * 2 + ["95th "] * 2
     for wrong, said in (({"rows": "nothing"}, "no setting"), ({"rows": "bw", "columns": "bw"}, "another setting"),
                         ({"log": ["z"]}, "--log z")):
         with pytest.raises(dnlab.Faulty, match=said):

@@ -9,7 +9,7 @@ pytest.importorskip("pandas", reason="pandas is missing (Debian: python3-pandas)
 
 import dnlab  # noqa: E402
 from dnlab.chance import Chance  # noqa: E402
-from dnlab.senders import Arrivals, Chain, Cubic, Network, Reno, Requests, Web  # noqa: E402
+from dnlab.senders import Arrivals, Chain, Cubic, Network, NewReno, Reno, Requests, Web  # noqa: E402
 from dnlab.senders.flows import Ack, Flow, Segment  # noqa: E402
 
 MS, S = 10**6, 10**9
@@ -257,3 +257,54 @@ def test_a_window_of_one_s_own(program: str) -> None:
     network, flow = on_link(program, lambda network: network.flow(30 * 1460, Fixed))
     # Ten round trips of three segments each: 1.2 ms a segment, 20 ms there and back.
     assert network.rows()[0]["window"] == "Fixed" and 10 * 41_200_000 - 21 * MS < flow.arrived < 10 * 41_200_000 + 4 * MS
+
+
+# ---- where a retransmission is lost
+
+def lost_twice(program: str, window: Any, **more: Any) -> tuple[Flow, int]:
+    """A flow of which one segment and its first retransmission are lost; and the most bytes in flight at once."""
+    flights: list[int] = []
+    lost = [0]
+
+    def play(network: Network) -> Flow:
+        carry = network.carry
+
+        def losing(source: Any, target: Any, size: int, payload: Any) -> None:
+            if isinstance(payload, Segment):
+                flights.append(payload.after - payload.flow._una)
+                if payload.first == 146_000 and lost[0] < 2:
+                    lost[0] += 1
+                    return
+            carry(source, target, size, payload)
+
+        network.carry = losing  # type: ignore[method-assign]
+        return network.flow(3_000_000, window, **more)
+
+    _, flow = on_link(program, play, steps=10**7)
+    assert lost == [2] and flow.received_bytes == 3_000_000
+    return flow, max(flights)
+
+
+def test_a_lost_retransmission(program: str) -> None:
+    """By RFC 5681's letter each duplicate sends another segment until the timer expires after a second or more, in which 10 Mbit/s carry
+    1.2 MB; the limit that is there by default ends that."""
+    _, without = lost_twice(program, Reno, limit=None)
+    _, usual = lost_twice(program, Reno)
+    assert usual <= 262144 < 10**6 < without
+
+
+def test_new_reno_needs_fewer_timeouts(program: str) -> None:
+    """Where several segments of a window are lost: RFC 6582 sends them again in turn, RFC 5681 waits for the timer."""
+    timeouts = {window: sum(on_link(program, lambda network: network.flow(600_000, window), seed, plr="0.03")[1].timeouts for seed in range(1, 6))
+                for window in (Reno, NewReno)}
+    assert timeouts[NewReno] < timeouts[Reno]
+
+
+def test_what_has_arrived() -> None:
+    """Bytes count once, also those that wait behind a gap."""
+    fake, flow = begun(Reno)
+    for first in (0, 2000, 2000, 3000):
+        flow.received(Segment(flow, first, first + 1000))
+    assert flow.received_bytes == 3000
+    flow.received(Segment(flow, 1000, 2000))
+    assert flow.received_bytes == 4000

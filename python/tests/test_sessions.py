@@ -51,6 +51,22 @@ def test_a_packet_comes_when_it_should(link: dnlab.Link, alone: Alone) -> None:
     assert alone(link.transcript().encode()) == link.report()
 
 
+def test_only_the_first_next_due_costs_a_round_trip(session: dnlab.Session, link: dnlab.Link) -> None:
+    link.send(CLIENT, SERVER, 1000)
+    assert link.next_due() == 8 * MS
+    before = session.round_trips
+    link.until(8 * MS + 1)
+    assert (link.next_due(), session.round_trips) == (18 * MS, before + 1)
+    # Another experiment has events of its own, and says nothing of them before it is asked.
+    other = session.experiment("other", seed=1)
+    other.until(5)
+    before = session.round_trips
+    assert (link.next_due(), session.round_trips) == (18 * MS, before)
+    assert (other.next_due(), session.round_trips) == (None, before + 1)
+    link.until_mine()
+    assert (link.next_due(), session.round_trips) == (None, before + 2)
+
+
 def test_drops_at_once_are_told_with_their_packets(link: dnlab.Link) -> None:
     packets = [link.send(CLIENT, SERVER, 1000, payload=number) for number in range(4)]
     events = link.until(100 * MS)

@@ -63,7 +63,7 @@ def test_what_fails_is_counted(script: str, how: str, passed: str) -> None:
 def test_none_that_ran_is_no_success() -> None:
     status, said = ran(piece("it", "echo 1 passed, 0 failed", needs="command -v no-such-program"))
     assert status == 1 and said == ["test: about it", "test: it was not run, since this machine lacks what it needs (command -v no-such-program)",
-                                    "0 passed, 0 failed"]
+                                    "0 passed, 0 failed, 1 skipped"]
 
 
 def test_a_program_that_is_made() -> None:
@@ -79,7 +79,7 @@ def test_a_program_that_cannot_be_made() -> None:
     """Its maker's words are shown and count as one failure; who waits for it isn't run."""
     status, said = ran(piece("the checked build", "echo refused; exit 3"), piece("user", "echo 1 passed, 0 failed", after=("the checked build",)), program="")
     assert status == 1 and said == ["test: about the checked build", "refused", "test: the checked build: not made, status 3, S s", "test: about user",
-                                    "test: user was not run, since there is no program", "0 passed, 1 failed"]
+                                    "test: user was not run, since there is no program", "0 passed, 1 failed, 1 skipped"]
 
 
 @pytest.mark.parametrize("cores, most", [(1, 1), (2, 2), (3, 3)])

@@ -1,4 +1,5 @@
 """tools/beside/speed: what a run costs, as two tables, of a program that says it is proved."""
+import hashlib
 import signal
 import subprocess
 import time
@@ -32,6 +33,16 @@ def test_both_tables(program: str) -> None:
     assert [row[0] for row in cells[:5]] == ["Load", "p1", "p2", "p3", "p4"]
     # Two loads, each by four ways; alone takes as long as itself.
     assert len(cells) == 5 + 1 + 8 and {row[5] for row in cells if row[1] == "`alone`"} == {"1.00"}
+
+
+# Of the texts that the figures of docs/reports/BENCH.md were measured with.
+SUMS = {"b1": "a0010c75c54d0e0e", "b2": "9de9063e63d6ccaa", "b3": "bc0208fec29a48e0", "b4": "517a1dfa16c415dd",
+        "b5": "ac7f89a63cc45adc", "b6": "9466bb30ee6d5934", "b7": "b9fdc999b5cc7153"}
+
+
+def test_texts(tmp_path: Path) -> None:
+    subprocess.run([str(TOOL), "--texts", str(tmp_path)], check=True, timeout=300)
+    assert {file.stem: hashlib.sha256(file.read_bytes()).hexdigest()[:16] for file in tmp_path.glob("b*.txt")} == SUMS
 
 
 def test_a_program_that_is_not_proved(tmp_path: Path) -> None:

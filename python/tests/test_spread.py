@@ -14,10 +14,12 @@ import time
 from pathlib import Path
 
 import pytest
-from conftest import ROOT, in_part
+import dnlab
+from conftest import EXAMPLES, ROOT, in_part, tool
 from hypothesis import given
 from hypothesis import strategies as some
 
+from dnlab.io.report_bound import most_report
 from dnlab.io.splitting import experiments_in, groups, shares, texts_of
 
 SPREAD = str(ROOT / "tools" / "spread")
@@ -340,7 +342,7 @@ def test_what_is_missing(tmp_path: Path, program: str) -> None:
     with open("/dev/full", "wb") as full:
         done = subprocess.run([SPREAD, "-"], input=SMALL, stdout=full, stderr=subprocess.PIPE, check=False,
                               env={**os.environ, "DNLAB": program})
-    assert done.returncode == 3 and b"write" in done.stderr
+    assert done.returncode == 3 and b"standard output: No space left" in done.stderr
 
 
 @given(some.lists(some.integers(1, 50), min_size=1, max_size=40), some.integers(1, 45))
@@ -369,3 +371,25 @@ def test_nothing_is_lost_in_splitting(shapes, count: int) -> None:
     assert all(lines[part.line - 1].split()[1].decode() == part.name for part in found)
     for way in (texts_of(found), shares(found, count)):
         assert [part for one in way for part in one] == found and all(len(one) <= MOST for one in way)
+
+
+def test_no_report_is_longer_than_its_bound() -> None:
+    """Of the worked examples, whose texts have spaces and comments of all kinds, few steps and large listings."""
+    tried = 0
+    for scenario in EXAMPLES.glob("*/scenario.txt"):
+        tried += 1
+        assert (scenario.parent / "expected.txt").stat().st_size <= most_report(scenario.read_bytes()), scenario
+    assert tried > 100
+
+
+def test_a_worker_without_end(tmp_path: Path) -> None:
+    """A program whose output never ends is ended by a bound that hangs on the scenario's steps and commands."""
+    worker = tmp_path / "worker"
+    worker.write_text("#!/bin/sh\ncase $1 in check) printf 'ok 1 1' ;; --version) echo dnlab 9 ;; *) exec yes '0 ok 0' ;; esac\n")
+    worker.chmod(0o755)
+    scenario = tmp_path / "s.txt"
+    scenario.write_text("experiment a seed 1 budget 1 steps 1000\n@0 end\n")
+    status, out, told = tool("spread", scenario, "--parts", "1", "--out", tmp_path / "r.txt", "--work", tmp_path / "w", DNLAB=str(worker))
+    assert (status, out) == (3, "") and "SIGXFSZ" in told and not (tmp_path / "r.txt").exists(), told
+    with pytest.raises(dnlab.Failed, match="SIGXFSZ .it wrote more than its text can give."):
+        dnlab.run(scenario.read_text(), dnlab=str(worker))

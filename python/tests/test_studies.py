@@ -30,7 +30,7 @@ TEMPLATE = TRAIN.scenario.decode().replace("experiment train seed 0", "experimen
 def rows_of(run: Run, span: Span) -> dict[str, Row]:
     experiment = next(report.read(run.report))
     view = View(experiment, scenario.read(run.scenario)[experiment.name])
-    return {row["of"]: row for row in Tables(view, (50,), span=span).rows()}
+    return {row["sender"]: row for row in Tables(view, (50,), span=span).rows()}
 
 
 def picked(row: Row, *names: str) -> list[object]:
@@ -42,18 +42,18 @@ def picked(row: Row, *names: str) -> list[object]:
 def test_the_last_millisecond() -> None:
     """From 11.5 to 12.5 ms: the second packet comes, the third is on its way, and nothing is made, served or dropped."""
     rows = rows_of(TRAIN, Span(11_500_000))
-    names = ("packets", "delivered", "held", "full", "bytes", "time", "rate", "median", "from", "to")
+    names = ("packets", "delivered", "in_flight", "full", "bytes", "time", "rate", "p50", "from", "to")
     assert picked(rows["train 1"], *names) == [0, 1, 1, 0, 1000, MS, 8 * MS, 12 * MS, 11_500_000, 12_500_000]
     assert picked(rows["injected"], *names[:5]) == [0, 0, 1, 0, 0]
-    assert picked(rows["pipe 1.0"], "packets", "delivered", "held", "bytes", "utilisation") == [0, 1, 2, 0, 0.0]
+    assert picked(rows["pipe 1.0"], "packets", "delivered", "in_flight", "bytes", "utilisation") == [0, 1, 2, 0, 0.0]
 
 
 def test_before_a_moment() -> None:
     """Before 5 ms: four are made and one of them dropped; three were served in 3 of 5 ms; the single packet isn't made."""
     rows = rows_of(TRAIN, Span(0, 5 * MS))
-    assert picked(rows["train 1"], "packets", "delivered", "held", "full", "bytes", "rate", "median") == [4, 0, 3, 1, 0, 0, None]
-    assert picked(rows["injected"], "packets", "held") == [0, 0]
-    assert picked(rows["pipe 1.0"], "packets", "delivered", "held", "bytes", "rate", "utilisation") == [
+    assert picked(rows["train 1"], "packets", "delivered", "in_flight", "full", "bytes", "rate", "p50") == [4, 0, 3, 1, 0, 0, None]
+    assert picked(rows["injected"], "packets", "in_flight") == [0, 0]
+    assert picked(rows["pipe 1.0"], "packets", "delivered", "in_flight", "bytes", "rate", "utilisation") == [
         3, 0, 3, 3000, 4_800_000, 0.6]
 
 
@@ -69,10 +69,10 @@ def test_a_moment_belongs_to_what_begins_with_it() -> None:
 def test_flows_in_a_part() -> None:
     """Flow 1 completes at 12 ms; flow 2 is sent again at 1 s."""
     before, after = rows_of(FLOWS, Span(0, 12 * MS)), rows_of(FLOWS, Span(12 * MS))
-    assert picked(before["flow 1"], "useful", "goodput", "completion", "packets") == [960, 640_000, None, 2]
-    assert picked(after["flow 1"], "useful", "goodput", "completion", "packets") == [
+    assert picked(before["flow 1"], "useful", "goodput", "fct", "packets") == [960, 640_000, None, 2]
+    assert picked(after["flow 1"], "useful", "goodput", "fct", "packets") == [
         960, 960 * 8 * 10**9 // 1_988_000_000, 12 * MS, 0]
-    assert picked(before["flow 2"], "again", "denied") == [0, 1] and picked(after["flow 2"], "again", "denied") == [1, 0]
+    assert picked(before["flow 2"], "retransmissions", "denied") == [0, 1] and picked(after["flow 2"], "retransmissions", "denied") == [1, 0]
     # Both flows brought 960 bytes in the second part: it is fair.
     assert after["there"]["jain"] == 1.0
 
@@ -131,7 +131,7 @@ def test_a_sweep_takes_it_and_keeps_it_apart(tmp_path: Path, program: str) -> No
 def late(run: dnlab.Experiment, of: str) -> float:
     """The share of a sender's delivered packets that took more than 11.5 ms."""
     packets = run.packets()
-    own = packets[(packets["of"] == of) & (packets["fate"] == "delivered")]
+    own = packets[(packets["sender"] == of) & (packets["outcome"] == "delivered")]
     return float((own.delay > 11_500_000).mean())
 
 
@@ -143,7 +143,7 @@ def test_a_function_is_a_stat(tmp_path: Path, program: str) -> None:
     """Of the train's two packets that came one took 12 ms; five packets were made in all. Processes of their own ask it."""
     (tmp_path / "t").write_text(TEMPLATE)
     swept = dnlab.sweep(tmp_path / "t", queue=[2], seed=[1, 2], of="train 1", stat=[late, "delivered"], dnlab=program)
-    assert [(row.stat, row.n, row.mean) for row in swept.table().itertuples()] == [("late", 2, 0.5), ("delivered", 2, 2.0)]
+    assert [(row.stat, row.n, row.mean) for row in swept.table().itertuples()] == [("late", 1, 0.5), ("delivered", 1, 2.0)]
     assert dnlab.sweep(tmp_path / "t", queue=[2], stat=made, dnlab=program).rows()["made"].tolist() == [5.0]
 
 
@@ -167,7 +167,7 @@ def test_what_is_said_where_it_ends_early() -> None:
 def test_a_function_of_a_file(tmp_path: Path) -> None:
     (tmp_path / "t").write_text(TEMPLATE)
     (tmp_path / "mine.py").write_text("LIMIT = 11_500_000\ndef late(run, of):\n    p = run.packets()\n"
-                                      "    return int((p[p['of'] == of].delay > LIMIT).sum())\nlate.unit = 'packets'\n")
+                                      "    return int((p[p['sender'] == of].delay > LIMIT).sum())\nlate.unit = 'packets'\n")
     status, out, err = tool("sweep", tmp_path / "t", "--set", "queue=2", "--of", "train 1", "--stat",
                             f"{tmp_path}/mine.py:late", "--csv", "-")
     [row] = csv.DictReader(io.StringIO(out))

@@ -118,7 +118,7 @@ def test_chance_draws_fairly() -> None:
     assert all(690 < count < 810 for count in counts)
     assert {chance.choice("ab", [0, 1]) for _ in range(50)} == {"b"} and {chance.choice("xy") for _ in range(50)} == {"x", "y"}
     for wrong in (lambda: chance.whole(2, 1), lambda: chance.choice([]), lambda: chance.choice("ab", [0, 0]),
-                  lambda: chance.sample([1], 2), lambda: chance.arrivals(0, 5)):
+                  lambda: chance.sample([1], 2), lambda: chance.arrivals(0, 5), lambda: chance.arrivals(1, 10**6 + 1)):
         with pytest.raises(ValueError, match="rng"):
             wrong()
 
@@ -269,7 +269,7 @@ def test_counts_by_grep(tmp_path: Path, program: str, alone: Callable[[bytes], b
     """What flows and the call lost and got, against the lines of the report."""
     each = tmp_path / "each.csv"
     words = ["--set", "length=2", "--set", "queue=10,200 codel", "--seeds", "3", "--kept", tmp_path / "k", "--each", each]
-    stats = ["--of", "flows", "--stat", "lost,delivered,drops.full,drops.codel,drops.lost,again,packets", "--of", "train 9",
+    stats = ["--of", "flows", "--stat", "lost,delivered,drops.full,drops.codel,drops.lost,retransmissions,packets", "--of", "train 9",
              "--stat", "delivered,lost,delay.mean,delay.max"]
     assert tool("sweep", BOTTLENECK, *words, *stats, DNLAB=program)[0] == 0
     rows = rows_of(each.read_text())
@@ -575,8 +575,11 @@ def test_a_refused_command_ends_a_sweep(tmp_path: Path, program: str) -> None:
 
 
 BOMBS = [
-    ("{{ 'a' * 10**9 * 4 }}", "1073741824 bytes at most"), ("{{ 'a' | center(4000000000) }}", "1073741824 bytes at most"), ("{% for i in range(10**10) %}{% endfor %}", "1000000 at most"),
-    ("{{ '1e99999999' | ms }}", "no time"), ("{{ '9' * 20000000 }}", "16777216 bytes"),
+    ("{{ 'a' * 10**9 * 4 }}", "line 2: OverflowError"), ("{{ 'a' | center(4000000000) }}", "line 2: a text may want 536870912 bytes at most"),
+    ("{{ (10**(10**8)) % 7 }}", "line 2: OverflowError"), ("{{ rng.arrivals(1, 10**15) }}", "line 2: ValueError"),
+    ("{{ '%999999999d' % 1 }}", "line 2: OverflowError"), ("{{ '%*d' % (999999999, 1) }}", "line 2: OverflowError"),
+    ("{% set x = [0] * 10**9 %}", "line 2: OverflowError"), ("{% set x = 7 ** 9000 %}", "line 2: OverflowError"), ("{% for i in range(10**10) %}{% endfor %}", "1000000 at most"),
+    ("{{ '1e99999999' | ms }}", "no time"), ("{{ '9' * 20000000 }}", "20000000 bytes"),
     ("{% for i in range(10**6) %}{{ '#' * 60 }}\n{% endfor %}", "16777216 bytes"), ("{% include '.hidden' %}", "hidden"),
     ("{% include 'outside' %}", "outside"), ("{% include '../secret' %}", "outside"),
 ]
@@ -599,8 +602,24 @@ def test_a_template_without_end(monkeypatch: pytest.MonkeyPatch) -> None:
     monkeypatch.setattr("dnlab.sweeps.making.MOST_SECONDS", 1.0)
     text = "{% for i in range(10**6) %}{% for j in range(10**6) %}{% endfor %}{% endfor %}\n" + ONE
     made = dnlab.sweep(text, delay=5)
-    with pytest.raises(dnlab.Faulty, match=r"experiment delay5-s1 \(delay=5, seed 1\): its text takes more than 1 s"):
+    with pytest.raises(dnlab.Faulty, match=r"^template: line 1: its text takes more than 1 s to make$"):
         made.text(made.cases[0])
+
+
+@pytest.mark.parametrize("value", ["10\n@0 add 1 deny ip from any to any", "5\x1b[2J"])
+def test_a_setting_is_of_one_line(value: str, tmp_path: Path, program: str) -> None:
+    """A value can't bring a command of its own into the text."""
+    status, out, err = tool("sweep", template(tmp_path), "--set", f"delay={value}", "--dry-run", DNLAB=program)
+    assert status == 2 and not out and "one line" in err
+    with pytest.raises(dnlab.Faulty, match="one line"):
+        dnlab.sweep(ONE, delay=[value, 5])
+
+
+def test_texts_within_the_limits() -> None:
+    """Of 10^6 commands, and with powers and products as templates have them."""
+    text = "experiment {{ name }} seed {{ seed }} budget 9\n{{ traffic.every(1, 10**5, 'show') }}{{ traffic }}\n@{{ 2**40 * 3 + 10**6 }} end\n"
+    made = Template(text).made("x", 1, {})
+    assert made.count("show") == 10**5 and made.endswith("@3298535883328 end\n".replace("3298535883328", str(2**40 * 3 + 10**6)))
 
 
 def test_numbers_that_are_only_taken_from(tmp_path: Path) -> None:

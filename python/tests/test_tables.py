@@ -19,7 +19,7 @@ from dnlab.io import report, scenario
 
 
 def rows_of(view: View, percentiles=(50, 99)):
-    return {row["of"]: row for row in Tables(view, percentiles).rows()}
+    return {row["sender"]: row for row in Tables(view, percentiles).rows()}
 
 
 def test_codel_one_drop() -> None:
@@ -32,12 +32,12 @@ def test_codel_one_drop() -> None:
     assert (train["bytes"], train["time"], train["codel"]) == (29000, 232000001, 1)
     assert train["rate"] == train["goodput"] == 29000 * 8 * 10**9 // 232000001
     assert (rows["pipe 1.0"]["packets"], rows["pipe 1.0"]["codel"], rows["pipe 1.0"]["full"]) == (29, 1, None)
-    assert (train["ended"], train["marks"], train["again"], train["jain"]) == ("end", "", None, None)
+    assert (train["ended"], train["warnings"], train["retransmissions"], train["jain"]) == ("end", "", None, None)
 
 
 def test_without_the_scenario() -> None:
     bare = Tables(view_of("codel_one_drop", joined=False)).rows()[0]
-    assert (bare["of"], bare["packets"], bare["codel"], bare["bytes"], bare["median"], bare["seed"]) == (
+    assert (bare["sender"], bare["packets"], bare["codel"], bare["bytes"], bare["p50"], bare["seed"]) == (
         "plain", 30, 1, None, None, None)
 
 
@@ -45,7 +45,7 @@ def test_traced_burst() -> None:
     rows = rows_of(View(next(report.read(text_of("traced_burst", "expected.txt")))))
     assert (rows["pipe 1.0"]["full"], rows["pipe 1.0"]["lost"]) == (1, 0)
     # 8 ms in service, the second behind the first; then 1 ns in the delay line.
-    assert (rows["pipe 1.0"]["least"], rows["pipe 1.0"]["greatest"]) == (8 * 10**6 + 1, 16 * 10**6 + 1)
+    assert (rows["pipe 1.0"]["min"], rows["pipe 1.0"]["max"]) == (8 * 10**6 + 1, 16 * 10**6 + 1)
 
 
 def test_a_flow() -> None:
@@ -53,7 +53,7 @@ def test_a_flow() -> None:
     rows = rows_of(view_of("reno_four_segments"))
     flow = rows["flow 1"]
     assert (flow["useful"], flow["goodput"]) == (5840, 5840 * 8 * 10**9 // 32400000)
-    assert (flow["bytes"], flow["completion"], flow["again"]) == (6000, 32400000, 0)
+    assert (flow["bytes"], flow["fct"], flow["retransmissions"]) == (6000, 32400000, 0)
     # The acknowledgements go back: neither a pipe's row nor the whole adds both directions.
     assert list(rows) == ["flow 1", "flow 1 acks", "pipe 1.0", "pipe 2.0", "there", "back", "all"]
     assert (rows["there"]["bytes"], rows["back"]["bytes"], rows["all"]["bytes"]) == (6000, 160, None)
@@ -64,7 +64,7 @@ def test_a_flow() -> None:
 def test_sent_again() -> None:
     """reno_timeouts: three segments and two timeouts, all lost; nothing came."""
     flow = rows_of(view_of("reno_timeouts"))["flow 1"]
-    assert (flow["packets"], flow["again"], flow["useful"], flow["goodput"], flow["completion"]) == (5, 2, 0, None, None)
+    assert (flow["packets"], flow["retransmissions"], flow["useful"], flow["goodput"], flow["fct"]) == (5, 2, 0, None, None)
 
 
 BOTH = b"""experiment both seed 7 budget 20 steps 100
@@ -102,8 +102,8 @@ def test_one_pipe_for_both_directions(alone) -> None:
     assert (rows["pipe 1.0 back"]["packets"], rows["pipe 1.0 back"]["bytes"]) == (2, 80)
     assert rows["pipe 1.0"]["rate"] == 2000 * 8 * 10**9 // 2000000
     assert (rows["all"]["seed"], rows["all"]["budget_packets"], rows["all"]["budget_steps"]) == (7, 20, 100)
-    assert rows["all"]["settings"] == "pipe 1 bw 8Mbit/s"
-    assert rows["flow 1"]["completion"] == 2000001
+    assert rows["all"]["params"] == "pipe 1 bw 8Mbit/s"
+    assert rows["flow 1"]["fct"] == 2000001
 
 
 IDLE = b"""experiment idle seed 0 budget 9
@@ -136,13 +136,13 @@ def test_a_flow_that_gets_nothing_counts_in_jain(alone) -> None:
     assert alone(IDLE) == IDLE_REPORT
     rows = rows_of(View(next(report.read(IDLE_REPORT)), scenario.read(IDLE)["idle"]))
     assert (rows["flow 1"]["goodput"], rows["flow 2"]["goodput"]) == (960 * 8 * 10**9 // 11000000, None)
-    assert (rows["flow 1"]["completion"], rows["flow 2"]["completion"]) == (11000000, None)
+    assert (rows["flow 1"]["fct"], rows["flow 2"]["fct"]) == (11000000, None)
     assert rows["there"]["jain"] == rows["all"]["jain"] == 0.5
 
 
 def test_windows() -> None:
     view = View(next(report.read(BOTH_REPORT)), scenario.read(BOTH)["both"])
-    rows = [row for row in windows(view, 2000001) if row["of"] == "flow 1"]
+    rows = [row for row in windows(view, 2000001) if row["sender"] == "flow 1"]
     # The window ends before its last moment: the second segment comes in the second window.
     assert [(row["begin"], row["end"], row["packets"], row["bytes"], row["useful"]) for row in rows[:3]] == [
         (0, 2000001, 1, 1000, 960), (2000001, 4000002, 1, 1000, 960), (4000002, 6000003, 0, 0, 0)]
@@ -154,9 +154,9 @@ def test_windows() -> None:
 
 def test_losses() -> None:
     assert losses(view_of("codel_one_drop")) == [
-        {"experiment": "codel-one-drop", "of": "train 1", "cause": "codel", "pipe": "1.0", "packets": 1}]
+        {"experiment": "codel-one-drop", "sender": "train 1", "cause": "codel", "queue": "1.0", "packets": 1}]
     timeouts = losses(view_of("reno_timeouts"))
-    assert [(row["of"], row["cause"], row["pipe"], row["packets"]) for row in timeouts] == [("flow 1", "lost", None, 5)]
+    assert [(row["sender"], row["cause"], row["queue"], row["packets"]) for row in timeouts] == [("flow 1", "lost", None, 5)]
 
 
 SILENT = b"""experiment silent seed 1 budget 2 steps 13
@@ -180,9 +180,9 @@ def test_what_is_silently_wrong(alone) -> None:
     assert "flow 1: 2 of 4 packets" in kinds["budget"]
     assert "at 15000000 ns, before its end at 20000000 ns" in kinds["spent"]
     rows = rows_of(view)
-    assert rows["flow 1 acks"]["marks"].split() == ["spent", "no-way-back"]
-    assert rows["flow 1"]["marks"].split() == ["spent", "budget"]
-    assert {"spent", "no-way-back", "denied", "budget"} == set(rows["all"]["marks"].split())
+    assert rows["flow 1 acks"]["warnings"].split() == ["spent", "no-way-back"]
+    assert rows["flow 1"]["warnings"].split() == ["spent", "budget"]
+    assert {"spent", "no-way-back", "denied", "budget"} == set(rows["all"]["warnings"].split())
     assert (rows["all"]["ended"], rows["all"]["end"]) == ("spent", 20000000)
     assert f"spent {milliseconds(view.ended.moment)} of 20.000000 ms" in table(Tables(view).rows(), exact=True)
 
@@ -190,7 +190,7 @@ def test_what_is_silently_wrong(alone) -> None:
 def test_ranks() -> None:
     assert [place(count, of) + 1 for count, of in ((1, 50), (2, 50), (3, 50), (200, 99), (1000, "99.9"), (4, 100))] == [
         1, 1, 2, 198, 999, 4]
-    assert [percentile_name(one) for one in (50, "50.0", 95, "99.9")] == ["median", "median", "p95", "p99.9"]
+    assert [percentile_name(one) for one in (50, "50.0", 95, "99.9")] == ["p50", "p50", "p95", "p99.9"]
 
 
 @given(some.lists(some.integers(0, 10**15), min_size=1, max_size=60), some.integers(1, 100))
@@ -223,12 +223,12 @@ def test_intervals() -> None:
 
 
 def test_groups() -> None:
-    rows = [{"of": "train 1", "varied": setting, "p95": value} for setting, value in
+    rows = [{"sender": "train 1", "varied": setting, "p95": value} for setting, value in
             (("a", 1), ("b", 10), ("a", 3), ("b", None))]
     found = grouped(rows, ["varied"], ["p95"])
-    assert [(row["varied"], row["of"], row["rows"], row["p95 n"], row["p95 mean"]) for row in found] == [
+    assert [(row["varied"], row["sender"], row["rows"], row["p95 n"], row["p95 mean"]) for row in found] == [
         ("a", "train 1", 2, 2, 2.0), ("b", "train 1", 2, 1, 10.0)]
-    assert found[1]["p95 half"] is None
+    assert found[1]["p95 ci95"] is None
 
 
 def test_what_varies() -> None:
@@ -261,8 +261,8 @@ def test_rows_add_up(name: str) -> None:
         view = View(experiment, scenario.read(text_of(name, "scenario.txt"))[experiment.name])
         rows = Tables(view).rows()
         whole, senders = rows[-1], rows[:len(view.senders)]
-        for column in ("packets", "delivered", "held"):
+        for column in ("packets", "delivered", "in_flight"):
             assert whole[column] == sum(row[column] for row in senders)
-        assert (whole["packets"], whole["delivered"], whole["held"]) == (
+        assert (whole["packets"], whole["delivered"], whole["in_flight"]) == (
             view.counters.made, view.counters.delivered, view.counters.held)
         assert {cause: whole[cause] for cause in view.counters.drops} == view.counters.drops

@@ -14,7 +14,7 @@ def test_bytes_that_come_twice_count_once() -> None:
         plans = scenario.read(text_of(name, "scenario.txt"))
         parts = re.split(r"(?m)^experiment ", text_of(name, "expected.txt").decode())[1:]
         for experiment, part in zip(report.read(text_of(name, "expected.txt")), parts):
-            rows = {row["of"]: row for row in Tables(View(experiment, plans[experiment.name])).rows()}
+            rows = {row["sender"]: row for row in Tables(View(experiment, plans[experiment.name])).rows()}
             came: dict[str, list[str]] = {}
             for flow, first in re.findall(r"(?m)^\d+ deliver \d+ data (\d+) (\d+)", part):
                 came.setdefault(flow, []).append(first)

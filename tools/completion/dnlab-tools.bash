@@ -18,30 +18,33 @@ _dnlab_tools() {
     *:--outage) words="hold drop refuse" ;;
     *:--tolerance) words="delay.p95=5% goodput=1% drops=2 *=1%" ;;
     *:--lines) words="3 10" ;;
-    *:--allow) words="refused spent refused,spent" ;;
+    *:--allow) words="refused spent budget unsent vacuous" ;;
     *:--within) words="1% 5% 10%" ;;
     *:--log) words="x y x,y" ;;
+    *:--clock) words="simulated wall" ;;
+    *:--shell | *:--limit | *:--late-bound) return ;;
     *:--experiment | *:--name | *:--only | *:--pairs | *:--along | *:--rows | *:--label | *:--of | *:--columns | *:--ssh | *:--on | *:--set | *:--seeds | *:--from | *:--to) return ;;
-    *:--out | *:--work | *:--program | *:--csv | *:--json | *:--parquet | *:--each | *:--long | *:--plot | *:--kept | *:--bounds) ;;
+    *:--out | *:--work | *:--program | *:--csv | *:--json | *:--parquet | *:--each | *:--long | *:--plot | *:--kept | *:--bounds | *:--table) ;;
     dnlab-summary:*)
       words="--experiment --name --of --percentiles --every --losses --by --columns --from --to --exact --workers --csv --json --help"
       ;;
     dnlab-plot:*) words="--experiment --name --only --of --what --from --to --bin --overlay --out --workers --help" ;;
     dnlab-compare:*) words="--experiment --of --tolerance --percentiles --lines --all --exact --json --help" ;;
-    dnlab-expect:*) words="--experiment --name --bounds --first --all --allow --json --from --to --workers --help" ;;
+    dnlab-expect:*) words="--run --experiment --name --bounds --first --all --allow --json --from --to --workers --help" ;;
     dnlab-view:*) words="--experiment --out --single --workers --help" ;;
     dnlab-pcap:*) words="--experiment --of --at --out --help" ;;
     dnlab-spread:*) words="--parts --jobs --ssh --slurm --program --out --work --resume --help" ;;
     dnlab-sweep:*)
       words="--set --seeds --of --stat --from --to --ci --interval --exact --csv --json --parquet --each --long --pairs --within"
       words+=" --plot --along --rows --columns --log --label --dry-run --kept --anew"
-      words+=" --workers --on --parts --allow --program --help"
+      words+=" --workers --on --parts --allow --program --run --help"
       ;;
-    dnlab-from-ipfw:*) words="--if --me --flatten --drop-unmatchable --lenient --all --traffic --moment --end --name --seed --budget --trust --out --help" ;;
+    dnlab-from-ipfw:*) words="--if --me --flatten --drop-unmatchable --lenient --all --traffic --moment --end --name --seed --budget --out --help" ;;
     dnlab-to-ipfw:*) words="--experiment --if --host --timed --iperf --out --help" ;;
     dnlab-to-tc:*) words="--experiment --dev --in --hosts --out --help" ;;
     dnlab-replay:*) words="--link --scenario --out --inject --large --align --tail --begin --seed --budget --help" ;;
     dnlab-rate-trace:*) words="--config --scenario --experiment --pipe --every --outage --size --step --lowest --begin --repeat --out --help" ;;
+    dnlab-hosts:*) words="--out --force --clock --limit --late-bound --verify --no-verify --check --table --shell --kernel --help" ;;
   esac
   COMPREPLY=()
   if [ -n "$words" ] && { [[ $now == -* ]] || [[ $before == --* ]]; }; then
@@ -50,4 +53,4 @@ _dnlab_tools() {
   # Else file names, which bash completes itself.
 }
 complete -o default -F _dnlab_tools dnlab-summary dnlab-plot dnlab-spread dnlab-sweep dnlab-compare dnlab-expect \
-  dnlab-view dnlab-pcap dnlab-from-ipfw dnlab-to-ipfw dnlab-to-tc dnlab-replay dnlab-rate-trace
+  dnlab-view dnlab-pcap dnlab-from-ipfw dnlab-to-ipfw dnlab-to-tc dnlab-replay dnlab-rate-trace dnlab-hosts

@@ -17,7 +17,7 @@ _dnlab() {
     run:--max-* | alone:--max-*) ;;
     run:*) words="--workers --moves --max-steps --max-output --progress --explain --strict --help" ;;
     alone:*) words="--max-steps --max-output --progress --explain --strict --help" ;;
-    check:*) words="--explain --help" ;;
+    check:*) words="--explain --strict --help" ;;
     live:*) words="--explain --help" ;;
     help:help) words="alone run check live help" ;;
     help:*) ;;

@@ -6,7 +6,7 @@ from typing import Any, Iterable, Iterator, NamedTuple, Optional, Sequence
 import numpy as np
 
 from dnlab.analysis.figures import percentile_name
-from dnlab.analysis.metrics import ALSO, is_named, plain_word, warn_older, word_now
+from dnlab.analysis.metrics import is_named, refuse_share
 from dnlab.analysis.own import Own, own_in, own_of
 from dnlab.analysis.spans import Span
 from dnlab.analysis.tables import WHOLE, Row, Tables
@@ -19,15 +19,14 @@ from dnlab.io.scenario_parts import Plan
 # All flows' segments taken together, and the packets of all trains.
 GROUPS = ("flows", "trains")
 USUAL = ("goodput", "delay.p50", "delay.p95", "lost")
-_UNITS = {"packets": "packets", "delivered": "packets", "held": "packets", "again": "packets", "lost": "packets",
+_UNITS = {"packets": "packets", "delivered": "packets", "in_flight": "packets", "retransmissions": "packets", "lost": "packets",
           "bytes": "bytes", "useful": "bytes", "rate": "bit/s", "goodput": "bit/s", "time": "ns", "first": "ns",
-          "last": "ns", "completion": "ns", "jain": "", "utilisation": "", "jitter": "ns",
+          "last": "ns", "fct": "ns", "jain": "", "utilisation": "", "jitter": "ns",
           **{f"drops.{cause}": "packets" for cause in CAUSES}}
-_DELAYS = ("least", "mean", "median", "greatest")
+_DELAYS = ("min", "mean", "p50", "max")
 _KNOWN = (*_UNITS, *(f"delay.{name}" for name in _DELAYS))
-# As help has them: by the names in use now; the older ones are taken too, with a warning.
-STATS = (*map(word_now, _KNOWN), "delay.pN")
-OLDER = tuple(ALSO.values())
+# As help has them.
+STATS = (*_KNOWN, "delay.pN")
 # Of each pattern of `of` and each `stat`: of whom, and the figure (None where it can't be told).
 Values = dict[str, dict[str, dict[str, Any]]]
 
@@ -50,9 +49,6 @@ def percentile_of(stat: str) -> Optional[str]:
     >>> percentile_of("delay.p99.9"), percentile_of("delay.mean")
     ('99.9', None)
     """
-    stat = plain_word(stat)
-    if stat == "delay.median":
-        return "50"
     found = re.fullmatch(r"delay\.p([0-9]{1,3}(?:\.[0-9]{1,6})?)", stat)
     return found[1] if found and 0 < Fraction(found[1]) <= 100 else None
 
@@ -67,9 +63,11 @@ def stats_of(text: str) -> tuple[str, ...]:
 
 
 def _known(word: str) -> None:
-    warn_older(word)
-    if plain_word(word) not in _KNOWN and percentile_of(word) is None:
-        raise ValueError(f"no stat {word!r}: {', '.join(STATS)} (N above 0 and up to 100, as delay.p95), or a function of"
+    found = re.fullmatch(r"delay\.p(0(?:\.[0-9]{1,6})?)", word)
+    if found:
+        refuse_share(found[1])
+    if word not in _KNOWN and percentile_of(word) is None:
+        raise ValueError(f"no stat {word!r}: {', '.join(STATS)} (N from 1 to 100, as delay.p95), or a function of"
                          " one's own, FILE.py:NAME")
 
 
@@ -88,7 +86,7 @@ def unit_of(stat: str) -> str:
     >>> unit_of("delay.p95"), unit_of("goodput")
     ('ns', 'bit/s')
     """
-    return stat.unit if isinstance(stat, Own) else _UNITS.get(plain_word(stat), "ns")
+    return stat.unit if isinstance(stat, Own) else _UNITS.get(stat, "ns")
 
 
 def merged(asks: Iterable[Ask]) -> list[Ask]:
@@ -142,15 +140,14 @@ def answer(view: View, asks: Sequence[Ask], span: Span = Span()) -> Found:
     tables = Tables(view, percentiles, with_mean="delay.mean" in stats, span=span)
     rows = list(_rows(tables, [ask.of for ask in asks]))
     values: Values = {
-        ask.of: {str(stat): {row["of"]: stat.of(view, row["of"]) if isinstance(stat, Own) else figure(row, stat)
-                             for row in rows if is_named(row["of"], ask.of)}
+        ask.of: {str(stat): {row["sender"]: stat.of(view, row["sender"]) if isinstance(stat, Own) else figure(row, stat)
+                             for row in rows if is_named(row["sender"], ask.of)}
                  for stat in ask.stats} for ask in asks}
     return Found(values, [note for note in view.notes if note.mark])
 
 
 def figure(row: Row, stat: str) -> Any:
     """A stat of a row; None if it isn't known."""
-    stat = plain_word(stat)
     if stat == "lost":
         drops = [row.get(cause) for cause in CAUSES]
         return None if None in drops else sum(count for count in drops if count)
@@ -186,8 +183,8 @@ def _flows(tables: Tables, flows: Sequence[tuple[str, Ints]]) -> Row:
     """All flows' segments as one sender's; `completion` is that of the flow that took longest."""
     together = np.sort(np.concatenate([packets for _, packets in flows]))
     own = [tables.progress(name, packets) for name, packets in flows]
-    again = [one.get("again") for one in own]
-    times = [one.get("completion") for one in own]
+    again = [one.get("retransmissions") for one in own]
+    times = [one.get("fct") for one in own]
     return {**tables.packets("flows", together), **tables.useful(together), "jain": tables.fairness(),
-            "again": None if None in again else sum(count for count in again if count),
-            "completion": None if None in times else max(time for time in times if time is not None)}
+            "retransmissions": None if None in again else sum(count for count in again if count),
+            "fct": None if None in times else max(time for time in times if time is not None)}

@@ -93,8 +93,8 @@ def pairs(name: str, first: Sequence[Row], second: Sequence[Row], asked: Sequenc
 
     Without tolerances every metric must be the same; with some only those that they name are judged, and what they name
     without a pattern must be told by every row that can have it."""
-    rows = {row["of"]: row for row in first}
-    others = {row["of"]: row for row in second}
+    rows = {row["sender"]: row for row in first}
+    others = {row["sender"]: row for row in second}
     for of in dict.fromkeys([*rows, *others]):
         for metric in asked:
             values = [metric.of(found[of]) if of in found else None for found in (rows, others)]

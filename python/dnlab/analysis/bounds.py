@@ -13,7 +13,7 @@ from fractions import Fraction
 from pathlib import Path
 from typing import Any, Callable, Iterable, Iterator, NamedTuple, Optional, Sequence, Union
 
-from dnlab.analysis.metrics import Metric, is_named, metric_of, percentiles_in, word_now
+from dnlab.analysis.metrics import Metric, is_named, metric_of, percentiles_in
 from dnlab.analysis.notes import Note
 from dnlab.analysis.tables import Row
 from dnlab.errors import Faulty
@@ -23,8 +23,8 @@ from dnlab.units import amount_of, shown
 SIGNS: dict[str, Callable[[Any, Any], bool]] = {"<=": operator.le, ">=": operator.ge, "==": operator.eq,
                                                 "!=": operator.ne, "<": operator.lt, ">": operator.gt, "=": operator.eq}
 FORM = "WHO: METRIC SIGN VALUE, as 'train 9: delay.p95 < 50ms'"
-# Marks with which a run fails, whatever the bounds say, unless they are allowed.
-FAILING = ("refused", "spent")
+# What fails a run, whatever the bounds say, unless it is allowed: marks of its rows, and bounds that hold whatever happens.
+FAILING = ("refused", "spent", "budget", "unsent", "vacuous")
 _SIGN = re.compile(r"[<>=!]+")
 # So many names stand in a message at most.
 _MOST_NAMES = 40
@@ -45,11 +45,11 @@ class Bound:
     def rows(self, rows: Sequence[Row]) -> list[Row]:
         """The rows that it names; `Faulty` with the names that there are, where it names none."""
         own = [row for row in rows if fnmatchcase(row["experiment"], self.experiment)]
-        found = [row for row in own if is_named(row["of"], self.of)]
+        found = [row for row in own if is_named(row["sender"], self.of)]
         if found:
             return found
         kind, names = ("row", own) if own else ("experiment", list(rows))
-        known = list(dict.fromkeys(row["of" if own else "experiment"] for row in names))
+        known = list(dict.fromkeys(row["sender" if own else "experiment"] for row in names))
         more = f" and {len(known) - _MOST_NAMES} more" if len(known) > _MOST_NAMES else ""
         raise Faulty(f"{self.where}: no {kind} {self.of if own else self.experiment!r}: there are"
                      f" {', '.join(known[:_MOST_NAMES])}{more}")
@@ -78,7 +78,7 @@ class Judged(NamedTuple):
         """The same for other programs; amounts in ns, bytes, bit/s, or as a share of 1."""
         metric = self.bound.metric
         return {"bound": self.bound.text, "where": self.bound.where, "holds": self.holds,
-                "experiment": self.row["experiment"], "sender": self.row["of"], "metric": word_now(metric.word),
+                "experiment": self.row["experiment"], "sender": self.row["sender"], "metric": metric.word,
                 "measured": plain_amount(metric, self.measured), "asked": plain_amount(metric, self.bound.value),
                 "said": self.said}
 
@@ -156,14 +156,17 @@ def percentiles_for(bounds: Sequence[Bound]) -> list[str]:
     return percentiles_in(bound.metric for bound in bounds)
 
 
-def judge(bounds: Sequence[Bound], rows: Sequence[Row], first: bool = False) -> Iterator[Judged]:
+def judge(bounds: Sequence[Bound], rows: Sequence[Row], first: bool = False, allow: Sequence[str] = ()) -> Iterator[Judged]:
     """Looks at all bounds, in order, or up to the first that fails; `Faulty` where one names no row, before any is looked
-    at."""
+    at. One that holds whatever happens fails, unless `vacuous` is allowed."""
     found = [(bound, bound.rows(rows)) for bound in bounds]
     losses = [row for bound, named in found if bound.metric.word in ("loss", "drops") for row in named]
-    bounded = {(row["experiment"], row["of"]) for row in losses}
+    bounded = {(row["experiment"], row["sender"]) for row in losses}
     for bound, named in found:
         judged = _judge(bound, named, bounded)
+        vacuous = _vacuous(bound, named, rows) if judged.holds and "vacuous" not in allow else ""
+        if vacuous:
+            judged = judged._replace(holds=False, said=f"vacuous: {vacuous} (--allow vacuous takes it so)")
         yield judged
         if first and not judged.holds:
             return
@@ -185,17 +188,39 @@ def _judge(bound: Bound, rows: Sequence[Row], bounded: set[tuple[str, str]]) -> 
     return Judged(bound, True, f"measured {bound.show(nearest[0])} of {_place(nearest[1])}{of}{easy}", nearest[1], nearest[0])
 
 
+def _vacuous(bound: Bound, named: Sequence[Row], rows: Sequence[Row]) -> str:
+    """Why a bound says nothing; '' where it does."""
+    least, most = {"share": (0, 1), "index": (0, 1), "ending": (None, None)}.get(bound.metric.kind, (0, None))
+    if bound.metric.kind == "share" and bound.metric.word == "utilisation":
+        most = None
+    always = (bound.sign == ">=" and least is not None and bound.value <= least or bound.sign == ">" and bound.value < 0
+              or most is not None and (bound.sign == "<=" and bound.value >= most or bound.sign == "<" and bound.value > most))
+    if always:
+        return f"each {bound.metric.word} keeps to it"
+    if bound.metric.word == "jain" and any(sum(1 for row in rows if row["experiment"] == one["experiment"] and is_named(row["sender"], "flow *")) < 2
+                                           for one in named):
+        return "one flow alone is always fair"
+    denied = next((row for row in named if row["packets"] and not row["delivered"] and row.get("denied") == row["packets"]), None)
+    if denied is not None and bound.metric.word not in ("denied", "loss", "drops", "delivered", "packets"):
+        return f"rules denied all {denied['packets']} packets of {_place(denied)}"
+    asked = {row["experiment"] for row in rows if fnmatchcase(row["experiment"], bound.experiment)}
+    missing = sorted(asked - {row["experiment"] for row in named})
+    if missing:
+        return f"experiment {missing[0]} has no row {bound.of!r}: name the experiments that have"
+    return ""
+
+
 def _easy(bound: Bound, rows: Sequence[Row], bounded: set[tuple[str, str]]) -> str:
     """What is said of a bound on delay that losses make easy to keep, where no bound is on these."""
     if not bound.metric.is_delay() or bound.sign not in ("<", "<=") or bound.metric.word == "delay.least":
         return ""
     for row in rows:
         lost = sum(row.get(cause) or 0 for cause in CAUSES)
-        if lost and (row["experiment"], row["of"]) not in bounded:
+        if lost and (row["experiment"], row["sender"]) not in bounded:
             return (f"; {lost} of the {row['packets']} packets of {_place(row)} were dropped, which have no delay: add a"
-                    f" bound as '{row['of']}: loss < 1%'")
+                    f" bound as '{row['sender']}: loss < 1%'")
     return ""
 
 
 def _place(row: Row) -> str:
-    return f"{row['experiment']}/{row['of']}"
+    return f"{row['experiment']}/{row['sender']}"

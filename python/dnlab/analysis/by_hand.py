@@ -80,4 +80,4 @@ def rows_of(run: Run) -> dict[str, Row]:
     """The rows of a summary, by of whom they are; with the median and the 95th percentile of the times under way."""
     experiment = next(report.read(run.report))
     view = View(experiment, scenario.read(run.scenario)[experiment.name])
-    return {row["of"]: row for row in Tables(view, (50, 95)).rows()}
+    return {row["sender"]: row for row in Tables(view, (50, 95)).rows()}

@@ -20,6 +20,8 @@ from dnlab.io.scenario_parts import HEADER, WINDOW
 SIDES = ("sender", "receiver")
 LACKING = ("experiment {}: {} of its {} packets were made without `trace 1`, and no line has their addresses: make"
            " `@0 trace 1` the first command behind its `experiment` line, leave it on, and run it again")
+INVENTED = ("experiment {}: {} of the packets were injected as TCP, whose flags and sequence numbers no report has, so they aren't made up:"
+            " capture where their bytes are, in the program that sends them, or name other senders by --of")
 _ETHERNET = 14
 _MOST = 2**32
 
@@ -58,6 +60,17 @@ def judge(view: View) -> None:
     if not view.is_traced:
         makes = len(view.experiment.rows(MAKE))
         raise Faulty(LACKING.format(view.name, view.counters.made - makes, view.counters.made))
+
+
+def judge_injected(view: View, wanted: Flags) -> None:
+    """`Faulty` where TCP that a program injected is wanted: its headers are the program's."""
+    makes = view.experiment.rows(MAKE)
+    is_tcp = np.array([header.startswith("tcp ") for header in view.experiment.headers] + [False])
+    place = np.full(len(view.packets), -1, dtype=np.int64)
+    place[view.experiment.columns.packet[makes]] = view.experiment.columns.header[makes]
+    invented = int(np.count_nonzero(wanted & view.is_injected & is_tcp[place]))
+    if invented:
+        raise Faulty(INVENTED.format(view.name, invented))
 
 
 def rows_of(view: View, side: str, wanted: Flags) -> Ints:
@@ -120,6 +133,7 @@ def packed(header: Header, inner: "dpkt.Packet", packet: int, size: int) -> byte
 def write(view: View, side: str, wanted: Flags, out: BinaryIO) -> int:
     """Writes a capture of nanoseconds; gives how many packets it has."""
     judge(view)
+    judge_injected(view, wanted)
     out.write(bytes(dpkt.pcap.LEFileHdr(magic=dpkt.pcap.TCPDUMP_MAGIC_NANO, linktype=dpkt.pcap.DLT_EN10MB)))
     count = 0
     for count, frame in enumerate(frames_of(view, side, wanted), 1):

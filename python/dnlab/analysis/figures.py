@@ -26,9 +26,9 @@ def percentile_name(percentile: Percentile) -> str:
     """A percentile's column.
 
     >>> percentile_name(50), percentile_name("99.9")
-    ('median', 'p99.9')
+    ('p50', 'p99.9')
     """
-    return "median" if Fraction(str(percentile)) == 50 else f"p{percentile}"
+    return "p50" if Fraction(str(percentile)) == 50 else f"p{percentile}"
 
 
 def jain(values: Sequence[float]) -> Optional[float]:

@@ -7,7 +7,7 @@ import pandas as pd
 
 from dnlab.analysis.emissions import first_window
 from dnlab.analysis.losses import dropping_pipes
-from dnlab.analysis.packets import DROPPED, FATES, UNKNOWN
+from dnlab.analysis.packets import DROPPED, OUTCOMES, UNKNOWN
 from dnlab.analysis.view import View
 from dnlab.io.digits import Ints
 from dnlab.io.lines import ACK, CAUSES, DROP, EXPIRE, KINDS, OK, REFUSED, WORDS, pipe_name
@@ -39,16 +39,16 @@ def packets(view: View) -> pd.DataFrame:
     last[visits.packet] = visits.pipe
     who = np.where(table.who < 0, len(table.names), table.who)
     return pd.DataFrame({
-        "made": whole(table.made), "delivered": whole(np.where(table.fate == 1, table.ended, -1)),
-        "delay": whole(table.delay), "size": whole(table.size), "of": named(who, [*table.names, UNKNOWN]),
-        "pipe": pipes_named(last), "fate": named(table.fate, FATES), "ended": whole(table.ended),
+        "made": whole(table.made), "delivered": whole(np.where(table.outcome == 1, table.ended, -1)),
+        "delay": whole(table.delay), "bytes": whole(table.size), "sender": named(who, [*table.names, UNKNOWN]),
+        "queue": pipes_named(last), "outcome": named(table.outcome, OUTCOMES), "ended": whole(table.ended),
         "kind": named(table.kind, KINDS), "flow": whole(table.flow), "number": whole(table.number),
-        "again": table.again}, index=pd.RangeIndex(len(table), name="packet"))
+        "retransmission": table.retransmission}, index=pd.RangeIndex(len(table), name="packet"))
 
 
 def visits(view: View) -> pd.DataFrame:
     table = view.visits
-    return pd.DataFrame({"packet": table.packet, "pipe": pipes_named(table.pipe), "arrival": whole(table.arrival),
+    return pd.DataFrame({"packet": table.packet, "queue": pipes_named(table.pipe), "arrival": whole(table.arrival),
                          "finish": whole(table.finish), "exit": whole(table.exit)})
 
 
@@ -89,12 +89,12 @@ def queues(view: View) -> pd.DataFrame:
         ends = ends[moments[ends] >= 0]
         waits = np.cumsum(waiting[order])[ends]
         parts.append(pd.DataFrame({
-            "moment": moments[ends], "pipe": pipe_name(pipe),
-            "waiting": whole(waits if known else np.full(len(ends), -1)), "flying": np.cumsum(flying[order])[ends]}))
-    names = ["moment", "pipe", "waiting", "flying"]
+            "moment": moments[ends], "queue": pipe_name(pipe),
+            "waiting": whole(waits if known else np.full(len(ends), -1)), "in_flight": np.cumsum(flying[order])[ends]}))
+    names = ["moment", "queue", "waiting", "in_flight"]
     frame = pd.concat(parts) if parts else pd.DataFrame(columns=names)
-    frame["pipe"] = frame["pipe"].astype("category")
-    return frame.sort_values(["moment", "pipe"], kind="stable", ignore_index=True)
+    frame["queue"] = frame["queue"].astype("category")
+    return frame.sort_values(["moment", "queue"], kind="stable", ignore_index=True)
 
 
 def drops(view: View) -> pd.DataFrame:
@@ -106,9 +106,9 @@ def drops(view: View) -> pd.DataFrame:
     last[view.visits.packet] = np.arange(len(view.visits))
     who = np.where(table.who[serial] < 0, len(table.names), table.who[serial])
     return pd.DataFrame({
-        "moment": columns.moment[rows], "packet": serial, "of": named(who, [*table.names, UNKNOWN]),
-        "cause": named(table.fate[serial].astype(np.int64) - DROPPED, CAUSES),
-        "pipe": pipes_named(dropping_pipes(view, serial, last[serial])), "size": whole(table.size[serial])})
+        "moment": columns.moment[rows], "packet": serial, "sender": named(who, [*table.names, UNKNOWN]),
+        "cause": named(table.outcome[serial].astype(np.int64) - DROPPED, CAUSES),
+        "queue": pipes_named(dropping_pipes(view, serial, last[serial])), "bytes": whole(table.size[serial])})
 
 
 def commands(view: View) -> pd.DataFrame:
@@ -128,7 +128,7 @@ def records(view: View) -> pd.DataFrame:
     columns = view.experiment.columns
     return pd.DataFrame({
         "word": named(columns.word, WORDS), "moment": whole(columns.moment), "packet": whole(columns.packet),
-        "pipe": pipes_named(columns.pipe), "kind": named(columns.kind, KINDS), "flow": whole(columns.flow),
+        "queue": pipes_named(columns.pipe), "kind": named(columns.kind, KINDS), "flow": whole(columns.flow),
         "number": whole(columns.number), "more": whole(columns.more)},
         index=pd.RangeIndex(view.experiment.line + 1, view.experiment.line + 1 + len(columns), name="line"))
 

@@ -4,7 +4,8 @@
 `reconfigured`    a later `config` of a pipe set what an earlier one had given back to its default
 `outage`          in a link that changes: `bw 0`, which is no limit, or a rate at which one packet takes longer than it holds
 `half-duplex`     a flow's acknowledgements wait in the pipe of its segments
-`window-limited`  for most of a flow's time its `window`, and not the network, held it back
+`window-limited`  for some of a flow's time its `window`, and not cwnd, held it back
+`unused`          a rule or a pipe that no packet met
 `units`           a moment, a gap or a rate that looks like another unit
 """
 from __future__ import annotations
@@ -15,6 +16,7 @@ import numpy as np
 
 from dnlab.analysis.emissions import first_window
 from dnlab.analysis.notes import Note
+from dnlab.analysis.routes import unmet
 from dnlab.io.lines import ACK, ACKNOWLEDGES, DATA, EXPIRE, pipe_name
 from dnlab.io.scenario_parts import Command, Sends
 from dnlab.io.settings import DEFAULTS, Change, Config, stretches_of
@@ -22,7 +24,7 @@ from dnlab.io.settings import DEFAULTS, Change, Config, stretches_of
 if TYPE_CHECKING:
     from dnlab.analysis.view import View
 
-# A flow of so many segments, the most that there are, is meant to go on to the end.
+# A flow of this many segments, the most that a scenario allows, is meant to go on to the end.
 ENDLESS = 10**6
 # No pipe is faster, bit/s; a gap below that of packets at this rate is no gap.
 _FASTEST = 10**10
@@ -30,13 +32,15 @@ _SLOWEST = 1000
 # A run that ends before this, ns, and in which nothing came, was meant to be longer; so were moments below the other.
 _SHORT = 10**6
 _ODD = range(10, 1000)
+# So many rules and pipes are named at most.
+_MOST_UNUSED = 3
 
 
 def likely_of(view: View) -> list[Note]:
     """The notes of an experiment with its scenario; none without."""
     if view.plan is None:
         return []
-    return [*_unsent(view), *_by_pipes(view), *_half_duplex(view), *_window_limited(view), *_units(view)]
+    return [*_unsent(view), *_by_pipes(view), *_half_duplex(view), *_window_limited(view), *_unused(view), *_units(view)]
 
 
 def spoken(moment: int) -> str:
@@ -61,7 +65,7 @@ def _unsent(view: View) -> Iterator[Note]:
         is_flow = sends.word == "flow"
         if is_flow and (sends.count == ENDLESS or sends.number in stopped):
             continue
-        sent = int(np.count_nonzero(~view.packets.again[own])) if is_flow else len(own)
+        sent = int(np.count_nonzero(~view.packets.retransmission[own])) if is_flow else len(own)
         if sent < sends.count:
             what = "segments were sent" if is_flow else "packets were made"
             more = (f"segments {ENDLESS} is a flow without end" if is_flow else
@@ -135,16 +139,25 @@ def _window_limited(view: View) -> Iterator[Note]:
         if sends.word != "flow" or name not in packets:
             continue
         own = rows[columns.flow[rows] == sends.number]
-        sent = packets[name][~view.packets.again[packets[name]]]
+        sent = packets[name][~view.packets.retransmission[packets[name]]]
         until = int(view.packets.made[sent].max()) if len(sent) == sends.count or not len(own) else int(columns.moment[own[-1]])
         moments = np.concatenate((np.array([begin]), columns.moment[own], np.array([until])))
         cwnd = np.concatenate((np.array([first_window(sends.smss)]), columns.number[own]))
         times = np.maximum(np.minimum(moments[1:], until) - moments[:-1], 0)
         held = int(times[cwnd // sends.smss > sends.window // sends.smss].sum())
-        if 2 * held > until - begin:
+        if 100 * held >= until - begin > 0:
+            share, more = 100 * held // (until - begin), ": a longer queue gives it nothing more" if 2 * held > until - begin else ""
             yield Note("window-limited", f"{name}: its window of {sends.window} bytes, and not the network, held it back for"
-                       f" {100 * held // (until - begin)} % of its time: a longer queue gives it nothing more",
-                       "window-limited", name)
+                       f" {share} % of its time{more}", "window-limited", name)
+
+
+def _unused(view: View) -> Iterator[Note]:
+    rules, pipes = unmet(view)
+    names = [f"pipe {pipe}" for pipe in pipes] + [f"`add {rule.text()}`" for _, rule in rules]
+    if names:
+        more = f" and {len(names) - _MOST_UNUSED} more" if len(names) > _MOST_UNUSED else ""
+        yield Note("unused", f"no packet met {', '.join(names[:_MOST_UNUSED])}{more}: an earlier rule decides, or its words match nobody"
+                   " who sends", "unused")
 
 
 def _units(view: View) -> Iterator[Note]:

@@ -152,7 +152,7 @@ class Links:
         expected = np.maximum.accumulate(life.finish + delays)
         left, packet = self.visits.exit[life.at], self.visits.packet[life.at]
         last = int(self.plan.commands[-1].moment)
-        stays = (left < 0) & (self.packets.fate[packet] == HELD) & (expected < last) & self.is_whole()
+        stays = (left < 0) & (self.packets.outcome[packet] == HELD) & (expected < last) & self.is_whole()
         bad = np.flatnonzero(((left >= 0) & (left != expected)) | stays)
         if not len(bad):
             return

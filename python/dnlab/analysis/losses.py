@@ -29,22 +29,22 @@ def windows(view: View, every: int) -> list[Row]:
     ends = np.minimum(begins + every, until)
     rows: list[Row] = []
     for name, packets in view.senders:
-        delivered = packets[table.fate[packets] == DELIVERED]
+        delivered = packets[table.outcome[packets] == DELIVERED]
         at = np.minimum(table.ended[delivered] // every, count - 1)
         packets_in = np.bincount(at, minlength=count)
         told = not len(delivered) or int(table.size[delivered].min()) >= 0
         bytes_in = _sums(at, table.size[delivered], count)
-        useful_in = bytes_in
+        useful_in, is_known = bytes_in, told and not view.is_injected[packets].any()
         if told and int(table.kind[packets[0]]) != PLAIN:
             once = delivered[table.is_new[delivered]]
             useful_in = _sums(np.minimum(table.ended[once] // every, count - 1), table.size[once] - HEADER, count)
         for k in range(count):
             time = int(ends[k] - begins[k])
-            rows.append({"experiment": view.name, "of": name, "begin": int(begins[k]), "end": int(ends[k]),
+            rows.append({"experiment": view.name, "sender": name, "begin": int(begins[k]), "end": int(ends[k]),
                          "packets": int(packets_in[k]), "bytes": int(bytes_in[k]) if told else None,
                          "rate": int(bytes_in[k]) * 8 * 10**9 // time if told else None,
-                         "useful": int(useful_in[k]) if told else None,
-                         "goodput": int(useful_in[k]) * 8 * 10**9 // time if told else None})
+                         "useful": int(useful_in[k]) if is_known else None,
+                         "goodput": int(useful_in[k]) * 8 * 10**9 // time if is_known else None})
     return rows
 
 
@@ -60,14 +60,14 @@ def losses(view: View) -> list[Row]:
     last[visits.packet] = np.arange(len(visits))
     rows: list[Row] = []
     for name, packets in view.senders:
-        dropped = packets[table.fate[packets] >= DROPPED]
+        dropped = packets[table.outcome[packets] >= DROPPED]
         visit = last[dropped]
         pipe = dropping_pipes(view, dropped, visit)
         for cause, code in enumerate(range(DROPPED, DROPPED + len(CAUSES))):
-            own = pipe[table.fate[dropped] == code]
+            own = pipe[table.outcome[dropped] == code]
             for value, count in zip(*np.unique(own, return_counts=True)):
-                rows.append({"experiment": view.name, "of": name, "cause": CAUSES[cause],
-                             "pipe": pipe_name(int(value)) if value >= 0 else None, "packets": int(count)})
+                rows.append({"experiment": view.name, "sender": name, "cause": CAUSES[cause],
+                             "queue": pipe_name(int(value)) if value >= 0 else None, "packets": int(count)})
     return rows
 
 

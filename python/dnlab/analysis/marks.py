@@ -110,7 +110,7 @@ def _ends(view: View) -> list[Note]:
 def _losses(view: View) -> list[Note]:
     """Drops that tell of a scenario that isn't as it was meant: by rules, in a pipe that isn't there, or for the budget."""
     found = []
-    fate, kind = view.packets.fate, view.packets.kind
+    fate, kind = view.packets.outcome, view.packets.kind
     for name, packets in view.senders:
         denied = int(np.count_nonzero(fate[packets] == _DENIED))
         nowhere = int(np.count_nonzero(fate[packets] == _NOPIPE))

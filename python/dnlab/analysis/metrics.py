@@ -4,7 +4,6 @@ from fnmatch import fnmatchcase
 from fractions import Fraction
 from typing import Iterable, NamedTuple, Optional
 
-from dnlab.analysis.columns import warn
 from dnlab.analysis.figures import percentile_name
 from dnlab.analysis.tables import PERCENTILES, WHOLE, Row, times_of
 from dnlab.io.lines import CAUSES
@@ -12,12 +11,12 @@ from dnlab.units import ENDINGS, shown
 
 _PERCENTILE = re.compile(r"delay\.p([0-9]{1,3}(?:\.[0-9]{1,6})?)")
 # Columns of a summary by what they are counted in.
-_PLAIN = {"packets": "count", "delivered": "count", "held": "count", "bytes": "size", "useful": "size",
+_PLAIN = {"packets": "count", "delivered": "count", "in_flight": "count", "bytes": "size", "useful": "size",
           "first": "time", "last": "time", "time": "time", "rate": "rate", "goodput": "rate", "utilisation": "share",
-          "again": "count", "completion": "time", "jitter": "time", "jain": "index", "refused": "count", "ended": "ending"}
-_DELAYS = ("least", "median", "mean", "greatest")
+          "retransmissions": "count", "fct": "time", "jitter": "time", "jain": "index", "refused": "count", "ended": "ending"}
+_DELAYS = ("min", "p50", "mean", "max")
 # Rows of a kind alone have these; in words for who asks it of another.
-_OF_KIND = {"completion": (("flow",), "only a flow has a completion"), "again": (("flow",), "only a flow sends again"),
+_OF_KIND = {"fct": (("flow",), "only a flow has a completion"), "retransmissions": (("flow",), "only a flow sends again"),
             "jain": (("whole",), "only all flows together have an index of fairness"),
             "utilisation": (("pipe",), "only a pipe has a utilisation")}
 _NOT_OF = {"useful": ("acks", "pipe"), "goodput": ("acks", "pipe")}
@@ -82,13 +81,13 @@ class Metric(NamedTuple):
 
     def applies(self, row: Row) -> bool:
         """Whether rows of this kind can have it at all."""
-        kind = kind_of(row["of"])
+        kind = kind_of(row["sender"])
         only, _ = _OF_KIND.get(self.word, ((kind,), ""))
         # Where packets go both ways, `all` has counts alone, and what is new is that of `there`.
-        both = row["of"] == "all" and row.get("bytes") is None and row.get("seed") is not None and row["packets"] > 0
+        both = row["sender"] == "all" and row.get("bytes") is None and row.get("seed") is not None and row["packets"] > 0
         return (kind in only and kind not in _NOT_OF.get(self.word, ())
                 and not (both and self.kind in ("time", "rate", "size"))
-                and not (row["of"] == "back" and self.word in (*_NOT_OF, "jain")))
+                and not (row["sender"] == "back" and self.word in (*_NOT_OF, "jain")))
 
     def is_delay(self) -> bool:
         """Whether it is of the packets that were delivered alone."""
@@ -100,13 +99,13 @@ class Metric(NamedTuple):
 
     def why(self, row: Row) -> str:
         """Why a row hasn't a value, as far as it is known."""
-        if row["of"] == "all" and not self.applies(row) and self.word not in _OF_KIND:
+        if row["sender"] == "all" and not self.applies(row) and self.word not in _OF_KIND:
             return "`all` has both directions: name `there` or `back`"
         if not self.applies(row):
             return self.only() if self.word in _OF_KIND else f"rows of this kind have no {self.word}"
         if row.get("seed") is None:
             return "give the scenario, or run it under `trace 1`"
-        if self.word == "completion":
+        if self.word == "fct":
             return f"it hadn't ended when the experiment did, at {shown(Fraction(row['ended_at']), 'time', 's')}"
         if self.word == "utilisation":
             return "the pipe has no rate (`bw 0`, or none), or it served nothing"
@@ -139,47 +138,28 @@ def is_named(of: str, pattern: str) -> bool:
     return fnmatchcase(of, pattern) and not (kind_of(of) == "acks" and pattern.startswith("flow") and "ack" not in pattern)
 
 
-# Names that users of pandas expect, beside those that tables of the tools have.
-ALSO = {"fct": "completion", "retransmissions": "again", "in_flight": "held", "delay.min": "delay.least",
-        "delay.max": "delay.greatest", "delay.p50": "delay.median"}
-_NOW = {older: now for now, older in ALSO.items()}
-# As messages and help have them: by the names in use now; the older ones are taken too.
-WORDS = (*(_NOW.get(word, word) for word in _PLAIN), "loss", "drops", *(f"drops.{cause}" for cause in CAUSES),
-         *(_NOW.get(word, word) for word in map("delay.{}".format, _DELAYS)), "delay.pN")
+# As messages and help have them.
+WORDS = (*_PLAIN, "loss", "drops", *(f"drops.{cause}" for cause in CAUSES), *map("delay.{}".format, _DELAYS), "delay.pN")
 
 
-def plain_word(word: str) -> str:
-    """The word of a metric by which tables have it.
+def refuse_share(percentile: str) -> None:
+    """Raises `ValueError` of a percentile below 1, which is meant as a share.
 
-    >>> plain_word("fct"), plain_word("goodput")
-    ('completion', 'goodput')
+    >>> refuse_share("0.95")
+    Traceback (most recent call last):
+    ValueError: p0.95 is below the first percentile: write p95
     """
-    return ALSO.get(word, word)
-
-
-def word_now(word: str) -> str:
-    """The name in use now of a metric, as what is written for others has it.
-
-    >>> word_now("completion"), word_now("delay.median"), word_now("goodput")
-    ('fct', 'delay.p50', 'goodput')
-    """
-    return _NOW.get(word, word)
-
-
-def warn_older(word: str) -> None:
-    """Warns of an older word of a metric."""
-    if word in _NOW:
-        warn(word, _NOW[word])
+    if 0 < Fraction(percentile) < 1:
+        meant = f"{float(Fraction(percentile) * 100):g}"
+        raise ValueError(f"p{percentile} is below the first percentile: write p{meant}")
 
 
 def metric_of(word: str) -> Metric:
-    """The metric of a word, or of the older name of it, which is warned of; `ValueError` with the words that there are.
+    """Returns the metric of a word; `ValueError` with the words that there are.
 
     >>> metric_of("delay.p95")
     Metric(word='delay.p95', kind='time', column='p95')
     """
-    warn_older(word)
-    word = plain_word(word)
     if word in _PLAIN:
         return Metric(word, _PLAIN[word], word)
     if word == "loss":
@@ -191,6 +171,8 @@ def metric_of(word: str) -> Metric:
     if word.startswith("delay.") and word[6:] in _DELAYS:
         return Metric(word, "time", word[6:])
     found = _PERCENTILE.fullmatch(word)
+    if found:
+        refuse_share(found[1])
     if found and 0 < Fraction(found[1]) <= 100:
         return Metric(word, "time", percentile_name(found[1]))
     raise ValueError(f"there is no metric {word!r}: {', '.join(WORDS)}")
@@ -205,6 +187,5 @@ def metrics(percentiles: Iterable[str] = tuple(map(str, PERCENTILES))) -> list[M
 
 def percentiles_in(found: Iterable[Metric]) -> list[str]:
     """The percentiles that a summary must have for some metrics."""
-    names = dict.fromkeys("50" if one.column == "median" else one.column[1:] for one in found
-                          if one.word.startswith("delay.") and one.column not in ("least", "mean", "greatest"))
+    names = dict.fromkeys(one.column[1:] for one in found if one.word.startswith("delay.") and one.column not in ("min", "mean", "max"))
     return list(names)

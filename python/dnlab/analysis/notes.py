@@ -24,6 +24,7 @@ KINDS = {
     "outage": "`bw 0` is no limit, or a rate is so low that one packet takes longer than it holds",
     "half-duplex": "acknowledgements wait in the pipe of their segments",
     "window-limited": "a flow's window, and not the network, held it back",
+    "unused": "a rule or a pipe met no packet",
     "units": "a moment, a gap or a rate looks like another unit",
     "no scenario": "no scenario was given, so sizes and times under way can't be told",
     "no pipe": "some packets are in no pipe's line, since no line of the report names their pipe",

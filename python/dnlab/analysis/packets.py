@@ -12,7 +12,7 @@ from dnlab.io.lines import ACKNOWLEDGES, ARRIVE, CAUSES, DATA, DELIVER, DROP, FI
 from dnlab.io.report import Recorded
 
 HELD, DELIVERED, DROPPED = 0, 1, 2
-FATES = ("held", "delivered") + CAUSES
+OUTCOMES = ("held", "delivered") + CAUSES
 _CODEL = CAUSES.index("codel")
 UNKNOWN = "unknown"
 
@@ -23,7 +23,7 @@ class Packets:
 
     made    int64  ns
     ended   int64  ns: when it was delivered or dropped; -1 of one that is held
-    fate    int8   a place in `FATES`: `held`, `delivered`, or the cause of its drop
+    outcome int8   a place in `OUTCOMES`: `held`, `delivered`, or the cause of its drop
     size    int64  bytes, with headers
     who     int32  who made it, a place in `names`
     kind    int8   of its load, a place in `dnlab.io.lines.KINDS`
@@ -33,7 +33,7 @@ class Packets:
     names: list[str]
     made: Ints
     ended: Ints
-    fate: NDArray[np.int8]
+    outcome: NDArray[np.int8]
     size: Ints
     who: NDArray[np.int32]
     kind: NDArray[np.int8]
@@ -46,11 +46,11 @@ class Packets:
     @cached_property
     def delay(self) -> Ints:
         """The time from being made to delivery, in ns; -1 where one of them isn't known. Shape (packets,), int64."""
-        known = (self.made >= 0) & (self.fate == DELIVERED)
+        known = (self.made >= 0) & (self.outcome == DELIVERED)
         return np.where(known, self.ended - self.made, -1)
 
     @cached_property
-    def again(self) -> Flags:
+    def retransmission(self) -> Flags:
         """Whether a segment was sent before. Shape (packets,); False of all that is no segment."""
         rows = np.flatnonzero(self.kind == DATA)
         again = np.zeros(len(self), dtype=np.bool_)
@@ -62,7 +62,7 @@ class Packets:
     def is_new(self) -> Flags:
         """Whether a packet was delivered and brought something new: a plain one, or a segment for the first time.
         Shape (packets,)."""
-        delivered = self.fate == DELIVERED
+        delivered = self.outcome == DELIVERED
         rows = np.flatnonzero(delivered & (self.kind == DATA))
         new: Flags = delivered & (self.kind == PLAIN)
         new[self._first_of_each(rows[np.argsort(self.ended[rows], kind="stable")])] = True
@@ -205,8 +205,8 @@ def never_seen(packets: Packets, visits: Visits) -> Ints:
     last[visits.packet] = np.arange(len(visits))
     waits = last < 0
     waits[last >= 0] = visits.exit[last[last >= 0]] >= 0
-    deleted = packets.fate == DROPPED + CAUSES.index("deleted")
-    found: Ints = np.flatnonzero(waits & ((packets.fate == HELD) | deleted))
+    deleted = packets.outcome == DROPPED + CAUSES.index("deleted")
+    found: Ints = np.flatnonzero(waits & ((packets.outcome == HELD) | deleted))
     return found
 
 

@@ -8,12 +8,10 @@ from typing import Any, Iterator, Optional, Sequence, Union
 
 import pandas as pd
 
-from dnlab.analysis import frames, names
-from dnlab.analysis.columns import warn
+from dnlab.analysis import frames
 from dnlab.analysis.figures import Percentile, interval as interval_of
 from dnlab.analysis.losses import losses, windows
 from dnlab.analysis.marks import Refusal
-from dnlab.analysis.names import named
 from dnlab.analysis.naming import with_names
 from dnlab.analysis.options import columns_in, varied
 from dnlab.analysis.spans import span_of
@@ -30,11 +28,20 @@ from dnlab.io.scenario_parts import Plan
 Names = Union[str, Path, Sequence[Union[str, Path]]]
 
 
-@dataclass
+@dataclass(repr=False)
 class Experiment:
     """One experiment of a report. Moments and times are whole nanoseconds, sizes bytes, rates bits per second."""
     view: View
     varied: Optional[str] = None
+
+    def __repr__(self) -> str:
+        counts, senders = self.counters, [name for name, _ in self.view.senders]
+        dropped = ", ".join(f"{count} {cause}" for cause, count in counts.drops.items() if count) or "none"
+        more = f" and {len(senders) - 8} more" if len(senders) > 8 else ""
+        return (f"Experiment {self.name}: `{self.ended.how}` at {self.ended.moment} ns, seed {self.seed}\n"
+                f"  packets: {counts.made} made, {counts.delivered} delivered, {counts.held} held; dropped: {dropped}\n"
+                f"  senders: {', '.join(senders[:8]) or 'none'}{more}\n"
+                f"  warnings: {self.view.marks() or 'none'}")
 
     @property
     def name(self) -> str:
@@ -55,15 +62,14 @@ class Experiment:
         return self.view.plan.seed if self.view.plan else None
 
     @property
+    def folder(self) -> Optional[Path]:
+        """The output folder of a run of programs, for a statistic of one's own; None of any other experiment."""
+        return self.view.folder
+
+    @property
     def params(self) -> Optional[str]:
         """The configurations of its pipes, as the scenario has them."""
         return self.view.plan.settings() if self.view.plan else None
-
-    @property
-    def settings(self) -> Optional[str]:
-        """The older name of `params`."""
-        warn("settings", "params")
-        return self.params
 
     @property
     def refused(self) -> list[Refusal]:
@@ -76,12 +82,6 @@ class Experiment:
         return self.view.marks()
 
     @property
-    def marks(self) -> str:
-        """The older name of `warnings`."""
-        warn("marks", "warnings")
-        return self.warnings
-
-    @property
     def notes(self) -> list[Note]:
         """What isn't known of it, and what may be silently wrong in it."""
         return self.view.notes
@@ -90,11 +90,11 @@ class Experiment:
         """A row for each packet, by serial number: made, delivered, delay (ns), bytes (with headers), sender, queue (of the
         last pipe that it is known to have come to), outcome (`held`, `delivered`, or the cause of its drop), ended (ns, also
         of a drop), kind, flow and number of its load, retransmission (a segment that was sent before)."""
-        return names.named(frames.packets(self.view), "retransmission")
+        return frames.packets(self.view)
 
     def visits(self) -> pd.DataFrame:
         """A row for each visit of a packet to an instance: packet, queue, arrival, finish and exit (ns)."""
-        return names.named(frames.visits(self.view))
+        return frames.visits(self.view)
 
     def windows(self) -> pd.DataFrame:
         """A row for each `ack` and `expire` line and each flow's begin: moment (ns), flow, event, cwnd and ssthresh (bytes)."""
@@ -103,11 +103,11 @@ class Experiment:
     def queues(self) -> pd.DataFrame:
         """A row for each moment at which an instance changed: moment (ns), queue, waiting (packets that wait or are in
         service), in_flight (packets in the delay line); they hold until its next row."""
-        return names.named(frames.queues(self.view))
+        return frames.queues(self.view)
 
     def drops(self) -> pd.DataFrame:
         """A row for each drop: moment (ns), packet, sender, cause, queue if a line has it, bytes."""
-        return names.named(frames.drops(self.view))
+        return frames.drops(self.view)
 
     def commands(self) -> pd.DataFrame:
         """A row for each command: moment (ns), text and line of the scenario, answer (`ok`, `refused`), code."""
@@ -116,25 +116,24 @@ class Experiment:
     def records(self) -> pd.DataFrame:
         """The report's own lines, by line: word, moment, packet, queue, kind, flow, number, more (see
         `dnlab.io.lines.Columns`)."""
-        return names.named(frames.records(self.view))
+        return frames.records(self.view)
 
     def summary(self, percentiles: Sequence[Percentile] = PERCENTILES, begin: int = 0,
                 end: Optional[int] = None) -> pd.DataFrame:
         """The rows of this experiment in a summary (docs/reference/tools.md has the columns); of what happened from the moment
         `begin` on and before `end` (ns), as without its warm-up."""
         span = span_of(begin, end)
-        return names.named(
-            frames.of_rows(Tables(self.view, percentiles, self.varied, span=span).rows(), columns_of(percentiles, span)))
+        return frames.of_rows(Tables(self.view, percentiles, self.varied, span=span).rows(), columns_of(percentiles, span))
 
     def throughput(self, every: int) -> pd.DataFrame:
         """What each sender's packets brought in each window of `every` ns: sender, begin, end (ns), packets, bytes, rate
         (bit/s), useful (bytes, each once), goodput (bit/s)."""
         rows = windows(self.view, every)
-        return names.named(frames.of_rows(rows, list(rows[0]) if rows else ["experiment", "of", "begin", "end"]))
+        return frames.of_rows(rows, list(rows[0]) if rows else ["experiment", "sender", "begin", "end"])
 
     def losses(self) -> pd.DataFrame:
         """Drops by sender, cause and queue (<NA> if no line has it): sender, cause, queue, packets."""
-        return names.named(frames.of_rows(losses(self.view), ["experiment", "of", "cause", "pipe", "packets"]))
+        return frames.of_rows(losses(self.view), ["experiment", "sender", "cause", "queue", "packets"])
 
     def plot(self, what: Sequence[str] = ("window", "queue", "sojourn", "rate", "drops")) -> Any:
         """A matplotlib figure with a panel for each of `what`."""
@@ -192,6 +191,8 @@ class Report(Mapping[str, Experiment]):
 
     def __getitem__(self, name: str) -> Experiment:
         if self._last is None or self._last.name != name:
+            if name not in self._pieces:
+                raise KeyError(f"{name}: there are {', '.join(self._pieces) or 'none'}")
             piece = self._pieces[name]
             self._last = None
             view = view_of(piece, self.plans, self.given.report, self.given.scenario())
@@ -229,7 +230,7 @@ class Report(Mapping[str, Experiment]):
         plans = with_names(self.plans, names or {}, experiments)
         rows = [row for one in summed(self.given, plans, experiments, percentiles, patterns, workers=workers, span=span)
                 for row in one.rows]
-        return named(frames.of_rows(rows, columns_of(percentiles, span)))
+        return frames.of_rows(rows, columns_of(percentiles, span))
 
 
 def read(report: Union[str, Path], scenario: Names = (), names: Optional[Mapping[str, str]] = None) -> Report:
@@ -250,8 +251,8 @@ def intervals(rows: pd.DataFrame, by: Union[str, Sequence[str]], columns: Union[
     by       the columns that a group has in common
     columns  of what the means are
     """
-    keys = names.now_of(rows, [by] if isinstance(by, str) else by)
-    wanted = names.now_of(rows, [columns] if isinstance(columns, str) else columns)
+    keys = [by] if isinstance(by, str) else list(by)
+    wanted = [columns] if isinstance(columns, str) else list(columns)
     found: dict[Any, dict[tuple[str, str], Any]] = {}
     for key, group in rows.groupby(keys if len(keys) > 1 else keys[0], sort=False, observed=True):
         found[key] = {}
@@ -262,5 +263,4 @@ def intervals(rows: pd.DataFrame, by: Union[str, Sequence[str]], columns: Union[
     frame = pd.DataFrame.from_dict(found, orient="index")
     frame.columns = pd.MultiIndex.from_tuples(frame.columns, names=(None, None)) if len(frame) else frame.columns
     frame.index.names = keys if len(keys) > 1 else [keys[0]]
-    found_frame = frame if len(wanted) > 1 or not len(frame) else frame[wanted[0]]
-    return names.Table(found_frame)
+    return frame if len(wanted) > 1 or not len(frame) else frame[wanted[0]]

@@ -30,10 +30,10 @@ def columns_of(made: Interval) -> dict[str, Optional[float]]:
 def long_of(rows: pd.DataFrame, settings: Sequence[str], stats: Sequence[str]) -> pd.DataFrame:
     """A row for each experiment, of whom and stat: its settings, seed, experiment, of, stat, unit, value (<NA> if it can't
     be told) and marks, as `Sweep.rows` has them in columns."""
-    found = [{**{name: row[name] for name in (*settings, "seed", "experiment", "of")}, "stat": str(stat),
-              "unit": unit_of(stat), "value": None if pd.isna(row[stat]) else float(row[stat]), "marks": row["marks"]}
+    found = [{**{name: row[name] for name in (*settings, "seed", "experiment", "sender")}, "stat": str(stat),
+              "unit": unit_of(stat), "value": None if pd.isna(row[stat]) else float(row[stat]), "warnings": row["warnings"]}
              for row in rows.to_dict("records") for stat in stats]
-    return frames.of_rows(found, [*settings, "seed", "experiment", "of", "stat", "unit", "value", "marks"])
+    return frames.of_rows(found, [*settings, "seed", "experiment", "sender", "stat", "unit", "value", "warnings"])
 
 
 def base_of(along: str, values: Sequence[Any], base: Any) -> Any:
@@ -64,21 +64,21 @@ def compared(rows: pd.DataFrame, settings: Sequence[str], stats: Sequence[str], 
     base = base_of(along, values, base)
     others = [name for name in settings if name != along]
     found = []
-    for keys, group in rows.groupby([*others, "of"] if others else "of", sort=False, dropna=False):
-        own = dict(zip([*others, "of"], keys if isinstance(keys, tuple) else (keys,)))
+    for keys, group in rows.groupby([*others, "sender"] if others else "sender", sort=False, dropna=False):
+        own = dict(zip([*others, "sender"], keys if isinstance(keys, tuple) else (keys,)))
         by_value = {value: part.set_index("seed") for value, part in group.groupby(along, sort=False)}
         for stat in stats:
             for value in values:
                 if value == base or value not in by_value or base not in by_value:
                     continue
                 both = (by_value[value][stat].astype("Float64") - by_value[base][stat].astype("Float64")).dropna()
-                marks = " ".join(dict.fromkeys(" ".join([*by_value[base].marks, *by_value[value].marks]).split()))
+                marks = " ".join(dict.fromkeys(" ".join([*by_value[base].warnings, *by_value[value].warnings]).split()))
                 made = interval_of([float(one) for one in both], level, interval)
                 differs = None if made.low is None or made.high is None else not made.low <= 0 <= made.high
                 found.append({**own, "stat": str(stat), "unit": unit_of(stat), along: value, "base": base, **columns_of(made),
-                              "differs": differs, "level": level, "method": interval, "marks": marks})
-    return frames.of_rows(found, [*others, "of", "stat", "unit", along, "base", "n", "mean", "low", "high", "differs", "level",
-                                  "method", "marks"])
+                              "differs": differs, "level": level, "method": interval, "warnings": marks})
+    return frames.of_rows(found, [*others, "sender", "stat", "unit", along, "base", "n", "mean", "low", "high", "differs", "level",
+                                  "method", "warnings"])
 
 
 def needed(values: Sequence[float], share: float, level: float = 95) -> Optional[int]:

@@ -246,7 +246,7 @@ def sojourns(view: View, limit: Optional[int] = MOST) -> Panel:
     table, delay = view.packets, view.packets.delay
     series = []
     for who, packets in view.senders:
-        delivered = packets[table.fate[packets] == DELIVERED]
+        delivered = packets[table.outcome[packets] == DELIVERED]
         # In the order of delivery, as long series are thinned by it.
         delivered = delivered[np.argsort(table.ended[delivered], kind="stable")]
         series.append(Series(who, "points", table.ended[delivered], delay[delivered] / 10**6))
@@ -261,7 +261,7 @@ def rates(view: View, limit: Optional[int] = MOST) -> Panel:
     amounts = table.size if known else np.ones(len(table), dtype=np.int64)
     series = []
     for who, packets in view.senders:
-        delivered = packets[table.fate[packets] == DELIVERED]
+        delivered = packets[table.outcome[packets] == DELIVERED]
         series.append(steps(view, who, table.ended[delivered], amounts[delivered]))
     for pipe, own in visits.pipes():
         served = own[visits.finish[own] >= 0]
@@ -291,6 +291,6 @@ def link_rates(view: View) -> list[Series]:
 def drops(view: View) -> Panel:
     """Drops by cause, added up over time."""
     table = view.packets
-    series = [steps(view, cause, table.ended[table.fate == DROPPED + place], 1) for place, cause in enumerate(CAUSES)]
+    series = [steps(view, cause, table.ended[table.outcome == DROPPED + place], 1) for place, cause in enumerate(CAUSES)]
     series = [one for one in series if len(one.moments)]
     return Panel("Drops by cause", "packets", series, "" if series else "no packet was dropped")

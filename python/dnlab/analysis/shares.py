@@ -82,7 +82,7 @@ def throughputs(view: View, every: int) -> list[tuple[str, Ints, Ints]]:
         raise Faulty(f"experiment {view.name}: {count} times of {every} ns are more than {_MOST_BINS}: take a longer --bin")
     found = []
     for who, packets in view.senders:
-        delivered = packets[table.fate[packets] == DELIVERED]
+        delivered = packets[table.outcome[packets] == DELIVERED]
         # Sums of sizes stay below 2^53, so those of floats are exact.
         sizes = np.bincount(table.ended[delivered] // every, weights=table.size[delivered], minlength=count)
         found.append((who, np.arange(count, dtype=np.int64) * every, sizes.astype(np.int64) * 8 * 10**9 // every))
@@ -108,7 +108,7 @@ def _times(view: View, span: Span) -> Samples:
     table, found = view.packets, []
     for who, packets in view.senders:
         ended = table.ended[packets]
-        is_in = (table.fate[packets] == DELIVERED) & (ended >= span.begin)
+        is_in = (table.outcome[packets] == DELIVERED) & (ended >= span.begin)
         if span.end is not None:
             is_in &= ended <= span.end
         found.append((who, np.sort(table.delay[packets[is_in]])))

@@ -5,13 +5,12 @@ import zlib
 from contextlib import contextmanager
 from typing import IO, Iterator, Optional, cast
 
-from dnlab.analysis.columns import older
 from dnlab.analysis.tables import Row
 from dnlab.errors import Faulty
 
 
 def stored_rows(name: str) -> Optional[dict[str, list[Row]]]:
-    """The rows of a file of `dnlab-summary --json`, also of version 0.1, by experiment; None of a report. Standard input is
+    """The rows of a file of `dnlab-summary --json`, by experiment; None of a report. Standard input is
     a report."""
     if name == "-":
         return None
@@ -22,9 +21,9 @@ def stored_rows(name: str) -> Optional[dict[str, list[Row]]]:
     try:
         rows = json.loads(text)
         found: dict[str, list[Row]] = {}
-        for row in ({older(name): value for name, value in dict(row).items()} for row in rows):
+        for row in (dict(one) for one in rows):
             # What every row of a summary has, and no row of --every, --losses or --by.
-            if not {"experiment", "of", "packets", "delivered", "held", "marks"} <= set(row):
+            if not {"experiment", "sender", "packets", "delivered", "in_flight", "warnings"} <= set(row):
                 raise ValueError
             found.setdefault(row["experiment"], []).append(row)
     except (ValueError, TypeError):

@@ -1,5 +1,4 @@
 """Sums up a report: the rows of all experiments, what is to be said of them, and groups with intervals."""
-import sys
 from functools import partial
 from typing import Callable, Iterable, Iterator, NamedTuple, Optional, Sequence, TypeVar
 
@@ -14,6 +13,7 @@ from dnlab.analysis.work import Given, over
 from dnlab.errors import Faulty
 from dnlab.io.origin import check_beside
 from dnlab.io.scenario_parts import Plan
+from dnlab.programs import say
 
 
 T = TypeVar("T")
@@ -39,7 +39,7 @@ def sum_one(view: View, percentiles: Sequence[Percentile], shown: dict[str, str]
         own = {"seed": view.plan.seed if view.plan else None, "varied": shown.get(view.name), "ended": view.ended.how}
         rows = [{**row, **own} for row in rows]
     if patterns:
-        rows = [row for row in rows if any(is_named(row["of"], pattern) for pattern in patterns)]
+        rows = [row for row in rows if any(is_named(row["sender"], pattern) for pattern in patterns)]
     return Summed(view.name, rows, view.notes)
 
 
@@ -77,7 +77,7 @@ def lacking(report: str, scenario: str, names: Sequence[str]) -> None:
 def grouped(rows: Sequence[Row], by: Sequence[str], columns: Sequence[str]) -> list[Row]:
     """Rows of one group under one another: of each column how many have a value (`n`), their mean, and half the width
     of its 95 % interval. Groups stand in the order of their first row; `of` is always among what they go by."""
-    keys = [*by, *([] if "of" in by else ["of"])]
+    keys = [*by, *([] if "sender" in by else ["sender"])]
     groups: dict[tuple[object, ...], list[Row]] = {}
     for row in rows:
         groups.setdefault(tuple(row[key] for key in keys), []).append(row)
@@ -88,7 +88,7 @@ def grouped(rows: Sequence[Row], by: Sequence[str], columns: Sequence[str]) -> l
             one = interval(float(row[column]) for row in members if row[column] is not None)
             # Eleven digits: the last ones of a float differ from one scipy to the next.
             half = None if one.half is None else float(f"{one.half:.11g}")
-            made |= {f"{column} n": one.count, f"{column} mean": one.mean, f"{column} half": half}
+            made |= {f"{column} n": one.count, f"{column} mean": one.mean, f"{column} ci95": half}
         found.append(made)
     return found
 
@@ -96,8 +96,7 @@ def grouped(rows: Sequence[Row], by: Sequence[str], columns: Sequence[str]) -> l
 def tell_empty(tool: str, given: Given, total: int) -> None:
     """Says on standard error that there was nothing to read: what made it was empty, or an empty text was run."""
     if not total:
-        print(f"{tool}: {given.report}: it is empty, and has no experiment: was the scenario empty, or all in comments?",
-              file=sys.stderr)
+        say(tool, f"{given.report}: it is empty, and has no experiment: was the scenario empty, or all in comments?")
 
 
 def tell(tool: str, notes: Iterable[tuple[str, Note]], total: int) -> None:
@@ -114,4 +113,4 @@ def tell(tool: str, notes: Iterable[tuple[str, Note]], total: int) -> None:
             said = f"experiment {name}: {note.text} (and {len(found) - 1} more like it)"
         else:
             said = f"{len(names)} of {total} experiments: {KINDS.get(kind, kind)}; the first is {name}: {note.text}"
-        print(f"{tool}: {said}", file=sys.stderr)
+        say(tool, said)

@@ -20,28 +20,28 @@ Row = dict[str, Any]
 # Rows of all senders, or of those of one direction; they carry all marks.
 WHOLE = ("there", "back", "all")
 PERCENTILES: tuple[Percentile, ...] = (50, 99)
-_COUNTS = ("packets", "delivered", "held", "bytes", "first", "last", "time", "rate")
-_MORE = ("mean", "jitter", "useful", "goodput", "utilisation", "again", "completion", "jain", "seed", "budget_packets",
-         "budget_steps", "settings", "varied", "refused", "codes", "ended", "ended_at", "end", "marks")
+_COUNTS = ("packets", "delivered", "in_flight", "bytes", "first", "last", "time", "rate")
+_MORE = ("mean", "jitter", "useful", "goodput", "utilisation", "retransmissions", "fct", "jain", "seed", "budget_packets",
+         "budget_steps", "params", "varied", "refused", "codes", "ended", "ended_at", "end", "warnings")
 
 
 def times_of(percentiles: Sequence[Percentile]) -> tuple[str, ...]:
     """The columns of times under way."""
-    return "least", *(percentile_name(one) for one in percentiles), "greatest"
+    return "min", *(percentile_name(one) for one in percentiles), "max"
 
 
 def columns_of(percentiles: Sequence[Percentile] = PERCENTILES, span: Span = Span()) -> tuple[str, ...]:
     """All columns of a summary, in order; one of a part of the time has `from` and `to` at the end."""
-    return ("experiment", "of", *_COUNTS, *CAUSES, *times_of(percentiles), *_MORE,
+    return ("experiment", "sender", *_COUNTS, *CAUSES, *times_of(percentiles), *_MORE,
             *(() if span.is_whole() else ("from", "to")))
 
 
 def spread(times: Optional[Ints], percentiles: Sequence[Percentile], with_mean: bool = False) -> Row:
-    """Least, percentiles by nearest rank, and greatest, where it is asked for the mean too; None where there is no time
+    """Minimum, percentiles by nearest rank, and maximum, where it is asked for the mean too; None where there is no time
     or one isn't known. Of three times the 50th percentile is the second, the 99th the third:
 
     >>> spread(np.array([30, 10, 26], dtype=np.int64), (50, 99), with_mean=True)
-    {'least': 10, 'median': 26, 'p99': 30, 'greatest': 30, 'mean': 22.0}
+    {'min': 10, 'p50': 26, 'p99': 30, 'max': 30, 'mean': 22.0}
     """
     names = times_of(percentiles)
     if times is None or not len(times) or int(times.min()) < 0:
@@ -121,14 +121,14 @@ class Tables:
         rows += self.whole()
         own = self.own()
         return [{**dict.fromkeys(columns_of(self.percentiles, self.span)), **row, **own,
-                 "marks": view.marks("" if row["of"] in WHOLE else row["of"])} for row in rows]
+                 "warnings": view.marks("" if row["sender"] in WHOLE else row["sender"])} for row in rows]
 
     def own(self) -> Row:
         """What all rows of the experiment carry."""
         plan, ended = self.view.plan, self.view.ended
         return {"experiment": self.view.name,
                 "seed": plan.seed if plan else None, "budget_packets": plan.budget if plan else None,
-                "budget_steps": plan.steps if plan else None, "settings": plan.settings() if plan else None,
+                "budget_steps": plan.steps if plan else None, "params": plan.settings() if plan else None,
                 "varied": self.varied, "refused": len(self.view.refused), "codes": codes_of(self.view.refused),
                 "ended": ended.how, "ended_at": ended.moment, "end": ended.end,
                 **({} if self.span.is_whole() else {"from": self.span.begin, "to": self.until()})}
@@ -149,20 +149,20 @@ class Tables:
     def arrived(self, packets: Ints) -> Ints:
         """Those of some packets that were delivered, in the span."""
         table = self.view.packets
-        delivered: Ints = packets[(table.fate[packets] == DELIVERED) & self.span.has(table.ended[packets])]
+        delivered: Ints = packets[(table.outcome[packets] == DELIVERED) & self.span.has(table.ended[packets])]
         return delivered
 
     def packets(self, of: str, packets: Ints) -> Row:
         """A row of packets: bytes, last and rate are of what was delivered, first is the first packet's making."""
         table = self.view.packets
-        fate, ended = table.fate[packets], table.ended[packets]
+        fate, ended = table.outcome[packets], table.ended[packets]
         delivered, made = self.arrived(packets), packets[self.span.has(table.made[packets])]
         size = sum_of(table.size[delivered])
         lost = fate[(fate >= DROPPED) & self.span.has(ended)].astype(np.int64) - DROPPED
         causes = np.bincount(lost, minlength=len(CAUSES))
         held = ((fate == HELD) | self.span.is_over(ended)) & ~self.span.is_over(table.made[packets])
-        return {"of": of, "packets": len(made), "delivered": len(delivered),
-                "held": int(np.count_nonzero(held)), "bytes": size,
+        return {"sender": of, "packets": len(made), "delivered": len(delivered),
+                "in_flight": int(np.count_nonzero(held)), "bytes": size,
                 **self.over(table.made[made], table.ended[delivered], size),
                 **dict(zip(CAUSES, causes.tolist())),
                 **spread(table.delay[delivered], self.percentiles, self.with_mean),
@@ -172,12 +172,13 @@ class Tables:
         return {**self.packets(of, packets), **self.useful(packets), **self.progress(of, packets)}
 
     def useful(self, packets: Ints) -> Row:
-        """Bytes that came, each once, and their rate: a flow's without headers, all of a train's packets."""
+        """Bytes that came, each once, and their rate: a flow's without headers, all of a train's packets. What of injected packets was
+        new only their program knows."""
         table = self.view.packets
         kinds = table.kind[packets]
         packets = packets[(kinds == DATA) | (kinds == PLAIN)]
         delivered = self.arrived(packets)
-        if not len(packets) or (len(delivered) and int(table.size[delivered].min()) < 0):
+        if not len(packets) or self.view.is_injected[packets].any() or (len(delivered) and int(table.size[delivered].min()) < 0):
             return {}
         once = delivered[table.is_new[delivered]]
         size = int(table.size[once].sum()) - HEADER * int(np.count_nonzero(table.kind[once] == DATA))
@@ -188,11 +189,11 @@ class Tables:
         table = self.view.packets
         if int(table.kind[packets[0]]) != DATA or not self.view.is_told:
             return {}
-        again = int(np.count_nonzero(table.again[packets] & self.span.has(table.made[packets])))
+        again = int(np.count_nonzero(table.retransmission[packets] & self.span.has(table.made[packets])))
         moment, sends = self.view.sends.get(of, (0, None))
         ended = np.sort(table.ended[packets[table.is_new[packets]]])
         whole = sends is not None and len(ended) == sends.count and bool(self.span.has(ended[-1:]).all())
-        return {"again": again, "completion": int(ended[-1]) - moment if whole else None}
+        return {"retransmissions": again, "fct": int(ended[-1]) - moment if whole else None}
 
     def pipe(self, pipe: int, visits: Ints) -> list[Row]:
         """The rows of an instance: one, or one for each direction where packets of both came through it."""
@@ -212,14 +213,14 @@ class Tables:
         is_served, now = finish >= 0, self.span
         served, gone = visits[is_served & now.has(finish)], visits[is_served & (left >= 0) & now.has(left)]
         size = sum_of(packets.size[table.packet[served]])
-        held = is_served & ~now.is_over(finish) & (((left < 0) & (packets.fate[packet] == HELD)) | now.is_over(left))
+        held = is_served & ~now.is_over(finish) & (((left < 0) & (packets.outcome[packet] == HELD)) | now.is_over(left))
         arrival = table.arrival[gone]
         times = np.where(arrival < 0, -1, table.exit[gone] - arrival)
-        lost = packets.fate[packet[~is_served & (left >= 0) & now.has(left)]].astype(np.int64) - DROPPED
+        lost = packets.outcome[packet[~is_served & (left >= 0) & now.has(left)]].astype(np.int64) - DROPPED
         causes = np.bincount(lost[lost >= 0], minlength=len(CAUSES)).tolist()
         known = CAUSES if self.view.is_traced else ("codel",)
         known_span = self.over(table.arrival[served], table.finish[served], size)
-        return {"of": of, "packets": len(served), "delivered": len(gone), "held": int(np.count_nonzero(held)),
+        return {"sender": of, "packets": len(served), "delivered": len(gone), "in_flight": int(np.count_nonzero(held)),
                 "bytes": size, **known_span, "utilisation": self.utilisation(of, known_span, size),
                 **{cause: count if cause in known else None for cause, count in zip(CAUSES, causes)},
                 **spread(times, self.percentiles, self.with_mean)}
@@ -251,8 +252,8 @@ class Tables:
             return [{**self.packets("all", packets), **(self.useful(packets) if len(packets) else {}), **fair}]
         there = {**self.packets("there", packets[~back]), **self.useful(packets[~back]), **fair}
         behind = self.packets("back", packets[back])
-        sums = {column: there[column] + behind[column] for column in ("packets", "delivered", "held", *CAUSES)}
-        return [there, behind, {"of": "all", **sums, **fair}]
+        sums = {column: there[column] + behind[column] for column in ("packets", "delivered", "in_flight", *CAUSES)}
+        return [there, behind, {"sender": "all", **sums, **fair}]
 
     def fairness(self) -> Optional[float]:
         """Jain's index over the flows' goodputs; None where there is no flow or sizes aren't known."""

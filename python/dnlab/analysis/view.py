@@ -1,19 +1,22 @@
 """One experiment of a report, joined with its scenario where there is one, and what may be silently wrong in it."""
 from dataclasses import dataclass, field
 from functools import cached_property
+from pathlib import Path
 from typing import NamedTuple, Optional
 
 import numpy as np
 from numpy.typing import NDArray
 
+from dnlab.analysis.consistency import check_consistency
 from dnlab.analysis.links import compare_links
 from dnlab.analysis.makings import is_spent, makings_of
 from dnlab.analysis.marks import Refusal, marks_of, refused_of
 from dnlab.analysis.notes import KINDS, NO_SCENARIO, Note
 from dnlab.analysis.packets import Packets, Visits, never_seen, packets_of, visits_of
+from dnlab.analysis.routes import Epoch, epochs_of, headers_of
 from dnlab.errors import Faulty, Refused
 from dnlab.io.digits import Flags, Ints
-from dnlab.io.lines import ACKNOWLEDGES, DATA, MAKE, OK, REFUSED, RULE
+from dnlab.io.lines import ACKNOWLEDGES, DATA, MAKE, OK, PLAIN, REFUSED, RULE
 from dnlab.io.pieces import Piece
 from dnlab.io.report import Counters, Recorded, read_piece
 from dnlab.io.scenario_parts import Command, Plan, Sends
@@ -40,6 +43,8 @@ class View:
     experiment: Recorded
     plan: Optional[Plan] = None
     more_notes: list[Note] = field(default_factory=list)
+    # Where the programs that sent its packets left their files, if it is a run of programs.
+    folder: Optional[Path] = None
 
     def __post_init__(self) -> None:
         makings = makings_of(self.experiment, self.plan) if self.plan is not None else None
@@ -47,6 +52,8 @@ class View:
         if self.plan is not None and makings is not None:
             compare_links(self.experiment, self.plan, makings, self.packets, self.visits)
         # Whether it is known of each packet when it was made, how long it is and who sent it.
+        if self.plan is not None:
+            check_consistency(self)
         self.is_told = self.plan is not None or bool((self.packets.made >= 0).all())
         makes = int(np.count_nonzero(self.experiment.columns.word == MAKE))
         self.is_traced = makes == self.counters.made > 0
@@ -105,6 +112,23 @@ class View:
     def changes(self) -> dict[int, list[Change]]:
         """Of each pipe of the scenario its configurations and deletions that were done, in order."""
         return changes_of(self.done)
+
+    @cached_property
+    def is_injected(self) -> Flags:
+        """Of each packet whether a program injected it, so that only that knows what it carries. Shape (packets,)."""
+        names = np.array([not name.startswith("train ") for name in self.packets.names] + [True])
+        found: Flags = (self.packets.kind == PLAIN) & names[self.packets.who]
+        return found
+
+    @cached_property
+    def headers(self) -> tuple[Ints, Ints]:
+        """The headers that are sent, and of each packet which it has; shapes (n, 5) and (packets,)."""
+        return headers_of(self)
+
+    @cached_property
+    def epochs(self) -> list[Epoch]:
+        """The sets of rules that there were, in order."""
+        return epochs_of(self)
 
     @cached_property
     def is_back(self) -> Flags:

@@ -1,13 +1,12 @@
 """Says where two reports of dnlab part, with their metrics side by side."""
 import argparse
 import json
-import sys
 from dataclasses import dataclass, field
 from typing import Any, Iterator, NamedTuple, Optional, Sequence
 
 from dnlab.analysis.beside import Pair, Tolerance, pairs, tolerance_of
 from dnlab.analysis.bounds import plain_amount
-from dnlab.analysis.metrics import is_named, metrics, percentiles_in, word_now
+from dnlab.analysis.metrics import is_named, metrics, percentiles_in
 from dnlab.analysis.parting import Parting, parting
 from dnlab.analysis.stored import stored_rows
 from dnlab.analysis.summing import lacking
@@ -20,6 +19,7 @@ from dnlab.errors import DIFFERS, INPUT, Faulty, status_of
 from dnlab.io.origin import check_beside
 from dnlab.io.pieces import Piece
 from dnlab.io.scenario_parts import Plan
+from dnlab.programs import say
 
 EXAMPLE = """What packets carry decides where the two first part (flow 1 byte 2920, train 9
 packet 5), since serial numbers shift. It prints the moment, the last line that
@@ -165,7 +165,7 @@ def parts_of(given: argparse.Namespace, first: Run, second: Run) -> Iterator[Par
     for name, other in names_of(given.experiment, first, second):
         one, two = first.view(name), second.view(other)
         rows = [[row for row in run.rows(own, view, percentiles)
-                 if not given.of or any(is_named(row["of"], pattern) for pattern in given.of)]
+                 if not given.of or any(is_named(row["sender"], pattern) for pattern in given.of)]
                 for run, own, view in ((first, name, one), (second, other, two))]
         shown = name if name == other else f"{name}={other}"
         asked = [metric for metric in metrics(percentiles) if first.has(metric.column) and second.has(metric.column)]
@@ -205,14 +205,14 @@ def table(found: Sequence[Pair], everything: bool, exact: bool) -> str:
     """The metrics that differ, or all, as a table; with how many are the same. What isn't to be exact is rounded to three digits."""
     kept = [pair for pair in found if everything or not pair.is_same() or pair.is_bad() or pair.judged.startswith("within")]
     cells = [["experiment", "sender", "metric", "A", "B", "B/A", "judged"]]
-    cells += [[pair.experiment, pair.of, word_now(pair.metric.word), *pair.shown(exact), pair.judged or "-"] for pair in kept]
+    cells += [[pair.experiment, pair.of, pair.metric.word, *pair.shown(exact), pair.judged or "-"] for pair in kept]
     same = sum(pair.is_same() and not pair.is_bad() for pair in found)
     return (lines_of(cells, (0, 1, 2, 6)) if kept else "") + f"{same} of {len(found)} metrics are the same\n"
 
 
 def as_json(parts: Sequence[Part], missing: Sequence[str]) -> str:
     return json.dumps({
-        "metrics": [{"experiment": pair.experiment, "sender": pair.of, "metric": word_now(pair.metric.word),
+        "metrics": [{"experiment": pair.experiment, "sender": pair.of, "metric": pair.metric.word,
                      "a": plain_amount(pair.metric, pair.first), "b": plain_amount(pair.metric, pair.second), "ratio": pair.ratio(),
                      "judged": pair.judged} for part in parts for pair in part.pairs],
         "partings": [part.parted for part in parts if part.parted],
@@ -252,7 +252,7 @@ def tell_unjudged(given: argparse.Namespace, found: Sequence[Pair]) -> None:
     names = dict.fromkeys(metric.word for one in given.tolerance if one.is_pattern for metric in one.metrics
                           if metric not in told and metric.kind in ("time", "rate", "size"))
     if names and not given.scenarios:
-        print(f"compare: without the scenario no row tells {', '.join(names)}, so these are not judged", file=sys.stderr)
+        say("compare", f"without the scenario no row tells {', '.join(names)}, so these are not judged")
 
 
 def main(words_given: Sequence[str]) -> int:
@@ -264,15 +264,15 @@ def main(words_given: Sequence[str]) -> int:
         missing = missing_of(given, first, second)
         parts = list(parts_of(given, first, second))
     except Faulty as faulty:
-        print(f"compare: {faulty}", file=sys.stderr)
+        say("compare", faulty)
         return status_of(faulty)
     found = [pair for part in parts for pair in part.pairs]
     if parts and not any(part.rows for part in parts):
-        print(f"compare: no row is like {' or '.join(given.of)}: dnlab-summary shows the rows", file=sys.stderr)
+        say("compare", f"no row is like {' or '.join(given.of)}: dnlab-summary shows the rows")
         return INPUT
     said = untold(given, (first, second), found) if parts else None
     if said is not None:
-        print(f"compare: {said}", file=sys.stderr)
+        say("compare", said)
         return INPUT
     tell_unjudged(given, found)
     if given.json:

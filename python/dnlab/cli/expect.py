@@ -2,17 +2,19 @@
 import argparse
 import json
 import re
-import sys
+from pathlib import Path
 from typing import Sequence
 
-from dnlab.analysis.bounds import FORM, Bound, Failing, Judged, allowed_of, bound_of, bounds_in, failing, judge, percentiles_for
+from dnlab.analysis.bounds import FAILING, FORM, Bound, Failing, Judged, allowed_of, bound_of, bounds_in, failing, judge, percentiles_for
 from dnlab.analysis.metrics import WORDS
 from dnlab.analysis.naming import names_of, with_names
+from dnlab.analysis.results import Report
 from dnlab.analysis.spans import Span
 from dnlab.analysis.summing import summed, tell
 from dnlab.analysis.work import Given, bytes_of, plans_of
 from dnlab.cli.words import add_names, add_span, add_texts, count_of, listed, parser_of, span_in, taken
-from dnlab.errors import DIFFERS, Faulty, status_of
+from dnlab.errors import DIFFERS, MACHINE, Failed, Faulty, Lacking, status_of
+from dnlab.programs import say
 from dnlab.units import UNITS, named
 
 EXAMPLE = f"""A bound is {FORM}.
@@ -31,12 +33,14 @@ EXAMPLE = f"""A bound is {FORM}.
           counts of packets, jain and endings have none
 A file has a bound in each line; what begins with # is skipped. It prints each
 bound with what was measured: the value nearest to the bound if it names several
-rows. A value that can't be computed fails. A run in which commands were
-refused, or whose steps were spent before its end, fails whatever the bounds
-say, unless --allow names that.
+rows. A value that can't be computed fails, and so does a bound that holds
+whatever happens (`vacuous`: loss >= 0%, jain of one flow, a row that only some
+experiments have). A run in which commands were `refused`, whose steps were
+`spent`, in which packets were dropped for the `budget` or `end` cut a sender
+off (`unsent`) fails too. --allow names what shouldn't.
 
 Example:
-  tools/expect report.txt scenario.txt --bounds bounds.txt --json
+  tools/expect --run scenario.txt --bounds bounds.txt
   ./dnlab alone < scenario.txt | tools/expect - scenario.txt \\
     'train 9: delay.p95 < 50ms' 'all: drops.budget == 0'
 
@@ -46,14 +50,16 @@ report, or a faulty input, 3 what this machine lacks (a package, room to write).
 
 def words(given: Sequence[str]) -> argparse.Namespace:
     parser = parser_of("expect", __doc__ or "", EXAMPLE)
-    add_texts(parser)
+    is_run = any(word == "--run" or word.startswith("--run=") for word in given)
+    add_texts(parser, is_run)
+    parser.add_argument("--run", metavar="SCENARIO", type=a_file, help="run this scenario and judge its report, in place of REPORT")
     add_names(parser)
     parser.add_argument("--bounds", action="append", default=[], metavar="FILE",
                         help="a file of bounds; may be said again. Bounds stand also among the words, each in quotes")
     parser.add_argument("--first", action="store_true", help="look at none after the first that fails")
     parser.add_argument("--all", action="store_true", help="look at all bounds, as it does anyhow")
     parser.add_argument("--allow", action="append", default=[], type=allowed, metavar="MARK,..",
-                        help="don't fail for `refused` commands, or for steps that were `spent`")
+                        help=f"don't fail for this: {', '.join(FAILING)}")
     parser.add_argument("--json", action="store_true", help="print an object, amounts in ns, bytes, bit/s, or as shares of 1")
     add_span(parser)
     parser.add_argument("--workers", type=count_of, metavar="N",
@@ -62,6 +68,8 @@ def words(given: Sequence[str]) -> argparse.Namespace:
     found = taken(parser, [word for before, word in zip(["", *given], given) if not is_bound(word, before)])
     found.said = said
     found.allow = [word for words in found.allow for word in words]
+    if is_run and found.report is not None:
+        parser.error("--run is in place of REPORT and SCENARIO")
     if found.all and found.first:
         parser.error("--all and --first can't be both")
     span_in(parser, found)
@@ -70,6 +78,13 @@ def words(given: Sequence[str]) -> argparse.Namespace:
     if [found.report, *found.scenarios, *found.bounds].count("-") > 1:
         parser.error("standard input can't be two texts")
     return found
+
+
+def a_file(text: str) -> str:
+    """A scenario's file, which is read twice."""
+    if text == "-":
+        raise argparse.ArgumentTypeError("it takes a file")
+    return text
 
 
 def allowed(text: str) -> list[str]:
@@ -110,18 +125,35 @@ def show(judged: Sequence[Judged], failed: Sequence[Failing], as_json: bool) -> 
         print(line)
 
 
+def ran(given: argparse.Namespace) -> Report:
+    """Runs the scenario of `--run`, whose report lives as long as what is returned; from then on it is the report that is judged."""
+    # Here, since only this needs a program.
+    from dnlab.sweeps.runs import run
+
+    try:
+        report = run(Path(given.run))
+    except OSError as fault:
+        raise Faulty(f"{given.run}: {fault.strerror}") from None
+    except Failed as failed:
+        raise (Lacking if failed.status == MACHINE else Faulty)(f"{given.run}: {failed.said}") from None
+    given.report, given.scenarios = report.given.report, [given.run]
+    return report
+
+
 def main(words_given: Sequence[str]) -> int:
     given = words(words_given)
     try:
         bounds = bounds_of(given)
+        kept = ran(given) if given.run is not None else None
         plans = with_names(plans_of(given.scenarios), names_of(given.names), given.experiment)
         found = list(summed(Given(given.report, tuple(given.scenarios)), plans, given.experiment,
                             percentiles_for(bounds), workers=given.workers, span=Span(given.begin, given.end)))
         if not found:
             raise Faulty(f"{given.report}: it has no experiment, so no bound can hold")
-        judged = list(judge(bounds, [row for one in found for row in one.rows], given.first))
+        judged = list(judge(bounds, [row for one in found for row in one.rows], given.first, given.allow))
+        del kept
     except Faulty as faulty:
-        print(f"expect: {faulty}", file=sys.stderr)
+        say("expect", faulty)
         return status_of(faulty)
     notes = [(one.name, note) for one in found for note in one.notes]
     failed = failing(notes, given.allow)

@@ -3,14 +3,13 @@ import math
 import re
 from typing import Optional, Sequence
 
-from dnlab.analysis.columns import now
 from dnlab.analysis.figures import Percentile
 from dnlab.analysis.tables import PERCENTILES, Row, times_of
 from dnlab.io.lines import CAUSES
 from dnlab.units import FOR_PEOPLE
 
 
-_COUNTS = ("packets", "delivered", "held", "bytes")
+_COUNTS = ("packets", "delivered", "in_flight", "bytes")
 # Columns of times in ns, and what `grouped` makes of them.
 _TIME = re.compile(r"^(p[0-9.]+|min|max|mean|jitter|time|first|last|begin|end|fct|ended_at)( mean| ci95)?$")
 
@@ -69,17 +68,17 @@ def table(rows: Sequence[Row], percentiles: Sequence[Percentile] = PERCENTILES, 
     """The rows of a summary under the names of its columns; times in ms, and fractions, with three digits behind the point
     unless they are to be exact. All drops stand in one column."""
     times = times_of(percentiles)
-    names = ["experiment", "of", *_COUNTS, "time", "rate", "drops", *times, "goodput", "again", "completion", "jain", "ended",
-             "marks"]
-    cells = [[heading(now(name)) for name in names]]
+    names = ["experiment", "sender", *_COUNTS, "time", "rate", "drops", *times, "goodput", "retransmissions", "fct", "jain", "ended",
+             "warnings"]
+    cells = [[heading(name) for name in names]]
     for row in rows:
-        cells.append([row["experiment"], row["of"],
+        cells.append([row["experiment"], row["sender"],
                       *(plain(row[name]) for name in _COUNTS),
                       milliseconds(row["time"], exact), plain(row["rate"]), loss_of(row),
-                      *(milliseconds(row[name], exact) for name in times), plain(row["goodput"]), plain(row["again"]),
-                      milliseconds(row["completion"], exact), plain(row["jain"], exact), ended_of(row, exact),
-                      row["marks"] or "-"])
-    return lines_of(cells, [names.index(name) for name in ("experiment", "of", "drops", "ended", "marks")])
+                      *(milliseconds(row[name], exact) for name in times), plain(row["goodput"]), plain(row["retransmissions"]),
+                      milliseconds(row["fct"], exact), plain(row["jain"], exact), ended_of(row, exact),
+                      row["warnings"] or "-"])
+    return lines_of(cells, [names.index(name) for name in ("experiment", "sender", "drops", "ended", "warnings")])
 
 
 def heading(name: str) -> str:
@@ -133,13 +132,13 @@ def estimated(row: Row, exact: bool = False) -> str:
 def sweep_table(rows: Sequence[Row], settings: Sequence[str], exact: bool = False) -> str:
     """The rows of a sweep's table, a line for each setting, a column for each of and stat; times in ms. Marks, if there
     are any, stand at the end of their line."""
-    columns = {(row["of"], row["stat"]): FOR_PEOPLE.get(row["unit"], (row["unit"], 1))[0] for row in rows}
+    columns = {(row["sender"], row["stat"]): FOR_PEOPLE.get(row["unit"], (row["unit"], 1))[0] for row in rows}
     lines: dict[tuple[str, ...], dict[tuple[str, str], str]] = {}
     marks: dict[tuple[str, ...], dict[str, None]] = {}
     for row in rows:
         key = tuple(plain(row[name]) for name in settings)
-        lines.setdefault(key, {})[row["of"], row["stat"]] = estimated(row, exact)
-        marks.setdefault(key, {}).update(dict.fromkeys((row["marks"] or "").split()))
+        lines.setdefault(key, {})[row["sender"], row["stat"]] = estimated(row, exact)
+        marks.setdefault(key, {}).update(dict.fromkeys((row["warnings"] or "").split()))
     names = [*settings, *(" ".join(filter(None, (*column, unit))) for column, unit in columns.items())]
     cells = [names, *([*key, *(own.get(column, "-") for column in columns)] for key, own in lines.items())]
     left = list(range(len(settings)))

@@ -13,6 +13,7 @@ from dnlab.cli.words import add_texts, parser_of, taken
 from dnlab.errors import Faulty, Lacking, status_of
 from dnlab.io.outputs import whole_file
 from dnlab.io.pieces import Piece
+from dnlab.programs import say
 
 EXAMPLE = """The scenario must have `@0 trace 1` as the first command of the experiment, and
 leave it on: only then the report has every packet's addresses and size. What
@@ -96,11 +97,12 @@ def main(words_given: Sequence[str]) -> int:
             total += 1
             view = view_of(piece, plans, given.report, ", ".join(given.scenarios))
             write_one(given, view)
-            notes += [(view.name, note) for note in view.notes]
+            # It converts and doesn't judge: what is said is what the capture lacks.
+            notes += [(view.name, note) for note in view.notes if note.kind == "spent"]
         if not total:
             raise Faulty(f"{given.report}: it has no experiment, so there is nothing to write")
     except Faulty as faulty:
-        print(f"pcap: {faulty}", file=sys.stderr)
+        say("pcap", faulty)
         return status_of(faulty)
     tell("pcap", notes, total)
     return 0

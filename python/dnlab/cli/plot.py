@@ -1,6 +1,5 @@
 """Draws a report of dnlab over time: windows, queues, one-way delays, drops."""
 import argparse
-import sys
 from functools import partial
 from typing import NamedTuple, Optional, Sequence
 
@@ -14,6 +13,7 @@ from dnlab.analysis.view import Note, View
 from dnlab.analysis.work import Given, TooMany, over, plans_of
 from dnlab.cli.words import add_names, add_texts, count_of, moment_of, parser_of, taken, time_of
 from dnlab.errors import Faulty, status_of
+from dnlab.programs import say
 
 EXAMPLE = """A column for each experiment, a panel for each of --what:
   window   cwnd and ssthresh of each flow, 16 at most, in bytes and segments,
@@ -157,10 +157,10 @@ def main(words_given: Sequence[str]) -> int:
         figure = pictures.figure_of_panels(names, columns, Span(given.begin, given.end))
         pictures.save(figure, given.out)
     except Faulty as faulty:
-        print(f"plot: {faulty}", file=sys.stderr)
+        say("plot", faulty)
         return status_of(faulty)
     except OSError as fault:
-        print(f"plot: {given.out}: {fault.strerror}", file=sys.stderr)
+        say("plot", f"{given.out}: {fault.strerror}")
         return status_of(fault)
     tell("plot", notes, len(drawn))
     print(f"{given.out}: experiments: {len(drawn)}, panels of each: {len(given.what)}")

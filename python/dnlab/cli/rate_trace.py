@@ -1,15 +1,15 @@
 """Makes a pipe's rate follow a trace: Mahimahi's, or a table of moments and rates."""
 import argparse
-import sys
 from typing import Sequence
 
 from dnlab.cli.to_ipfw import plan_of, write
 from dnlab.cli.words import count_of, moment_of, parser_of, time_of
-from dnlab.errors import Faulty, status_of
+from dnlab.errors import Faulty, cause_of, status_of
 from dnlab.io import rates
 from dnlab.io.scenario import Judged
 from dnlab.io.scenario_parts import Plan
 from dnlab.io.settings import rate_of
+from dnlab.programs import say
 
 EXAMPLE = """FILE has Mahimahi's milliseconds, at each of which a packet of 1504 bytes may
 leave (--every takes them together). Or it is CSV whose first line names the
@@ -122,13 +122,12 @@ def tell(given: argparse.Namespace, trace: rates.Trace, count: int) -> None:
     """What is said of the trace on standard error."""
     gone = rates.outages(trace)
     lost = f", {len(gone)} outages of {sum(one.end - one.begin for one in gone) / 10**9:g} s in all ({given.outage})" if gone else ""
-    print(f"rate-trace: {count} commands over {trace.end / 10**9:g} s: the link can carry {rates.could(trace) / 8 / 10**6:.6g} MB{lost}",
-          file=sys.stderr)
+    say("rate-trace", f"{count} commands over {trace.end / 10**9:g} s: the link can carry {rates.could(trace) / 8 / 10**6:.6g} MB{lost}")
     low = rates.slow(trace, given.size)
     if low:
-        print(f"rate-trace: {len(low)} rates are so low that a packet of {given.size} bytes takes longer than they hold, the first"
+        say("rate-trace", f"{len(low)} rates are so low that a packet of {given.size} bytes takes longer than they hold, the first"
               f" {rates.word_of(low[0].rate)} at {low[0].moment} ns: it keeps its finish, and the link stands until then: --lowest takes"
-              " them for outages", file=sys.stderr)
+              " them for outages")
 
 
 def main(words_given: Sequence[str]) -> int:
@@ -136,7 +135,6 @@ def main(words_given: Sequence[str]) -> int:
     try:
         write(made_of(given), given.out)
     except (Faulty, OSError) as fault:
-        said = f"{fault.filename}: {fault.strerror}" if isinstance(fault, OSError) else str(fault)
-        print(f"rate-trace: {said}", file=sys.stderr)
+        say("rate-trace", cause_of(fault))
         return status_of(fault)
     return 0

@@ -8,12 +8,12 @@ from typing import BinaryIO, Callable, Iterator, Optional, Sequence
 
 from dnlab.cli.from_ipfw import traffic_of
 from dnlab.cli.words import moment_of, parser_of, time_of
-from dnlab.errors import Failed, Faulty, status_of
+from dnlab.errors import Failed, Faulty, cause_of, status_of
 from dnlab.io import arrivals
 from dnlab.io.arrivals import Arrival, Left
 from dnlab.io.outputs import whole_file
 from dnlab.io.scenario import Judged
-from dnlab.programs import program
+from dnlab.programs import program, say
 from dnlab.session import replaying
 from dnlab.session.replaying import Fate
 
@@ -80,7 +80,7 @@ def link_of(given: argparse.Namespace, head: str) -> list[tuple[int, str]]:
         return traffic_of(given.scenario)
     commands = [(0, f"pipe 1 config {given.link}"), (0, "add 100 pipe 1 ip from any to any")]
     text = "".join([head + "\n", *(f"@{moment} {command}\n" for moment, command in commands), "@0 end\n"])
-    fault = Judged(text.encode("ascii", "replace")).fault
+    fault = Judged(text.encode("ascii", "replace")).fault if given.link.isprintable() else (2, "badcharacter")
     if fault:
         raise Faulty("--link: " + ("a word is wrong" if fault[0] == 2 else "the experiment's seed or budget is wrong")
                      + f" ({fault[1]}): it takes the words behind `pipe config`, as 'bw 10Mbit/s delay 20 queue 100'")
@@ -134,6 +134,7 @@ def main(words_given: Sequence[str]) -> int:
     try:
         if given.inject is None:
             said = run(given, head, left)
+            sys.stdout.flush()
         else:
             begin, packets = came(given, left)
             text = replaying.text_of(head, link_of(given, head), packets, begin - given.begin, given.tail)
@@ -141,8 +142,7 @@ def main(words_given: Sequence[str]) -> int:
                 file.write(text.encode("ascii"))
             said = f"{text.count(' inject ')} packets"
     except (Faulty, Failed, OSError) as fault:
-        cause = f"{fault.filename}: {fault.strerror}" if isinstance(fault, OSError) else str(fault)
-        print(f"replay: {cause}", file=sys.stderr)
+        say("replay", cause_of(fault))
         return 3 if isinstance(fault, Failed) else status_of(fault)
-    print(f"replay: {said}" + (f"; {left.told()}" if left else ""), file=sys.stderr)
+    say("replay", f"{said}" + (f"; {left.told()}" if left else ""))
     return 0

@@ -3,12 +3,14 @@ import argparse
 import os
 import shutil
 import sys
+import tempfile
 from pathlib import Path
 from typing import Iterator, Mapping, Optional, Sequence
 
 from dnlab.cli.words import parser_of
-from dnlab.errors import Failed, Refused
+from dnlab.errors import Failed, Refused, cause_of
 from dnlab.io.origin import Origin, origin_of, write_beside
+from dnlab.io.outputs import with_name
 from dnlab.io.packed import unpacked
 from dnlab.io.scenario import Judged, read
 from dnlab.io.scenario_parts import MOST_BYTES, MOST_EXPERIMENTS, Plan
@@ -257,13 +259,15 @@ def spread(args: argparse.Namespace, named: Optional[str] = None) -> None:
         program = named or program_of()
     except Failed as failed:
         raise Stop(failed.status, f"spread: {failed.said}\n") from failed
-    how, everything = how_of(args), experiments_of(args, program)
+    with with_name(tempfile.gettempdir()):
+        how, everything = how_of(args), experiments_of(args, program)
     with Room() as passing:
         folder = Path(args.work or passing.path).absolute()
         jobs = [Job(folder, number, [part.name for part in share], b"".join(part.text for part in share))
                 for number, share in enumerate(shares(everything, args.parts), 1)]
-        run_all(how, program, jobs, folder)
-        check(how, jobs, folder)
+        with with_name(folder):
+            run_all(how, program, jobs, folder)
+            check(how, jobs, folder)
         made = origin(args, program, everything) if args.out is not None else None
         with ending.held():
             put_together(args.out, jobs)
@@ -285,6 +289,6 @@ def main(words_given: Sequence[str]) -> int:
         sys.stderr.write(f"spread: {failed.said}\n")
         return failed.status
     except OSError as error:
-        sys.stderr.write(f"spread: {error.filename}: {error.strerror}\n")
+        sys.stderr.write(f"spread: {cause_of(error)}\n")
         return 3
     return 0

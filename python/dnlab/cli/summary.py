@@ -5,7 +5,6 @@ import json
 import sys
 from typing import Sequence, TextIO
 
-from dnlab.analysis.columns import now, older, rows_now, warn
 from dnlab.analysis.naming import names_of, with_names
 from dnlab.analysis.spans import Span
 from dnlab.analysis.summing import grouped, summed, tell, tell_empty
@@ -15,6 +14,7 @@ from dnlab.analysis.work import Given, plans_of
 from dnlab.cli.layout import bare_table, table
 from dnlab.cli.words import add_names, add_span, add_texts, count_of, parser_of, percentiles_of, span_in, taken, time_of
 from dnlab.errors import Faulty, status_of
+from dnlab.programs import say
 
 EXAMPLE = """Rows: each flow's segments, each flow's acknowledgements, each train, the
 injected packets (by --name some of them), each pipe and instance (two rows if
@@ -42,8 +42,8 @@ Columns:
              and that of the end
   warnings   what may be silently wrong: refused, spent, no-way-back, denied,
              nopipe, budget, unsent, reconfigured, outage, half-duplex,
-             window-limited, units (docs/reference/tools.md says what each
-             means)
+             window-limited, unused, units (docs/reference/tools.md says what
+             each means)
 Times are printed in ms, which the heading has after the name.
 A missing value is `-` (nothing in --csv, null in --json, whose times are
 nanoseconds). Without the scenario sizes and the moments at which packets were
@@ -52,9 +52,7 @@ made are missing, unless all of the report was made under `trace 1`. --csv and
 jitter (RFC 3550) of the one-way delay, utilisation (of a pipe: what it served
 by what its rate could have carried), refused (how many commands were) and
 their codes, seed, budgets and params of each row's experiment, and `varied`,
-what of its pipes isn't the same in all experiments. --by and --columns take
-the names of version 0.1 too (held, least, median, greatest, again,
-completion ..), with a warning.
+what of its pipes isn't the same in all experiments.
 
 Example:
   ./dnlab alone < scenario.txt | tools/summary - scenario.txt
@@ -90,8 +88,6 @@ def words(given: Sequence[str]) -> argparse.Namespace:
     form.add_argument("--csv", action="store_true", help="print lines with commas, a heading first")
     form.add_argument("--json", action="store_true", help="print a list of objects")
     found = taken(parser, list(given))
-    for asked in found.by, found.columns:
-        asked[:] = [column_of(name) for name in asked]
     known = columns_of(found.percentiles)
     if span_in(parser, found) != Span() and (found.every or found.losses):
         parser.error("--from and --to go with the rows of the summary; --every has each time by itself")
@@ -99,15 +95,8 @@ def words(given: Sequence[str]) -> argparse.Namespace:
         parser.error("--columns goes with --by")
     for name in [*found.by, *found.columns]:
         if name not in known:
-            parser.error(f"no column {name}: {', '.join(map(now, known))}")
+            parser.error(f"no column {name}: {', '.join(known)}")
     return found
-
-
-def column_of(name: str) -> str:
-    """A column that is asked for, by the name that rows have; an older name is warned of."""
-    if now(name) != name:
-        warn(name, now(name))
-    return older(name)
 
 
 def print_csv(rows: Sequence[Row], names: Sequence[str], out: TextIO) -> None:
@@ -136,20 +125,19 @@ def main(words_given: Sequence[str]) -> int:
             notes += [(one.name, note) for note in one.notes]
             total += 1
     except Faulty as faulty:
-        print(f"summary: {faulty}", file=sys.stderr)
+        say("summary", faulty)
         return status_of(faulty)
     if given.by:
         rows = grouped(rows, given.by, given.columns or [*times_of(given.percentiles), "goodput"])
-    told = rows_now(rows)
-    names = list(map(now, columns_of(given.percentiles, span))) if kind == "summary" and not given.by else list(told[0]) if told else []
+    names = columns_of(given.percentiles, span) if kind == "summary" and not given.by else list(rows[0]) if rows else []
     if given.csv:
-        print_csv(told, names, sys.stdout)
+        print_csv(rows, names, sys.stdout)
     elif given.json:
-        print_json(told, sys.stdout)
+        print_json(rows, sys.stdout)
     elif kind == "summary" and not given.by:
         sys.stdout.write(table(rows, given.percentiles, given.exact))
     elif rows:
-        sys.stdout.write(bare_table(told, given.exact))
+        sys.stdout.write(bare_table(rows, given.exact))
     tell("summary", notes, total)
     tell_empty("summary", Given(given.report), total)
     return 0

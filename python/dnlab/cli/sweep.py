@@ -14,11 +14,14 @@ from dnlab.analysis.spans import Span
 from dnlab.analysis.summing import tell
 from dnlab.cli.layout import plain, sweep_table
 from dnlab.cli.summary import print_csv, print_json
-from dnlab.cli.sweep_words import look_of, pair_in, words
-from dnlab.errors import Failed, Faulty
+from dnlab.cli.sweep_words import is_of_programs, look_of, pair_in, words
+from dnlab.errors import Failed, Faulty, status_of
 from dnlab.io.outputs import whole_file
 from dnlab.processes import ending
+from dnlab.programs import say
+from dnlab.sweeps.cells import told_of
 from dnlab.sweeps.sweeping import Sweep
+from dnlab.sweeps.templates import shown
 
 
 def lacking(given: argparse.Namespace) -> Optional[str]:
@@ -37,8 +40,10 @@ def records_of(frame: pd.DataFrame) -> list[dict[str, Any]]:
             for row in frame.astype(object).to_dict("records")]
 
 
-def write(frame: pd.DataFrame, name: str, form: str) -> None:
-    """Writes a table under its name when it is whole; - is standard output."""
+def write(frame: pd.DataFrame, name: str, form: str, settings: Sequence[str] = ()) -> None:
+    """Writes a table under its name when it is whole; - is standard output. In CSV settings stand as they were given."""
+    if form == "csv":
+        frame = frame.assign(**{one: [shown(value) for value in frame[one]] for one in settings}).astype(dict.fromkeys(settings, object))
     if name == "-":
         (print_json(records_of(frame), sys.stdout) if form == "json"
          else print_csv(records_of(frame), list(frame.columns), sys.stdout))
@@ -73,11 +78,11 @@ def write_all(made: Sweep, table: pd.DataFrame, given: argparse.Namespace) -> No
         sys.stdout.flush()
     for form in "csv", "json", "parquet":
         if getattr(given, form) is not None:
-            write(made.with_names(table), getattr(given, form), form)
+            write(table, getattr(given, form), form, made.settings)
     if given.each is not None:
-        write(made.rows(), given.each, given.each.rsplit(".", 1)[-1])
+        write(made.rows(), given.each, given.each.rsplit(".", 1)[-1], made.settings)
     if given.long is not None:
-        write(made.long(), given.long, given.long.rsplit(".", 1)[-1])
+        write(made.long(), given.long, given.long.rsplit(".", 1)[-1], made.settings)
     if given.plot is not None:
         from dnlab.plot import pictures
         from dnlab.plot import curves
@@ -92,7 +97,7 @@ def write_all(made: Sweep, table: pd.DataFrame, given: argparse.Namespace) -> No
 def pairs_of(made: Sweep, given: argparse.Namespace) -> str:
     """How the values of a setting differ, as a table for people: a line for each of them, with the other settings."""
     along, base = pair_in(given.pairs)
-    rows = records_of(made.raw_compare(along, base, given.ci, given.interval))
+    rows = records_of(made.compare(along, base, given.ci, given.interval))
     others = [name for name in made.settings if name != along]
     return sweep_table([{**row, along: f"{plain(row[along])} less {plain(row['base'])}"} for row in rows], [*others, along],
                        given.exact)
@@ -106,14 +111,14 @@ def say_needed(made: Sweep, table: pd.DataFrame, within: float) -> None:
     short = known[known["needed"] > seeds]
     if len(short):
         worst = short.loc[short["needed"].astype(float).idxmax()]
-        of = ", ".join([str(worst["of"]), *(f"{name}={worst[name]}" for name in made.settings)])
-        print(f"sweep: --within {within:.3g}: {len(short)} of {len(table)} means need more than the {seeds} seeds here; the"
-              f" most, {worst['needed']}, {worst['stat']} of {of}", file=sys.stderr)
+        of = ", ".join([str(worst["sender"]), *(f"{name}={worst[name]}" for name in made.settings)])
+        say("sweep", f"--within {within:.3g}: {len(short)} of {len(table)} means need more than the {seeds} seeds here; the"
+              f" most, {worst['needed']}, {worst['stat']} of {of}")
     else:
-        print(f"sweep: --within {within:.3g}: {seeds} seeds are enough for {len(known)} of {len(table)} means", file=sys.stderr)
+        say("sweep", f"--within {within:.3g}: {seeds} seeds are enough for {len(known)} of {len(table)} means")
     if untold:
-        print(f"sweep: --within {within:.3g}: of {untold} means it can't be told: fewer than two seeds tell them, they are 0,"
-              " or 10^6 seeds wouldn't do", file=sys.stderr)
+        say("sweep", f"--within {within:.3g}: of {untold} means it can't be told: fewer than two seeds tell them, they are 0,"
+              " or 10^6 seeds wouldn't do")
 
 
 def say_all(made: Sweep, table: pd.DataFrame) -> None:
@@ -121,33 +126,42 @@ def say_all(made: Sweep, table: pd.DataFrame) -> None:
     rows = records_of(table)
     tell("sweep", made.notes(), len(made.cases))
     seeds = len({case.seed for case in made.cases})
-    fewer = [row for row in rows if row["n"] < seeds]
+    fewer = [row for row in rows if row["n"] < seeds and not (made.unseeded and row["n"] == 1)]
     if fewer:
         more = f" (and {len(fewer) - 1} more like it)" if len(fewer) > 1 else ""
-        of = ", ".join([str(fewer[0]["of"]), *(f"{name}={fewer[0][name]}" for name in made.settings)])
-        print(f"sweep: {fewer[0]['stat']} of {of}: {fewer[0]['n']} of {seeds} experiments tell it{more}", file=sys.stderr)
-    said = made.changeless()
-    if said:
-        print(f"sweep: {said}", file=sys.stderr)
+        of = ", ".join([str(fewer[0]["sender"]), *(f"{name}={fewer[0][name]}" for name in made.settings)])
+        say("sweep", f"{fewer[0]['stat']} of {of}: {fewer[0]['n']} of {seeds} experiments tell it{more}")
+    for said in filter(None, [made.changeless(), *told_of(rows, made.settings)]):
+        say("sweep", said)
     if made.kept.damaged:
-        print(f"sweep: {made.kept.damaged} answers in {made.kept.path} were damaged, and these experiments were run again",
-              file=sys.stderr)
+        say("sweep", f"{made.kept.damaged} answers in {made.kept.path} were damaged, and these experiments were run again")
     kept = f"{len(made.cases) - made.ran} were kept" + (f" in {made.kept.path}" if made.kept.path else "")
-    print(f"sweep: {len(made.cases)} experiments: {made.ran} were run, {kept}", file=sys.stderr)
+    say("sweep", f"{len(made.cases)} experiments: {made.ran} were run, {kept}")
 
 
-def sweep(given: argparse.Namespace) -> int:
+def sweep_of(given: argparse.Namespace) -> tuple[Sweep, Optional[str]]:
+    """The sweep of the words, and the file that keeps its answers, if one does."""
+    asks = [Ask(ask.of, ask.stats or USUAL) for ask in given.asks]
+    span = Span(given.begin, given.end)
+    if is_of_programs(given):
+        from dnlab.sweeps.program_runs import ProgramSweep
+
+        return ProgramSweep(given.run or given.template, dict(given.set), given.seeds, asks, given.run is not None,
+                            given.workers, given.allow, span), None
     source: Any = given.template
     kept = given.kept if given.kept is not None else f"{source}.kept"
     if source == "-":
         source, kept = sys.stdin.read() + "\n", given.kept
+    return Sweep(source, dict(given.set), given.seeds, asks, None if given.dry_run else kept, given.workers, given.on, given.program,
+                 anew=given.anew, allow=given.allow, parts=given.parts, span=span), kept
+
+
+def sweep(given: argparse.Namespace) -> int:
     ending.tells(lambda: "no experiment was run")
-    made = Sweep(source, dict(given.set), given.seeds, [Ask(ask.of, ask.stats or USUAL) for ask in given.asks],
-                 None if given.dry_run else kept, given.workers, given.on, given.program, anew=given.anew,
-                 allow=given.allow, parts=given.parts, span=Span(given.begin, given.end))
+    made, kept = sweep_of(given)
     if given.dry_run:
         sys.stdout.write(made.text(made.cases[0]))
-        print(f"sweep: {len(made.cases)} experiments; this is the text of {made.cases[0].told()}", file=sys.stderr)
+        say("sweep", f"{len(made.cases)} experiments; this is the text of {made.cases[0].told()}")
         return 0
     if given.plot is not None:
         from dnlab.plot import curves
@@ -156,7 +170,7 @@ def sweep(given: argparse.Namespace) -> int:
                      [(ask.of, stat) for ask in made.asks for stat in ask.stats], look_of(given))
     if given.pairs is not None:
         along, base = pair_in(given.pairs)
-        compared(pd.DataFrame([{**case.settings, "of": "", "seed": case.seed, "marks": ""} for case in made.cases]),
+        compared(pd.DataFrame([{**case.settings, "sender": "", "seed": case.seed, "warnings": ""} for case in made.cases]),
                  made.settings, [], along, base)
     ending.tells(lambda: far(made, kept))
     ending.add(made.kept.close)
@@ -164,7 +178,7 @@ def sweep(given: argparse.Namespace) -> int:
         made.run()
     except Failed as failed:
         raise Failed(failed.status, f"{failed.said}; {far(made, kept)}") from None
-    table = made.raw_table(given.ci, given.interval, given.within)
+    table = made.table(given.ci, given.interval, given.within)
     write_all(made, table, given)
     say_all(made, table)
     if given.within is not None:
@@ -189,8 +203,8 @@ def main(words_given: Sequence[str]) -> int:
             raise Failed(3, said)
         return sweep(given)
     except Faulty as faulty:
-        print(f"sweep: {faulty}", file=sys.stderr)
-        return 2
+        say("sweep", faulty)
+        return status_of(faulty)
     except Failed as failed:
-        print(f"sweep: {failed.said}", file=sys.stderr)
+        say("sweep", failed.said)
         return 3

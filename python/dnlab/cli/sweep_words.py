@@ -3,7 +3,7 @@ import argparse
 import os
 from typing import Any, Callable, Optional, Sequence, TypeVar
 
-from dnlab.analysis.asking import OLDER, STATS, USUAL, Ask, stats_of
+from dnlab.analysis.asking import STATS, USUAL, Ask, stats_of
 from dnlab.analysis.figures import KINDS
 from dnlab.cli.plot import picture
 from dnlab.cli.words import add_span, count_of, listed, parser_of, span_in
@@ -20,7 +20,8 @@ which begins with
 It has each setting by its name, and besides
   name, seed      the experiment's own; the name is made of settings and seed
   rng             drawn from the seed alone, the same on every machine:
-                  rng.whole(a, b), rng.uniform(a, b), rng.exponential(mean),
+                  rng.whole(a, b) (a to b, both included),
+                  rng.uniform(a, b), rng.exponential(mean),
                   rng.arrivals(mean, end), rng.pareto(shape, least),
                   rng.choice(list, weights), rng.sample(list, n),
                   rng.shuffled(list), rng.random()
@@ -34,8 +35,7 @@ written without an exponent.
          without any: flows, each train and the injected packets
 --stat   of the --of before it, with commas between:
          {listed(STATS, indent=9)}
-         (N above 0 and up to 100; older names that are taken too:
-         {listed(OLDER, indent=9)})
+         (N from 1 to 100)
          without any: {",".join(USUAL)}
          delay is the time from being made to delivery (of a pipe: in it), lost
          all drops, drops.lost those by plr; or FILE.py:NAME, a function of
@@ -129,7 +129,7 @@ def add_look(parser: argparse.ArgumentParser) -> None:
     """The picture and how it is laid out."""
     parser.add_argument("--plot", type=picture, metavar="FILE", help="a picture, .svg, .png or .pdf")
     parser.add_argument("--along", metavar="NAME", help="the setting that the picture goes along [the first with several]")
-    parser.add_argument("--rows", metavar="NAME", help="a row of panels for each value of this setting [of each stat]")
+    parser.add_argument("--rows", metavar="NAME", help="a row of panels for each value of this setting [one row], of each stat")
     parser.add_argument("--columns", metavar="NAME", help="a column of panels for each value of this setting")
     parser.add_argument("--log", type=lambda text: text.split(","), default=[], metavar="x,y", help="logarithmic axes")
     parser.add_argument("--label", action="append", default=[], type=kind_of(label_of), metavar="NAME=TEXT",
@@ -146,7 +146,10 @@ def look_of(given: argparse.Namespace) -> Any:
 
 def parser_of_words() -> argparse.ArgumentParser:
     parser = parser_of("sweep", ABOUT, EXAMPLE)
-    parser.add_argument("template", metavar="TEMPLATE", help="the template's file, or - for standard input")
+    parser.add_argument("template", metavar="TEMPLATE", nargs="?",
+                        help="the template's file, or - for standard input; FILE.yaml is a hosts file (see tools/hosts)")
+    parser.add_argument("--run", metavar="COMMAND", help="in place of TEMPLATE: a command line with {{ settings }}, which"
+                        " leaves transcript.txt and report.txt in its current folder")
     parser.add_argument("--set", action="append", default=[], type=kind_of(setting_of), metavar="NAME=VALUE,..",
                         help="a setting and its values; may be said again, and each is run with each")
     parser.add_argument("--seeds", type=kind_of(seeds_of), default=[1], metavar="A-B,C",
@@ -197,6 +200,19 @@ def joined(given: Sequence[str]) -> list[str]:
     return found
 
 
+def is_of_programs(found: argparse.Namespace) -> bool:
+    """Whether programs are run, and not scenarios."""
+    return found.run is not None or str(found.template).endswith((".yaml", ".yml"))
+
+
+def check_source(parser: argparse.ArgumentParser, found: argparse.Namespace) -> None:
+    """Refuses words without a template or with two, and what programs don't go with."""
+    if (found.run is None) == (found.template is None):
+        parser.error("one of TEMPLATE and --run COMMAND is needed" if found.run is None else "--run COMMAND takes no TEMPLATE")
+    if is_of_programs(found) and (found.on or found.kept or found.anew):
+        parser.error("--on, --kept and --anew don't go with programs: they run here, and their answers are not cached")
+
+
 def words(given: Sequence[str]) -> argparse.Namespace:
     parser = parser_of_words()
     found = parser.parse_args(joined(given))
@@ -204,6 +220,7 @@ def words(given: Sequence[str]) -> argparse.Namespace:
     if len(set(names)) < len(names):
         parser.error("--set: a name twice; its values stand in one, with commas between")
     span_in(parser, found)
+    check_source(parser, found)
     if (found.program or found.parts) and not found.on:
         parser.error("--program and --parts go with --on (here DNLAB names the program)")
     if found.on in ("dask", DASK):

@@ -5,12 +5,13 @@ from typing import Sequence
 
 from dnlab.cli.from_ipfw import behind_of, text_of
 from dnlab.cli.words import parser_of
-from dnlab.errors import Faulty, Refused, status_of
+from dnlab.errors import Faulty, Refused, cause_of, status_of
 from dnlab.io.exports import chosen, setting_of
 from dnlab.io.ipfw_export import Machine, script_of
 from dnlab.io.outputs import whole_file
 from dnlab.io.scenario import read
 from dnlab.io.scenario_parts import Plan
+from dnlab.programs import say
 
 EXAMPLE = """On a router each packet passes the rules twice, coming in and going out; so a
 rule to a pipe must say which. `--if` says what lies beyond an interface: the
@@ -76,7 +77,6 @@ def main(words_given: Sequence[str]) -> int:
         machine = Machine(None if given.host else dict(given.behind))
         write(script_of(setting, machine, given.scenario, given.iperf), given.out)
     except (Faulty, OSError) as fault:
-        said = f"{fault.filename}: {fault.strerror}" if isinstance(fault, OSError) else str(fault)
-        print(f"to-ipfw: {said}", file=sys.stderr)
+        say("to-ipfw", cause_of(fault))
         return status_of(fault)
     return 0

@@ -2,14 +2,14 @@
 import argparse
 import ipaddress
 import re
-import sys
 from typing import Sequence
 
 from dnlab.cli.to_ipfw import add_scenario, plan_of, write
 from dnlab.cli.words import parser_of
-from dnlab.errors import Faulty, status_of
+from dnlab.errors import Faulty, cause_of, status_of
 from dnlab.io.exports import setting_of
 from dnlab.io.tc_export import Place, script_of
+from dnlab.programs import say
 
 EXAMPLE = """tc shapes what leaves an interface (--dev). Delays and losses stand where
 packets come in (--in), on an ifb: as many packets fly there as the link
@@ -71,7 +71,6 @@ def main(words_given: Sequence[str]) -> int:
             raise Faulty(f"{given.scenario}: {fault}: put what is set at one moment into an experiment of its own") from None
         write(script_of(setting, Place(given.dev, given.enter, tuple(given.hosts)), given.scenario), given.out)
     except (Faulty, OSError) as fault:
-        said = f"{fault.filename}: {fault.strerror}" if isinstance(fault, OSError) else str(fault)
-        print(f"to-tc: {said}", file=sys.stderr)
+        say("to-tc", cause_of(fault))
         return status_of(fault)
     return 0

@@ -1,6 +1,5 @@
 """Makes a page of HTML to look at runs of dnlab in a browser, packet by packet."""
 import argparse
-import sys
 from typing import Iterator, Sequence, cast
 
 from dnlab.analysis.summing import tell, whole
@@ -8,6 +7,7 @@ from dnlab.analysis.view import Note, View
 from dnlab.analysis.work import Given, TooMany, over, plans_of
 from dnlab.cli.words import add_texts, count_of, parser_of, taken
 from dnlab.errors import Faulty, status_of
+from dnlab.programs import say
 
 EXAMPLE = """The page has, over one axis of time: the bytes of a flow (sent, sent again,
 acknowledged, dropped), windows, the packets at each pipe, delays, and rates
@@ -78,13 +78,13 @@ def main(words_given: Sequence[str]) -> int:
     try:
         written = write(given.out, f"dnlab: {title}", experiments(), get_plotlyjs(), given.single)
     except TooMany as many:
-        print(f"view: {given.report}: {many}: name some by --experiment", file=sys.stderr)
+        say("view", f"{given.report}: {many}: name some by --experiment")
         return 2
     except Faulty as faulty:
-        print(f"view: {faulty}", file=sys.stderr)
+        say("view", faulty)
         return status_of(faulty)
     except OSError as fault:
-        print(f"view: {given.out}: {fault.strerror}", file=sys.stderr)
+        say("view", f"{given.out}: {fault.strerror}")
         return status_of(fault)
     tell("view", notes, len(names))
     print(f"{', '.join(written)}: experiments: {len(names)}")

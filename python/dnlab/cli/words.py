@@ -7,7 +7,7 @@ from typing import TYPE_CHECKING, Iterable, NoReturn
 
 from dnlab import __version__
 from dnlab.errors import Faulty
-from dnlab.programs import is_repository
+from dnlab.programs import called, is_repository
 from dnlab.units import TIMES
 
 if TYPE_CHECKING:
@@ -37,13 +37,13 @@ def as_installed(text: str) -> str:
 
 def renamed(text: str) -> str:
     """A help text with the names of installed commands."""
-    text = re.sub(r"(?m)^usage: (?=[a-z]+\b)", "usage: dnlab-", text)
+    text = re.sub(r"(?m)^usage: (?!dnlab-)(?=[a-z]+\b)", "usage: dnlab-", text)
     return re.sub(r"\btools/(?=[a-z]+\b)", "dnlab-", text).replace("./dnlab ", "dnlab ")
 
 
 def parser_of(name: str, about: str, more: str) -> argparse.ArgumentParser:
     """A parser whose help has an example and the exit statuses at its end."""
-    parser = Parser(prog=name, description=about, epilog=more, formatter_class=argparse.RawDescriptionHelpFormatter)
+    parser = Parser(prog=called(name), description=about, epilog=more, formatter_class=argparse.RawDescriptionHelpFormatter)
     parser.add_argument("--version", action="version", version=f"dnlab-{name} {__version__}")
     return parser
 
@@ -58,9 +58,10 @@ def listed(words: Iterable[str], between: str = ", ", indent: int = 10) -> str:
     return textwrap.fill(between.join(words), 80, initial_indent=room, subsequent_indent=room).lstrip()
 
 
-def add_texts(parser: argparse.ArgumentParser) -> None:
+def add_texts(parser: argparse.ArgumentParser, is_optional: bool = False) -> None:
     """The report and its scenarios, and which experiments are asked for."""
-    parser.add_argument("report", metavar="REPORT", help="a report, or - for standard input")
+    how = {"nargs": "?"} if is_optional else {}
+    parser.add_argument("report", metavar="REPORT", help="a report, or - for standard input", **how)  # type: ignore[arg-type]
     parser.add_argument("scenarios", metavar="SCENARIO", nargs="*",
                         help="its scenario, or - for standard input; several if it was run from several")
     parser.add_argument("--experiment", action="append", default=[], metavar="NAME",
@@ -130,9 +131,10 @@ def count_of(text: str) -> int:
 
 
 def percentiles_of(text: str) -> list[str]:
-    """Percentiles with commas between, each above 0 and at most 100."""
+    """Percentiles with commas between, each from 1 to 100."""
     found = text.split(",")
     for one in found:
-        if not re.fullmatch(r"[0-9]{1,3}(?:\.[0-9]{1,6})?", one) or not 0 < Fraction(one) <= 100:
-            raise argparse.ArgumentTypeError(f"{one!r} is no percentile above 0 and up to 100")
+        if not re.fullmatch(r"[0-9]{1,3}(?:\.[0-9]{1,6})?", one) or not 1 <= Fraction(one) <= 100:
+            meant = f": write {float(one) * 100:g}" if re.fullmatch(r"0\.[0-9]{1,6}", one) else ""
+            raise argparse.ArgumentTypeError(f"{one!r} is no percentile from 1 to 100{meant}")
     return found

@@ -8,7 +8,7 @@ import heapq
 import socket
 import struct
 from collections import Counter
-from decimal import Decimal, InvalidOperation
+from decimal import Decimal
 from typing import BinaryIO, Iterable, Iterator, NamedTuple, Optional, Sequence, TextIO
 
 import dpkt
@@ -19,6 +19,8 @@ LEAST, MOST = 40, 1500
 LARGE = ("refuse", "cut", "split")
 ETHERNET, RAW = 1, 101
 # Frames of a capture may stand a few places from where their moments would have them.
+# In ns; what clocks say since 1970 is below it.
+_LATEST = 2**63
 _DISORDER = 4096
 # Where IP begins behind other links: (the place of its protocol's number, that number's IPv4, where IP begins).
 _LINKS = {113: (14, 0x0800, 16), 276: (0, 0x0800, 20)}
@@ -177,12 +179,15 @@ def _tabled(text: TextIO, path: str) -> Iterator[Arrival]:
     if unknown or "size" not in names or ("moment" in names) == ("seconds" in names):
         raise Faulty(f"{path}: line 1: its first line names the columns: moment (ns) or seconds, size, and where they are there protocol,"
                      f" source, source_port, target, target_port{'; not ' + unknown[0] if unknown else ''}")
-    for row in rows:
-        try:
+    try:
+        row: "dict[str, str]" = {}
+        for row in rows:
             yield _row(row)
-        except (ValueError, InvalidOperation, OSError, TypeError, AttributeError):
-            raise Faulty(f"{path}: line {rows.line_num}: {','.join(str(value) for value in row.values())[:80]!r} is no arrival: a moment, a"
-                         " size in bytes, addresses in numbers, ports up to 65535") from None
+    except csv.Error as fault:
+        raise Faulty(f"{path}: line {rows.line_num}: it is no CSV: {fault}") from None
+    except (ValueError, ArithmeticError, OSError, TypeError, AttributeError):
+        raise Faulty(f"{path}: line {rows.line_num}: {','.join(str(value) for value in row.values())[:80]!r} is no arrival: a moment, a"
+                     " size in bytes, addresses in numbers, ports up to 65535") from None
 
 
 def _row(row: "dict[str, str]") -> Arrival:
@@ -190,7 +195,8 @@ def _row(row: "dict[str, str]") -> Arrival:
     moment = Decimal(word["moment"]) if "moment" in word else Decimal(word["seconds"]) * 10**9
     ports = [int(word.get(name, default)) for name, default in (("source_port", "1000"), ("target_port", "2000"))]
     ends = [word.get(name, default) for name, default in (("source", "10.0.0.1"), ("target", "10.0.1.1"))]
-    if moment != int(moment) or moment < 0 or not all(0 <= port <= 65535 for port in ports):
+    # It is compared before it is a whole number, which may have any number of digits.
+    if not 0 <= moment <= _LATEST or moment != int(moment) or not all(0 <= port <= 65535 for port in ports):
         raise ValueError
     protocol = word.get("protocol", "udp")
     if protocol not in ("tcp", "udp") or [socket.inet_ntoa(socket.inet_aton(end)) for end in ends] != ends:

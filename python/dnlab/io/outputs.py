@@ -11,6 +11,8 @@ from typing import IO, BinaryIO, Iterator, Union, cast
 from dnlab.processes import ending
 from dnlab.processes.rooms import lock
 
+# What a write says where there is no room.
+_FULL = (errno.ENOSPC, errno.EDQUOT, errno.EFBIG)
 _BEFORE, _BEHIND = ".dnlab-", ".part"
 
 
@@ -41,6 +43,17 @@ def _part_in(folder: Path) -> tuple[Path, IO[bytes]]:
 
 
 @contextmanager
+def with_name(name: Union[str, Path]) -> Iterator[None]:
+    """Has the error of a write within the block that finds no room name the file, which the system doesn't."""
+    try:
+        yield
+    except OSError as fault:
+        if fault.errno in _FULL and fault.filename is None:
+            fault.filename = str(name)
+        raise
+
+
+@contextmanager
 def whole_file(name: Union[str, Path]) -> Iterator[BinaryIO]:
     """A file to write in, which takes its name when the block is done: of what ends by a fault nothing is left.
 
@@ -56,7 +69,7 @@ def whole_file(name: Union[str, Path]) -> Iterator[BinaryIO]:
         chore = partial(_leave, path)
         ending.add(chore)
     try:
-        with held, os.fdopen(os.dup(held.fileno()), "wb") as file:
+        with with_name(name), held, os.fdopen(os.dup(held.fileno()), "wb") as file:
             yield cast(BinaryIO, file)
             file.flush()
             with ending.held():

@@ -3,11 +3,11 @@ import gzip
 import io
 import os
 import re
-import shutil
 import tempfile
+from contextlib import contextmanager
 from dataclasses import dataclass, field, replace
 from pathlib import Path
-from typing import IO, Any, BinaryIO, Iterable, Iterator, Optional, Union
+from typing import IO, Any, BinaryIO, Callable, Iterable, Iterator, Optional, Union
 
 import numpy as np
 
@@ -18,6 +18,8 @@ _HEADING = re.compile(rb"experiment ([a-z0-9_-]{1,32})")
 _MARK = b"experiment "
 # How much is looked through at once for headings, and how much is read in columns at once.
 _LOOK = 1 << 22
+# No line of a report is longer.
+_LONGEST = 1 << 22
 _BLOCK = 1 << 18
 
 
@@ -48,6 +50,19 @@ class Piece:
                 yield from _blocks(source, _BLOCK, len(self))
 
 
+class _TooLong(Exception):
+    """A line is longer than a block that is looked through."""
+
+
+@contextmanager
+def _at_line(line: Callable[[], int]) -> Iterator[None]:
+    """Has a line that is too long refused with its number."""
+    try:
+        yield
+    except _TooLong:
+        raise Refused(line(), f"a line of more than {_LONGEST} bytes, which no report has") from None
+
+
 def _blocks(source: BinaryIO, size: int, most: Optional[int] = None) -> Iterator[bytes]:
     """The bytes of a source, in blocks of whole lines; the last may lack its end."""
     rest = b""
@@ -61,6 +76,8 @@ def _blocks(source: BinaryIO, size: int, most: Optional[int] = None) -> Iterator
         end = more.rfind(b"\n") + 1
         if not end:
             rest += more
+            if len(rest) > _LONGEST:
+                raise _TooLong
             continue
         yield rest + more[:end]
         rest = more[end:]
@@ -100,8 +117,11 @@ class _Unpacked:
         has_places = os.path.isdir(f"/proc/{os.getpid()}/fd")
         self.file: IO[bytes] = tempfile.TemporaryFile() if has_places else tempfile.NamedTemporaryFile()
         self.path = f"/proc/{os.getpid()}/fd/{self.file.fileno()}" if has_places else str(self.file.name)
-        with gzip.open(packed) as plain, reading_gzip():
-            shutil.copyfileobj(plain, self.file, _LOOK)
+        lines = 0
+        with gzip.open(packed) as plain, reading_gzip(), _at_line(lambda: lines + 1):
+            for block in _blocks(plain, _LOOK):  # type: ignore[arg-type]
+                lines += _lines(block, 0, len(block))
+                self.file.write(block)
         self.file.flush()
 
     def __reduce__(self) -> tuple[Any, tuple[()]]:
@@ -112,8 +132,9 @@ class _Unpacked:
 def _found(file: BinaryIO, path: Optional[str], wanted: set[str]) -> Iterator[Piece]:
     finder = _Finder(path, wanted)
     block = b""
-    for block in _blocks(file, _LOOK):
-        yield from finder.look(block)
+    with _at_line(lambda: finder.line + 1):
+        for block in _blocks(file, _LOOK):
+            yield from finder.look(block)
     if block and not block.endswith(b"\n"):
         raise Refused(finder.line + 1, "the last line has no end of line")
     yield from finder.close()

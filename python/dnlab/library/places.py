@@ -1,4 +1,5 @@
 """Which libdnlab is called."""
+import ctypes.util
 import os
 from pathlib import Path
 from typing import Optional
@@ -14,15 +15,17 @@ _LACKING = ("there is no libdnlab: tools/library PREFIX makes it; name its libdn
 
 
 def library() -> str:
-    """The path of the library: the one that the environment variable LIBDNLAB names, else the one that the package carries or that stands beside it.
+    """Returns the library to load: the one that the environment variable LIBDNLAB names, else the one that the package carries or that is installed
+    with it, else the system's.
 
-    `Failed` with status 2 where LIBDNLAB names none, with 3 where there is none."""
+    `Failed` with status 2 if LIBDNLAB names none, with 3 if there is none."""
     named = os.environ.get("LIBDNLAB")
     if named:
         if not os.path.isfile(named):
             raise Failed(2, f"{named} is no library (the environment variable LIBDNLAB names it)")
         return os.path.abspath(named)
     found: Optional[Path] = next((place for place in _PLACES if place.is_file()), None)
-    if found is None:
+    loaded = str(found) if found is not None else ctypes.util.find_library("dnlab")
+    if loaded is None:
         raise Failed(3, _LACKING)
-    return str(found)
+    return loaded

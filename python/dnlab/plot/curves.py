@@ -56,7 +56,7 @@ def axis_of(table: pd.DataFrame, settings: Sequence[str], look: Look = Look()) -
         return look.along
     several = [name for name in settings if table[name].nunique() > 1 and name not in (look.rows, look.columns)]
     numbers = [name for name in several if is_numeric_dtype(table[name])]
-    return str([*numbers, *several, *settings, "of"][0])
+    return str([*numbers, *several, *settings, "sender"][0])
 
 
 def judge(cases: pd.DataFrame, settings: Sequence[str], panels: Sequence[tuple[str, str]], look: Look = Look()) -> None:
@@ -65,9 +65,7 @@ def judge(cases: pd.DataFrame, settings: Sequence[str], panels: Sequence[tuple[s
     look.check(settings)
     if settings:
         _others(cases, settings, axis_of(cases, settings, look), look)
-    if look.rows is not None and len(panels) > 1:
-        raise Faulty(f"--rows {look.rows}: one --stat of one --of can be drawn so, and {len(panels)} are asked for")
-    rows = len(panels) if look.rows is None else cases[look.rows].nunique()
+    rows = len(panels) * (1 if look.rows is None else cases[look.rows].nunique())
     _count(rows * (1 if look.columns is None else cases[look.columns].nunique()))
 
 
@@ -87,7 +85,7 @@ def _others(table: pd.DataFrame, settings: Sequence[str], along: str, look: Look
 
 
 def figure_of(table: pd.DataFrame, settings: Sequence[str], look: Look = Look()) -> Figure:
-    """Panels of a sweep's table, a row for each of and stat (or each value of `look.rows`), with a line for each
+    """Panels of a sweep's table, a row for each of and stat (and each value of `look.rows`), with a line for each
     combination of the settings that are left.
 
     Points are means, bars their intervals; hollow points have a mark, which is named below. More than eight lines, or 24
@@ -95,23 +93,22 @@ def figure_of(table: pd.DataFrame, settings: Sequence[str], look: Look = Look())
     look.check(settings)
     along = axis_of(table, settings, look)
     others = _others(table, settings, along, look)
-    panels = list(table[["of", "stat"]].drop_duplicates().itertuples(index=False, name=None))
-    if look.rows is not None and len(panels) > 1:
-        raise Faulty(f"--rows {look.rows}: one --stat of one --of can be drawn so, and the table has {len(panels)}")
-    rows: list[Any] = panels if look.rows is None else list(dict.fromkeys(table[look.rows]))
+    panels = list(table[["sender", "stat"]].drop_duplicates().itertuples(index=False, name=None))
+    values = [None] if look.rows is None else list(dict.fromkeys(table[look.rows]))
+    rows = [(panel, value) for panel in panels for value in values]
     columns: list[Any] = [None] if look.columns is None else list(dict.fromkeys(table[look.columns]))
     _count(len(rows) * len(columns))
     with matplotlib.rc_context(STYLE):
         width = 5.5 if len(columns) == 1 else 0.7 + 2.6 * len(columns)
         figure, grid = subplots(len(rows), len(columns), squeeze=False, sharex=True, sharey="row",
                                 figsize=(width, 0.8 + 1.9 * len(rows)))
-        for row, one in zip(grid, rows):
+        for row, (panel, one) in zip(grid, rows):
             for axes, value in zip(row, columns):
-                _panel(axes, _part(table, look, panels[0] if look.rows else one, one, value), along, others, look)
-                axes.set_title(_title(look, panels, one, value), loc="left")
+                _panel(axes, _part(table, look, panel, one, value), along, others, look)
+                axes.set_title(_title(look, panel if len(panels) > 1 or look.rows is None else None, one, value), loc="left")
             if "y" not in look.log:
                 row[0].set_ylim(bottom=0)
-            row[0].set_ylabel(_label(table, panels[0] if look.rows else one, look))
+            row[0].set_ylabel(_label(table, panel, look))
         for axes in grid[-1]:
             axes.set_xlabel(names.of_setting(along, look.labels))
         if others:
@@ -123,7 +120,7 @@ def figure_of(table: pd.DataFrame, settings: Sequence[str], look: Look = Look())
 
 def _say_marks(figure: Figure, table: pd.DataFrame) -> None:
     """Names the marks of hollow points below the panels."""
-    marks = list(dict.fromkeys(mark for words in table["marks"].fillna("") for mark in words.split()))
+    marks = list(dict.fromkeys(mark for words in table["warnings"].fillna("") for mark in words.split()))
     figure.tight_layout(rect=(0, 0.12 / figure.get_figheight() if marks else 0, 1, 1))
     if marks:
         figure.text(0.01, 0.01, f"hollow points: {', '.join(marks)}", size=6)
@@ -131,7 +128,7 @@ def _say_marks(figure: Figure, table: pd.DataFrame) -> None:
 
 def _part(table: pd.DataFrame, look: Look, panel: tuple[str, str], row: Any, column: Any) -> pd.DataFrame:
     """The rows of a panel."""
-    is_in = (table["of"] == panel[0]) & (table["stat"] == panel[1])
+    is_in = (table["sender"] == panel[0]) & (table["stat"] == panel[1])
     if look.rows is not None:
         is_in &= table[look.rows] == row
     if look.columns is not None:
@@ -139,15 +136,15 @@ def _part(table: pd.DataFrame, look: Look, panel: tuple[str, str], row: Any, col
     return table[is_in]
 
 
-def _title(look: Look, panels: Sequence[tuple[str, str]], row: Any, column: Any) -> str:
-    parts = [] if look.rows is not None else [names.of_whom(row[0], look.labels)]
+def _title(look: Look, panel: Optional[tuple[str, str]], row: Any, column: Any) -> str:
+    parts = [] if panel is None else [names.of_whom(panel[0], look.labels)]
     parts += [f"{names.of_setting(name, look.labels)}: {names.of_value(name, value, look.labels)}"
               for name, value in ((look.rows, row), (look.columns, column)) if name is not None]
     return "\n".join(parts) if look.rows is not None else ", ".join(parts)
 
 
 def _label(table: pd.DataFrame, panel: tuple[str, str], look: Look) -> str:
-    unit = table["unit"][(table["of"] == panel[0]) & (table["stat"] == panel[1])].iloc[0]
+    unit = table["unit"][(table["sender"] == panel[0]) & (table["stat"] == panel[1])].iloc[0]
     return names.of_stat(panel[1], unit, look.labels)
 
 
@@ -185,7 +182,7 @@ def _line(axes: Any, known: pd.DataFrame, at: Sequence[float], number: int, labe
     colour, marker = COLOURS[number % len(COLOURS)], MARKERS[number % len(MARKERS)]
     axes.errorbar(at, mean, yerr=[bar.to_numpy() for bar in bars], capsize=2.5, linewidth=1.0, markersize=3.5, color=colour,
                   marker=marker, linestyle=LINES[number % len(LINES)] if is_number else "none", label=label)
-    hollow: list[int] = [place for place, words in enumerate(known["marks"].fillna("")) if words]
+    hollow: list[int] = [place for place, words in enumerate(known["warnings"].fillna("")) if words]
     if not hollow:
         return
     axes.plot([at[place] for place in hollow], [mean.iloc[place] for place in hollow], linestyle="none", marker=marker,

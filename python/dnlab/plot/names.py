@@ -2,15 +2,14 @@
 from typing import Any, Mapping
 
 from dnlab.analysis.asking import percentile_of
-from dnlab.analysis.metrics import plain_word
 from dnlab.units import FOR_PEOPLE
 
-_STATS = {"packets": "Packets made", "delivered": "Packets delivered", "held": "Packets under way", "again": "Segments sent again",
+_STATS = {"packets": "Packets made", "delivered": "Packets delivered", "in_flight": "Packets under way", "retransmissions": "Segments sent again",
           "lost": "Packets dropped", "bytes": "Bytes delivered", "useful": "New bytes delivered", "rate": "Throughput",
           "goodput": "Goodput", "time": "Time to the last delivery", "first": "First packet made", "last": "Last delivery",
-          "completion": "Completion time", "jain": "Jain's fairness index", "utilisation": "Utilisation", "jitter": "Jitter",
-          "delay.least": "Least delay", "delay.mean": "Mean delay", "delay.median": "Median delay",
-          "delay.greatest": "Greatest delay"}
+          "fct": "Completion time", "jain": "Jain's fairness index", "utilisation": "Utilisation", "jitter": "Jitter",
+          "delay.min": "Minimum delay", "delay.mean": "Mean delay", "delay.p50": "Median delay",
+          "delay.max": "Maximum delay"}
 _WHOLE = {"flows": "all flows", "trains": "all trains", "injected": "single packets", "there": "all on the way there",
           "back": "all on the way back", "all": "all packets"}
 # Names for other texts: of a setting, a stat or of whom by its name, of a setting's value as `queue:codel`.
@@ -46,8 +45,8 @@ def of_stat(stat: str, unit: str, labels: Labels = {}) -> str:
         return labels[stat]
     shown = FOR_PEOPLE.get(unit, (unit, 1))[0]
     percentile = percentile_of(stat)
-    if plain_word(stat) in _STATS:
-        words = _STATS[plain_word(stat)]
+    if stat in _STATS:
+        words = _STATS[stat]
     elif percentile is not None:
         words = f"{ordinal(percentile)} percentile of delay"
     elif stat.startswith("drops."):

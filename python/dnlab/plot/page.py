@@ -12,7 +12,7 @@ from typing import Any, Iterable, NamedTuple, Optional, Sequence
 
 import numpy as np
 
-from dnlab.analysis.packets import DELIVERED, DROPPED, FATES, UNKNOWN
+from dnlab.analysis.packets import DELIVERED, DROPPED, OUTCOMES, UNKNOWN
 from dnlab.analysis.series import Panel, Series, Values, link_rates, queues, rates, sojourns, windows
 from dnlab.analysis.view import View, flows_of
 from dnlab.io.digits import Ints
@@ -99,13 +99,13 @@ def sequences(view: View) -> Pane:
     for flow, packets in flows_of(view):
         acks = np.flatnonzero((table.kind == ACKNOWLEDGES) & (table.flow == flow))
         if view.is_told:
-            series += [_of(view, flow, "sent", "points", packets[~table.again[packets]], table.made),
-                       _of(view, flow, "sent again", "marks", packets[table.again[packets]], table.made)]
+            series += [_of(view, flow, "sent", "points", packets[~table.retransmission[packets]], table.made),
+                       _of(view, flow, "sent again", "marks", packets[table.retransmission[packets]], table.made)]
         else:
-            series.append(_of(view, flow, "delivered", "points", packets[table.fate[packets] == DELIVERED], table.ended))
-        series += [_of(view, flow, "acknowledged", "steps", acks[table.fate[acks] == DELIVERED], table.ended),
-                   _of(view, flow, "dropped", "marks", packets[table.fate[packets] >= DROPPED], table.ended),
-                   _of(view, flow, "acknowledgement dropped", "marks", acks[table.fate[acks] >= DROPPED], table.ended)]
+            series.append(_of(view, flow, "delivered", "points", packets[table.outcome[packets] == DELIVERED], table.ended))
+        series += [_of(view, flow, "acknowledged", "steps", acks[table.outcome[acks] == DELIVERED], table.ended),
+                   _of(view, flow, "dropped", "marks", packets[table.outcome[packets] >= DROPPED], table.ended),
+                   _of(view, flow, "acknowledgement dropped", "marks", acks[table.outcome[acks] >= DROPPED], table.ended)]
     title = "Bytes over time" + ("" if view.is_told else " (when they were sent needs the scenario)")
     shown = [one for one in series if len(one.series.moments)]
     return Pane(title, "byte", shown, "" if shown else "no flow sent a segment")
@@ -121,7 +121,7 @@ def delays(view: View) -> Pane:
     pane, table, senders = pane_of(sojourns(view, None)), view.packets, dict(view.senders)
 
     def own(one: Series) -> Ints:
-        delivered = senders[one.label][table.fate[senders[one.label]] == DELIVERED]
+        delivered = senders[one.label][table.outcome[senders[one.label]] == DELIVERED]
         ordered: Ints = delivered[np.argsort(table.ended[delivered], kind="stable")]
         return ordered
 
@@ -150,9 +150,9 @@ def journeys(view: View, blocks: Blocks) -> dict[str, int]:
     table, visits = view.packets, view.visits
     pipes = np.unique(visits.pipe)
     columns: dict[str, Any] = {
-        "made": table.made, "ended": _since(table.made, table.ended), "fate": table.fate, "size": table.size,
+        "made": table.made, "ended": _since(table.made, table.ended), "fate": table.outcome, "size": table.size,
         "who": np.where(table.who < 0, len(table.names), table.who), "kind": table.kind, "number": table.number,
-        "again": table.again.astype(np.int64), "starts": np.searchsorted(visits.packet, np.arange(len(table) + 1)),
+        "again": table.retransmission.astype(np.int64), "starts": np.searchsorted(visits.packet, np.arange(len(table) + 1)),
         "pipe": np.searchsorted(pipes, visits.pipe), "arrival": _since(table.made[visits.packet], visits.arrival),
         "finish": _since(visits.arrival, visits.finish), "exit": _since(visits.arrival, visits.exit)}
     return {name: blocks.add(column) for name, column in columns.items()}
@@ -174,7 +174,7 @@ def drawn(view: View) -> Drawn:
     unit = next(unit for unit in _UNITS if until >= 2 * unit[0] or unit[0] == 1)
     head = {"name": view.name, "about": about(view), "notes": [note.text for note in [*view.notes, *view.more_notes]],
             "until": until, "ended": max(view.ended.moment, 1), "unit": unit, "panels": panels,
-            "names": [*view.packets.names, UNKNOWN], "fates": FATES,
+            "names": [*view.packets.names, UNKNOWN], "fates": OUTCOMES,
             "pipes": [pipe_name(int(pipe)) for pipe in np.unique(view.visits.pipe)],
             "table": journeys(view, blocks), "blocks": blocks.heads}
     return Drawn(head, blocks.text())

@@ -1,6 +1,7 @@
 """Processes that this one begins: each has a group of its own, and ends with this one, even where that is killed."""
 import ctypes
 import os
+import resource
 import signal
 import subprocess
 import sys
@@ -15,6 +16,8 @@ from dnlab.processes import ending
 _PR_SET_PDEATHSIG = 1
 # Whether a process has a group of its own; a worker's have the worker's, which ends with it.
 GROUPED = True
+# How many bytes a program may say that isn't asked for a report.
+MOST_SAID = 1 << 26
 _LIBC = ctypes.CDLL(None) if sys.platform == "linux" else None
 
 
@@ -34,6 +37,14 @@ class Done(NamedTuple):
     def said(self) -> str:
         """What it said on standard error."""
         return self.errors.decode(errors="replace").strip()
+
+
+def _bounded(parent: int, number: int, most: Optional[int]) -> None:
+    """In a process that begins: it ends with its parent, and where it writes more into a file than `most` bytes."""
+    die_with(parent, number)
+    if most is not None:
+        _, hard = resource.getrlimit(resource.RLIMIT_FSIZE)
+        resource.setrlimit(resource.RLIMIT_FSIZE, (most if hard == resource.RLIM_INFINITY else min(most, hard), hard))
 
 
 def die_with(parent: int, number: int = signal.SIGKILL) -> None:
@@ -78,12 +89,12 @@ def child(words: Sequence[str], how_to_end: Callable[["subprocess.Popen[bytes]"]
             ending.remove(chore)
 
 
-def begin(words: Sequence[str], death: int = signal.SIGKILL, **how: Any) -> "subprocess.Popen[bytes]":
-    """The same without a block: who begins it ends it. It gets the signal `death` where this process is killed. `Failed`
-    where there is no such program."""
+def begin(words: Sequence[str], death: int = signal.SIGKILL, most: Optional[int] = None, **how: Any) -> "subprocess.Popen[bytes]":
+    """The same without a block: who begins it ends it. It gets the signal `death` where this process is killed, and SIGXFSZ where it
+    writes more than `most` bytes into a file. `Failed` where there is no such program."""
     try:
         return subprocess.Popen(words, process_group=0 if GROUPED else None,
-                                preexec_fn=partial(die_with, os.getpid(), death), **how)
+                                preexec_fn=partial(_bounded, os.getpid(), death, most), **how)
     except OSError as fault:
         raise Failed(3, f"{words[0]}: {fault.strerror}") from None
 
@@ -95,14 +106,15 @@ def wait(process: "subprocess.Popen[bytes]") -> int:
     return process.returncode
 
 
-def run(words: Sequence[str], text: bytes = b"", out: Optional[IO[bytes]] = None) -> Done:
+def run(words: Sequence[str], text: bytes = b"", out: Optional[IO[bytes]] = None, most: int = MOST_SAID) -> Done:
     """Runs a program on a text to its end; what it writes goes to `out`, where it is given. `Killed` where a signal
-    ended it. Texts go by files: nobody waits for a pipe that nobody reads."""
+    ended it, as it does behind `most` bytes of output. Texts go by files: nobody waits for a pipe that nobody reads."""
     with tempfile.TemporaryFile() as given, tempfile.TemporaryFile() as errors, tempfile.TemporaryFile() as own:
         given.write(text)
         given.flush()
         given.seek(0)
-        with child(words, stdin=given, stdout=out or own, stderr=errors) as process:
+        before = os.fstat(out.fileno()).st_size if out else 0
+        with child(words, stdin=given, stdout=out or own, stderr=errors, most=before + most) as process:
             status = wait(process)
         for file in own, errors:
             file.seek(0)
@@ -119,4 +131,5 @@ def told(ended_by: str) -> str:
     >>> told("SIGKILL")
     'ended by SIGKILL (for want of memory?)'
     """
-    return f"ended by {ended_by}" + (" (for want of memory?)" if ended_by == "SIGKILL" else "")
+    why = {"SIGKILL": " (for want of memory?)", "SIGXFSZ": " (it wrote more than its text can give)"}.get(ended_by, "")
+    return f"ended by {ended_by}{why}"

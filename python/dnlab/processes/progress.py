@@ -5,6 +5,7 @@ import time
 from typing import Any, Optional
 
 from dnlab.processes import ending
+from dnlab.programs import called
 
 try:
     from tqdm import tqdm
@@ -23,12 +24,13 @@ class Progress:
     block, or by a signal."""
 
     def __init__(self, tool: str, total: Optional[int] = None, done: int = 0, unit: str = "experiments") -> None:
-        self.tool, self.total, self.unit = tool, total, unit
+        self.tool, self.total, self.unit = called(tool), total, unit
         self.done = self.before = done
         self.begin = self.last = time.monotonic()
         self._bar: Any = None
         if tqdm is not None and sys.stderr.isatty():
-            self._bar = _Bar(total=total, initial=done, desc=tool, unit=unit, file=sys.stderr, leave=False, miniters=1,
+            self._bar = _Bar(total=total, initial=done, desc=self.tool, unit=unit, leave=False, miniters=1,
+                             file=getattr(sys.stderr, "direct", sys.stderr),
                              mininterval=_SEEN, delay=_SEEN, ncols=shutil.get_terminal_size().columns - 1,
                              bar_format=_form(total, "{bar:20} "))
 

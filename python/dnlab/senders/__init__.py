@@ -1,5 +1,5 @@
 """Closed-loop senders in a session: transfers that wait for one another, requests and answers, users of a web, and any number
-of short flows, each by Reno (RFC 5681) or CUBIC (RFC 9438).
+of short flows, each by NewReno (RFC 6582), Reno (RFC 5681) or CUBIC (RFC 9438).
 
     import dnlab
     from dnlab.senders import Cubic, Network
@@ -22,6 +22,6 @@ from dnlab.senders.flows import Flow
 from dnlab.senders.network import Network
 from dnlab.senders.patterns import Arrivals, Chain, Requests, Web
 from dnlab.senders.timeouts import Timeout
-from dnlab.senders.windows import Cubic, Reno, Window
+from dnlab.senders.windows import Cubic, NewReno, Reno, Window
 
-__all__ = ["Arrivals", "Chain", "Cubic", "Flow", "Network", "Reno", "Requests", "Timeout", "Web", "Window"]
+__all__ = ["Arrivals", "Chain", "Cubic", "Flow", "Network", "NewReno", "Reno", "Requests", "Timeout", "Web", "Window"]

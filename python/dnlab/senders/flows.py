@@ -75,6 +75,11 @@ class Flow:
         self._then: list[Callable[[], Any]] = []
         self._on_arrival: list[Callable[[], Any]] = []
 
+    @property
+    def received_bytes(self) -> int:
+        """How many bytes have arrived, each once, in order or not."""
+        return self._expected + sum(after - first for first, after in self._early.items())
+
     def begin(self) -> None:
         """It sends its first segments."""
         self._note()

@@ -13,6 +13,8 @@ from dnlab.session.links import Link
 if TYPE_CHECKING:
     import pandas as pd
 
+# A receiver's window in bytes where nobody says one.
+LIMIT = 1 << 18
 CLIENT, SERVER = "10.0.0.1", "10.0.1.1"
 # The ports that flows take in turn, where nobody says which.
 _PORTS = range(1024, 65536)
@@ -40,12 +42,14 @@ class Network:
         return self.link.now
 
     def flow(self, size: int, window: Callable[[int], Window] = Reno, source: Optional[Address] = None,
-             target: Optional[Address] = None, smss: int = 1460, limit: Optional[int] = None, least_timeout: int = 10**9,
+             target: Optional[Address] = None, smss: int = 1460, limit: Optional[int] = LIMIT, least_timeout: int = 10**9,
              record: bool = False) -> Flow:
         """A flow of `size` bytes begins now, from 10.0.0.1 to 10.0.1.1 and a port of its own if nobody says otherwise.
 
-        window         `Reno`, `Cubic`, or a class of one's own with the members of `dnlab.senders.Window`
-        limit          the receiver's window in bytes, none if it isn't given (the link's own flows have 65535)
+        window         `Reno`, `NewReno`, `Cubic`, or a class of one's own with the members of `dnlab.senders.Window`
+        limit          the receiver's window in bytes, 262144 if it isn't given (21 Mbit/s at 100 ms; the link's own flows have 65535);
+                       None is no limit: then by RFC 5681's letter Reno sends on for each duplicate while a lost retransmission waits
+                       for its timer, far beyond what the path holds
         least_timeout  the least retransmission time, ns (RFC 6298 has 1 s)
         record         whether the flow keeps its `history` of windows
         """

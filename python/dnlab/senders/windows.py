@@ -72,6 +72,16 @@ class Reno:
         self.cwnd = self.smss
 
 
+class NewReno(Reno):
+    """Reno's window with the recovery of RFC 6582: it lasts until all that was sent before the loss is acknowledged, so that several losses
+    of one window need no timeout. Hosts do it so; take it where the network's behaviour is what you study.
+
+    >>> NewReno(1000).cwnd, NewReno.is_newreno
+    (4000, True)
+    """
+    is_newreno = True
+
+
 class Cubic:
     """The window of RFC 9438, by `dnlab.senders.cubic`, with 10 segments at first (RFC 6928) and NewReno's recovery.
 

@@ -41,7 +41,9 @@ class Link:
         # What was told of packets of which it isn't said yet whether they are the program's own.
         self._early: dict[int, Event] = {}
         self._wants_all = False
+        # When the next event is due, and whether answers say it.
         self._next: Optional[int] = None
+        self._adds_next = False
 
     # What is done.
 
@@ -92,9 +94,12 @@ class Link:
             self._wants_all = False
 
     def next_due(self) -> Optional[int]:
-        """When the next event of the link is due (ns); None if nothing is."""
+        """When the next event of the link is due (ns); None if nothing is. After the first call the answers to other lines
+        say it too, so a call after `until` costs no round trip, and one after `send` costs that of the packets."""
         self._check()
-        self._session.post(self, "#> next")
+        if not self._adds_next:
+            self._session.post(self, "#> next on")
+            self._adds_next = True
         self._session.exchange()
         return self._next
 
@@ -141,10 +146,10 @@ class Link:
         elif kind == b"packet" and packet is not None:
             packet.number = int(words[2])
             self._name(packet)
-        elif kind == b"next":
-            self._next = None if words[2] == b"none" else int(words[2])
         elif kind == b"over":
-            self.is_over, self.now = True, int(words[2])
+            self.is_over, self.now, self._next = True, int(words[2]), None
+        if words[-2] == b"next":
+            self._next = None if words[-1] == b"none" else int(words[-1])
         self._early.clear()
         if line[0] != "#":
             self._transcript.write(line.encode() + b"\n")

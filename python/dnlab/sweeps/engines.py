@@ -11,8 +11,9 @@ from functools import partial
 from pathlib import Path
 from typing import IO, Iterable, Iterator, Optional, Sequence
 
-from dnlab.errors import Failed
+from dnlab.errors import Failed, cause_of
 from dnlab.io.outputs import whole_file
+from dnlab.io.report_bound import most_report
 from dnlab.io.splitting import groups
 from dnlab.processes import children, ending
 from dnlab.processes.children import Killed
@@ -24,6 +25,7 @@ from dnlab.sweeps.jobs import How, Job, Stop
 # its own and renames, so that a part has a whole report or none, even where an array that was given up still runs
 # beside a later one.
 TASK = """#!/bin/sh
+ulimit -f {blocks}
 worst=0
 for part in $(sed -n "${{SLURM_ARRAY_TASK_ID}}p" tasks); do
   {program} alone <$part.txt >$part.out.$SLURM_JOB_ID 2>$part.err
@@ -47,6 +49,11 @@ def version_of(program: str) -> bytes:
         return children.run([program, "--version"]).out
     except Killed:
         return b""
+
+
+def _most(parts: Sequence[Job]) -> int:
+    """How many bytes the longest report of some parts has at most."""
+    return max((most_report(part.text) for part in parts), default=0)
 
 
 def laid_down(how: How, program: str, parts: Sequence[Job], folder: Path) -> None:
@@ -84,7 +91,8 @@ def _alone(program: str, job: Job) -> None:
     """Runs a part, for another process."""
     with open(job.file("half"), "wb") as out:
         try:
-            done = children.run([program, "alone"], job.file("txt").read_bytes(), out)
+            text = job.file("txt").read_bytes()
+            done = children.run([program, "alone"], text, out, most_report(text))
             status, errors = done.status, done.errors
         except Killed as killed:
             status, errors = -int(signal.Signals[killed.said.split("ended by ")[-1].split()[0]]), b""
@@ -142,7 +150,7 @@ def by_parallel(how: How, program: str, waiting: Sequence[Job], folder: Path) ->
     (folder / "joblog").unlink(missing_ok=True)
     with open(folder / "engine.err", "wb") as errors:
         with children.child([*command, *(str(part.number) for part in waiting)], _end_parallel, death=signal.SIGTERM,
-                            cwd=folder, stdin=subprocess.DEVNULL, stdout=subprocess.DEVNULL, stderr=errors,
+                            most=_most(waiting), cwd=folder, stdin=subprocess.DEVNULL, stdout=subprocess.DEVNULL, stderr=errors,
                             env={**os.environ, "PARALLEL_SHELL": "/bin/sh"}) as engine:
             yield from _waited(engine)
 
@@ -178,7 +186,7 @@ def by_slurm(how: How, program: str, waiting: Sequence[Job], folder: Path) -> It
     """Runs parts as one array, of as many tasks as Slurm takes; where this run is ended the array is cancelled."""
     ends = groups([max(len(part.text), 1) for part in waiting], min(how.parts, most_tasks()))
     tasks = [waiting[begin:end] for begin, end in zip([0, *ends], ends)]
-    (folder / "task").write_text(TASK.format(program=shlex.quote(how.program or program)))
+    (folder / "task").write_text(TASK.format(program=shlex.quote(how.program or program), blocks=_most(waiting) // 512 + 1))
     (folder / "tasks").write_text("".join(" ".join(str(part.number) for part in task) + "\n" for task in tasks))
     array = f"1-{len(tasks)}" + (f"%{how.jobs}" if how.jobs else "")
     name = f"dnlab-{secrets.token_hex(8)}"
@@ -255,4 +263,4 @@ def put_together(out: Optional[str], parts: Sequence[Job]) -> None:
             with whole_file(out) as file:
                 _join(parts, file)
     except OSError as error:
-        raise Stop(3, f"spread: write: {error.strerror}\n") from error
+        raise Stop(3, f"spread: {cause_of(error)}\n") from error

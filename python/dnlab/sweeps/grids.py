@@ -7,15 +7,12 @@ from collections import Counter
 from typing import Any, Iterable, Mapping, NamedTuple, Sequence
 
 from dnlab.errors import Faulty
-from dnlab.sweeps.templates import GIVEN, Value, shown, value_of
+from dnlab.sweeps.templates import Value, shown, value_of, why_taken
 
 _MOST_NAME = 32
 _MOST_SEED = 2**64 - 1
 # All experiments of a sweep are listed before the first is run.
 _MOST = 10**6
-# Columns of the tables, which a setting can't be called.
-TAKEN = (*GIVEN, "experiment", "of", "stat", "unit", "n", "mean", "low", "high", "least", "greatest", "level", "method",
-         "marks", "needed", "base", "value", "differs", "sender", "min", "max", "warnings")
 
 
 class Case(NamedTuple):
@@ -70,6 +67,10 @@ def cases_of(grid: Mapping[str, Sequence[Any]], seeds: Iterable[int]) -> list[Ca
     if count > 1:
         first, second = [case for case in found if case.name == name][:2]
         raise Faulty(f"two experiments have one name: {first.told()} and {second.told()}")
+    for setting, values in grid.items():
+        bad = next((value for value in values if isinstance(value, str) and not value.isprintable()), None)
+        if bad is not None:
+            raise Faulty(f"{setting}={bad!r}: a setting is of one line, without control characters")
     for case in found:
         if not 0 <= case.seed <= _MOST_SEED:
             raise Faulty(f"seed {case.seed}: it is from 0 to {_MOST_SEED}")
@@ -86,9 +87,9 @@ def setting_of(text: str) -> tuple[str, list[Value]]:
     values = [word.strip() for word in rest.split(",")]
     if not equals or not re.fullmatch("[A-Za-z_][A-Za-z0-9_]*", name):
         raise ValueError(f"{text!r}: NAME=VALUE[,VALUE..] is wanted, as queue=10,25")
-    if name in TAKEN:
-        why = "--seeds gives them" if name == "seed" else f"the tables, or a template, have this name; so {', '.join(TAKEN)}"
-        raise ValueError(f"{text!r}: no setting can be called {name}: {why}")
+    taken = why_taken(name)
+    if taken is not None:
+        raise ValueError(f"{text!r}: {taken}")
     if "" in values:
         raise ValueError(f"{text!r}: an empty value")
     if len(set(values)) < len(values):

@@ -10,7 +10,7 @@ from typing import Any, Optional, Sequence, Union
 
 from dnlab.analysis.asking import Ask, Found
 from dnlab.analysis.notes import Note
-from dnlab.errors import Failed, Faulty
+from dnlab.errors import Failed, Faulty, Lacking
 from dnlab.processes import children
 
 _MADE = "CREATE TABLE IF NOT EXISTS answers (key TEXT PRIMARY KEY, found TEXT NOT NULL, checksum TEXT NOT NULL)"
@@ -111,7 +111,8 @@ class Kept:
         return self._base
 
     def _refused(self, fault: sqlite3.Error) -> Faulty:
-        return Faulty(f"{self.path}: what was found can't be kept there: {fault} (--kept names another file)")
+        is_room = str(getattr(fault, "sqlite_errorname", "")).startswith(("SQLITE_FULL", "SQLITE_IOERR", "SQLITE_READONLY"))
+        return (Lacking if is_room else Faulty)(f"{self.path}: what was found can't be kept there: {fault} (--kept names another file)")
 
     def close(self) -> None:
         """Leaves the file; what isn't whole in it is undone."""

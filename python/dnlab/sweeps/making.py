@@ -1,18 +1,21 @@
 """Makes the texts of experiments in a process of its own: one that calculates without end, or wants too much memory, is
 ended, and what began it goes on."""
 import resource
+import signal
 from functools import lru_cache
 from pathlib import Path
-from typing import Any, Mapping, Optional, Union
+from typing import Any, Mapping, NoReturn, Optional, Union
 
 from dnlab.errors import Faulty
 from dnlab.processes.children import Killed
 from dnlab.processes.crew import Crew
-from dnlab.sweeps.templates import Template
+from dnlab.sweeps.templates import Template, TooLong
 
-# The time that one text may take, in seconds, and the memory that is wanted for it, in bytes.
-MOST_SECONDS = 20.0
-MOST_MEMORY = 2**30
+# The processor time that one text may take, in seconds, and the memory that is wanted for it, in bytes.
+MOST_SECONDS = 10.0
+MOST_MEMORY = 2**29
+# How much longer is waited for a process that doesn't heed its signal, or gets no processor.
+_PATIENCE = 6.0
 
 
 @lru_cache(maxsize=1)
@@ -24,9 +27,17 @@ def _template(source: Union[str, Path]) -> Template:
     return Template(source)
 
 
-def made(source: Union[str, Path], name: str, seed: int, settings: Mapping[str, Any]) -> str:
-    """The text of an experiment, for another process."""
-    return _template(source).made(name, seed, settings)
+def made(source: Union[str, Path], name: str, seed: int, settings: Mapping[str, Any], seconds: float) -> str:
+    """Makes the text of an experiment in this process, whose main thread calls; `Faulty` has the line where the time is over."""
+    def stop(*_: object) -> NoReturn:
+        raise TooLong(f"its text takes more than {seconds:.0f} s to make")
+
+    signal.signal(signal.SIGPROF, stop)
+    signal.setitimer(signal.ITIMER_PROF, seconds)
+    try:
+        return _template(source).made(name, seed, settings)
+    finally:
+        signal.setitimer(signal.ITIMER_PROF, 0)
 
 
 class Maker:
@@ -45,8 +56,8 @@ class Maker:
             self._crew = Crew(1)
         source = self._template.text if self._template.path is None else self._template.path
         try:
-            self._crew.give(name, made, source, name, seed, dict(settings))
-            outcome = self._crew.next(MOST_SECONDS)
+            self._crew.give(name, made, source, name, seed, dict(settings), MOST_SECONDS)
+            outcome = self._crew.next(_PATIENCE * MOST_SECONDS)
         except TimeoutError:
             self.close()
             raise Faulty(f"{self._template.name}: {told}: its text takes more than {MOST_SECONDS:.0f} s to make") from None

@@ -9,6 +9,7 @@ from dnlab.analysis.view import View
 from dnlab.errors import Failed, Refused
 from dnlab.io.pieces import pieces
 from dnlab.io.report import read_piece
+from dnlab.io.report_bound import most_report
 from dnlab.io.scenario import read
 from dnlab.io.scenario_parts import Plan
 from dnlab.processes import children
@@ -18,7 +19,8 @@ def measured(texts: Sequence[str], asks: Sequence[Ask], program: str, span: Span
     """Runs some experiments, each with a text of its own, as one scenario; what they answer, in order. `Failed` with the
     program's status and what it said, and where its report isn't theirs."""
     with tempfile.TemporaryFile() as out:
-        done = children.run([program, "alone"], "".join(texts).encode(), out)
+        text = "".join(texts).encode()
+        done = children.run([program, "alone"], text, out, most_report(text))
         if done.status:
             raise Failed(done.status, done.said() or f"{program} ended with status {done.status}")
         out.seek(0)

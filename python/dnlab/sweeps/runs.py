@@ -12,6 +12,7 @@ from dnlab.io.origin import Origin, origin_of, write_beside
 from dnlab.io.outputs import whole_file
 from dnlab.io.packed import unpacked
 from dnlab.io.pieces import pieces
+from dnlab.io.report_bound import most_report
 from dnlab.io.scenario import read
 from dnlab.io.scenario_parts import MOST_BYTES, MOST_EXPERIMENTS
 from dnlab.io.splitting import experiments_in, texts_of
@@ -25,8 +26,8 @@ def run(text: Union[str, bytes, Path], workers: int = 1, moves: Optional[int] = 
         names: Optional[Mapping[str, str]] = None) -> Report:
     """Runs a scenario and gives its report, joined with it.
 
-    text     the scenario, or the path of its file, which may be packed by gzip; it may have more experiments and bytes
-             than the program takes at once, and is then run in several texts, one after the other
+    text     the scenario, or the path of its file (a str of one line is one), which may be packed by gzip; it may have more experiments and bytes
+             than the program takes at once, and is then run in several texts, one after the other. A str may lack its last line feed
     workers  how many threads run its experiments, 1 to 16
     moves    after how many turns a thread offers an experiment to the others
     out      the report's file; what made it is kept beside it, as OUT.json. Else it is a temporary one, which lives as
@@ -39,8 +40,10 @@ def run(text: Union[str, bytes, Path], workers: int = 1, moves: Optional[int] = 
     A scenario that the program refuses raises `Failed`, whose `said` has `line L: CAUSE` (L counts in `text`), and what
     `--explain` says. So does a program that ends with status 0 and whose report lacks an experiment.
     """
+    if isinstance(text, str) and text and "\n" not in text and not text.startswith("experiment "):
+        text = Path(text)
     runner = _runner(engine, workers, moves, dnlab)
-    data = unpacked(text.read_bytes()) if isinstance(text, Path) else text.encode() if isinstance(text, str) else text
+    data = unpacked(text.read_bytes()) if isinstance(text, Path) else _typed(text) if isinstance(text, str) else text
     if names:
         # Before anything is run; a faulty scenario is refused by the program.
         with suppress(Refused):
@@ -60,6 +63,11 @@ def run(text: Union[str, bytes, Path], workers: int = 1, moves: Optional[int] = 
     return Report(report, scenario, room, origin, names)
 
 
+def _typed(text: str) -> bytes:
+    """A text in Python's quotes, where the last line feed is easily left out; of a file its lack may mean that it was cut."""
+    return (text if text.endswith("\n") or not text else text + "\n").encode()
+
+
 class _Program(NamedTuple):
     """A program that is started for each text, with these words behind it."""
     path: str
@@ -68,7 +76,7 @@ class _Program(NamedTuple):
 
     def write(self, text: bytes, out: BinaryIO) -> tuple[int, str]:
         """Writes the report of a text; gives the status and what was said."""
-        done = children.run([self.path, *self.words], text, out)
+        done = children.run([self.path, *self.words], text, out, most_report(text))
         return done.status, done.said()
 
     def explained(self, text: bytes) -> str:

@@ -1,6 +1,7 @@
 """Sweeps: a template, a grid of settings and seeds; each experiment is made, run and read, and groups get intervals."""
 import re
 import shlex
+from functools import cached_property
 from pathlib import Path
 from typing import Any, Iterable, Iterator, Mapping, Optional, Sequence, Union
 
@@ -19,12 +20,12 @@ from dnlab.processes.crew import Crew
 from dnlab.processes.progress import Progress
 from dnlab.programs import program as program_of
 from dnlab.sweeps.batches import Answered, Waiting, answer_of, judged, raise_first, steps_of, together
-from dnlab.sweeps.grids import TAKEN, Case, cases_of
+from dnlab.sweeps.grids import Case, cases_of
 from dnlab.sweeps.kept import Kept, checksum, program_checksum
 from dnlab.sweeps.making import Maker
 from dnlab.sweeps.measuring import measured
 from dnlab.sweeps.swept import Swept
-from dnlab.sweeps.templates import Template, shown
+from dnlab.sweeps.templates import Template, shown, why_taken
 
 # An experiment's name hangs on the order of --set, and its answers don't.
 _HEADING = re.compile(r"^( *experiment +)\S+", re.MULTILINE)
@@ -56,8 +57,9 @@ class Sweep(Swept):
                  anew: bool = False, allow: Sequence[str] = (), parts: Optional[int] = None, span: Span = Span()) -> None:
         self.template = Template(template)
         for name in grid:
-            if name in TAKEN:
-                raise Faulty(f"no setting can be called {name}: the tables, or a template, have this name")
+            taken = why_taken(name)
+            if taken is not None:
+                raise Faulty(taken)
             if name not in self.template.names:
                 raise Faulty(f"{self.template.name}: {name} is set, and there is no {{{{ {name} }}}} in it")
         self.settings = list(grid)
@@ -194,8 +196,7 @@ class Sweep(Swept):
         failures: list[Failed] = []
         with Crew[tuple[Waiting, ...]](min(self.workers, max(len(waiting), 1))) as crew:
             def begin(batch: Sequence[Waiting]) -> None:
-                crew.give(tuple(batch), measured, [self.text(one.case) for one in batch], self.asks, program,
-                          self.span)
+                self.give(crew, batch, program)
 
             for batch in together(waiting, self.workers):
                 begin(batch)
@@ -204,6 +205,10 @@ class Sweep(Swept):
             while len(crew):
                 yield from self._taken(crew, begin, failures)
         raise_first(failures)
+
+    def give(self, crew: "Crew[tuple[Waiting, ...]]", batch: Sequence[Waiting], program: str) -> None:
+        """Has a process run some experiments and read their report."""
+        crew.give(tuple(batch), measured, [self.text(one.case) for one in batch], self.asks, program, self.span)
 
     def _taken(self, crew: Crew[tuple[Waiting, ...]], begin: Any, failures: list[Failed]) -> Iterator[Answered]:
         """What the next job gives. Experiments of a text that failed are begun anew one by one: so it is told which of
@@ -218,16 +223,25 @@ class Sweep(Swept):
             for one in batch:
                 begin([one])
 
-    def changeless(self) -> Optional[str]:
-        """The warning if the seeds change nothing, so that intervals would have no width."""
+    @cached_property
+    def unseeded(self) -> frozenset[str]:
+        """The experiments of settings whose seeds change nothing: the texts are the same, and no pipe loses by a `plr`."""
         by_setting: dict[tuple[str, ...], list[Case]] = {}
         for case in self.cases:
             by_setting.setdefault(tuple(map(str, case.settings.values())), []).append(case)
+        found: list[str] = []
         for same in by_setting.values():
             texts = [re.sub("^ *experiment .*", "", self.text(case), flags=re.MULTILINE) for case in same[:2]]
-            if len(texts) < 2 or texts[0] != texts[1] or re.search(r" plr +(?!0(\.0*)?( |$))", texts[0], re.MULTILINE):
-                return None
-        return "the seeds change nothing: the template draws nothing by rng, and no pipe loses by a plr"
+            if len(texts) == 2 and texts[0] == texts[1] and not re.search(r" plr +(?!0(\.0*)?( |$))", texts[0], re.MULTILINE):
+                found += [case.name for case in same]
+        return frozenset(found)
+
+    def changeless(self) -> Optional[str]:
+        """The warning if seeds change nothing, so that their runs are one."""
+        if not self.unseeded:
+            return None
+        of = "" if len(self.unseeded) == len(self.cases) else f"of {len(self.unseeded)} experiments "
+        return f"{of}the seeds change nothing: the template draws nothing by rng, and no pipe loses by a plr; so n is 1"
 
     def notes(self) -> list[tuple[str, Note]]:
         """What may be silently wrong in experiments that were run, with their names."""

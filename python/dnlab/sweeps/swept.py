@@ -1,10 +1,11 @@
 """The tables and the picture of a sweep, by what its experiments answered."""
 import re
+from functools import cached_property
 from typing import Any, Optional, Sequence
 
 import pandas as pd
 
-from dnlab.analysis import frames, names, seeds as over_seeds
+from dnlab.analysis import frames, seeds as over_seeds
 from dnlab.analysis.asking import Ask, Found, unit_of
 from dnlab.analysis.figures import Kind, interval as interval_of
 from dnlab.analysis.metrics import is_named
@@ -13,12 +14,16 @@ from dnlab.sweeps.templates import shown
 
 
 class Swept:
-    """What a sweep tells once it was run: the `raw_` tables by the names that rows have within the package, the others by
-    those that users of pandas expect."""
+    """The tables of a sweep, which runs when the first is asked for."""
     cases: list[Case]
     asks: Sequence[Ask]
     settings: list[str]
     found: dict[str, Found]
+
+    @cached_property
+    def unseeded(self) -> frozenset[str]:
+        """The experiments whose seeds change nothing: several of a setting are one."""
+        return frozenset()
 
     def run(self) -> None:
         """Has all experiments answer."""
@@ -27,14 +32,6 @@ class Swept:
     def rows(self) -> pd.DataFrame:
         """A row for each experiment and each of whom was asked: its settings, seed, experiment, sender, a column for each
         stat (times in ns, rates in bit/s, sizes in bytes; <NA> where it can't be told or wasn't asked), warnings."""
-        return self.with_names(self.raw_rows())
-
-    def with_names(self, frame: pd.DataFrame) -> pd.DataFrame:
-        """A table by the names in use now; settings and stats stay as they are called."""
-        return names.named(frame, keep=[*self.settings, *self.stats()])
-
-    def raw_rows(self) -> pd.DataFrame:
-        """The same by the names of rows within the package."""
         self.run()
         stats = self.stats()
         is_text = {name: not all(isinstance(case.settings[name], (int, float)) for case in self.cases)
@@ -52,9 +49,9 @@ class Swept:
                     for of, value in {**nobody, **found.values[ask.of][stat]}.items():
                         own.setdefault(of, {})[stat] = value
             marks = " ".join(dict.fromkeys(note.mark for note in found.notes))
-            rows += [{**settings, "seed": case.seed, "experiment": case.name, "of": of, **values, "marks": marks}
+            rows += [{**settings, "seed": case.seed, "experiment": case.name, "sender": of, **values, "warnings": marks}
                      for of, values in own.items()]
-        return frames.of_rows(rows, [*self.settings, "seed", "experiment", "of", *stats, "marks"])
+        return frames.of_rows(rows, [*self.settings, "seed", "experiment", "sender", *stats, "warnings"])
 
     def stats(self) -> list[str]:
         """All stats that are asked, each once."""
@@ -62,20 +59,12 @@ class Swept:
 
     def long(self) -> pd.DataFrame:
         """The same in long form: a row for each experiment, sender and stat, with its `unit` and `value`."""
-        return self.with_names(self.raw_long())
-
-    def raw_long(self) -> pd.DataFrame:
-        """The same by the names of rows within the package."""
-        rows = self.raw_rows()
+        rows = self.rows()
         return over_seeds.long_of(rows, self.settings, self.stats())
 
     def compare(self, along: str, base: Any = None, level: float = 95, interval: Kind = "t") -> pd.DataFrame:
         """The values of a setting beside one of them, seed by seed (see `dnlab.analysis.seeds.compared`)."""
-        return self.with_names(self.raw_compare(along, base, level, interval))
-
-    def raw_compare(self, along: str, base: Any = None, level: float = 95, interval: Kind = "t") -> pd.DataFrame:
-        """The same by the names of rows within the package."""
-        rows = self.raw_rows()
+        rows = self.rows()
         return over_seeds.compared(rows, self.settings, self.stats(), along, base, level, interval)
 
     def table(self, level: float = 95, interval: Kind = "t", within: Optional[float] = None) -> pd.DataFrame:
@@ -83,25 +72,22 @@ class Swept:
         its interval, Student's t or the bootstrap), min and max, in `unit`; the interval's level and method; and the warnings
         of its experiments (see `view.Note`). With `within`, a share of the mean as 0.05, `needed` is how many seeds have an
         interval of at most so much to both sides (see `dnlab.analysis.seeds.needed`)."""
-        return self.with_names(self.raw_table(level, interval, within))
-
-    def raw_table(self, level: float = 95, interval: Kind = "t", within: Optional[float] = None) -> pd.DataFrame:
-        """The same by the names of rows within the package."""
-        rows = self.raw_rows()
+        rows = self.rows()
         found: list[dict[str, Any]] = []
-        by = [*self.settings, "of"]
+        by = [*self.settings, "sender"]
         for keys, group in rows.groupby(by if len(by) > 1 else by[0], sort=False, dropna=False):
             own = dict(zip(by, keys if isinstance(keys, tuple) else (keys,)))
-            marks = " ".join(dict.fromkeys(word for words in group.marks for word in words.split()))
-            for stat in self._stats_of(own["of"]):
+            marks = " ".join(dict.fromkeys(word for words in group.warnings for word in words.split()))
+            for stat in self._stats_of(own["sender"]):
                 values = [float(value) for value in group[stat].dropna()]
+                values = values[:1] if set(group.experiment) <= self.unseeded else values
                 made = interval_of(values, level, interval)
                 found.append({**own, "stat": stat, "unit": unit_of(stat), **over_seeds.columns_of(made),
-                              "least": min(values, default=None), "greatest": max(values, default=None),
-                              "level": level, "method": interval, "marks": marks,
+                              "min": min(values, default=None), "max": max(values, default=None),
+                              "level": level, "method": interval, "warnings": marks,
                               "needed": None if within is None else over_seeds.needed(values, within, level)})
-        return frames.of_rows(found, [*self.settings, "of", "stat", "unit", "n", "mean", "low", "high", "least",
-                                      "greatest", "level", "method", "marks", *(["needed"] if within is not None else [])])
+        return frames.of_rows(found, [*self.settings, "sender", "stat", "unit", "n", "mean", "low", "high", "min",
+                                      "max", "level", "method", "warnings", *(["needed"] if within is not None else [])])
 
     def _stats_of(self, of: str) -> list[str]:
         """The stats that were asked of somebody, in the order in which they were."""
@@ -112,4 +98,4 @@ class Swept:
         `rows`, `columns`, `labels` and `log` are those of `dnlab.plot.curves.Look`."""
         from dnlab.plot import curves
 
-        return curves.figure_of(self.raw_table(level, interval), self.settings, curves.Look(**look))
+        return curves.figure_of(self.table(level, interval), self.settings, curves.Look(**look))

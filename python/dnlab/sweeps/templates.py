@@ -1,4 +1,5 @@
 """Templates of scenarios, in Jinja2 (Debian: python3-jinja2): a text in which settings, the seed and chance stand open."""
+import math
 import os
 import re
 from decimal import Decimal
@@ -19,9 +20,31 @@ from dnlab.sweeps.traffic import Traffic
 Value = Union[int, float, str]
 # What a template is given besides the settings.
 GIVEN = ("name", "seed", "rng", "traffic")
+# The columns of the tables, besides those of the settings.
+COLUMNS = ("experiment", "sender", "stat", "unit", "n", "mean", "low", "high", "min", "max", "level", "method", "warnings",
+           "needed", "base", "value", "differs")
 _TEXT = "<template>"
 # A loop over more numbers would make a text that no program takes.
 _MOST_NUMBERS = 10**6
+# So many bytes may a whole number have.
+_MOST_DIGITS = 1 << 10
+
+
+def why_taken(name: str) -> Optional[str]:
+    """Why no setting can be called so, and what to call it; None where it can.
+
+    >>> why_taken("n"), why_taken("queue")
+    ('no setting can be called n: the tables have a column of this name: call it n_ here and in the template', None)
+    """
+    if name == "seed":
+        why = "--seeds gives them"
+    elif name in GIVEN:
+        why = f"every template is given one: call it {name}_ here and in the template"
+    elif name in COLUMNS:
+        why = f"the tables have a column of this name: call it {name}_ here and in the template"
+    else:
+        return None
+    return f"no setting can be called {name}: {why}"
 
 
 class Written(float):
@@ -120,6 +143,32 @@ class _Numbers:
         return iter(self._range)
 
 
+class _Sandbox(jinja2.sandbox.SandboxedEnvironment):
+    """Keeps a template from all but what is given to it, and from results that no scenario has room for."""
+
+    intercepted_binops = frozenset(("*", "**", "+", "%"))
+
+    def call_binop(self, context: jinja2.runtime.Context, operator: str, left: Any, right: Any) -> Any:
+        """Calculates where the result, by its operands, has at most as many bytes as a scenario."""
+        size = most = MOST_BYTES
+        if isinstance(left, int) and isinstance(right, int):
+            bits = left.bit_length() * abs(right) if operator == "**" else left.bit_length() + right.bit_length()
+            size, most = bits // 8, _MOST_DIGITS
+        elif operator == "%" and isinstance(left, str):
+            size = MOST_BYTES + 1 if "*" in left else max(map(int, re.findall(r"[0-9]{1,18}", left)), default=0)
+        elif operator == "*":
+            size = math.prod(value if isinstance(value, int) else len(value) if hasattr(value, "__len__") else 1 for value in (left, right))
+        elif operator == "+":
+            size = sum(len(value) for value in (left, right) if hasattr(value, "__len__"))
+        if size > most:
+            raise OverflowError(f"the result of `{operator}` would have {size} bytes")
+        return super().call_binop(context, operator, left, right)
+
+
+class TooLong(jinja2.TemplateRuntimeError):
+    """The time for a text is over; a signal raises it where the template is."""
+
+
 class _Loader(jinja2.FileSystemLoader):
     """Templates of a folder, but no hidden file and no link out of it; keeps which files were read, so that their lines
     are known in a traceback."""
@@ -157,8 +206,7 @@ class Template:
         self._source = source
         folder = Path(".") if self.path is None else self.path.parent
         self._loader = _Loader(folder, "" if self.path is None else self.path.name)
-        # The sandbox keeps a template from all but what is given to it; also from what hangs on the machine or the day.
-        self._environment = jinja2.sandbox.SandboxedEnvironment(
+        self._environment = _Sandbox(
             loader=self._loader, undefined=jinja2.StrictUndefined, keep_trailing_newline=True,
             # Nothing is calculated before a text is made, which has its limits (`making`): so nothing is optimized, and
             # what is printed takes the context, which isn't there before.
@@ -229,8 +277,9 @@ class Template:
         if isinstance(fault, jinja2.TemplateNotFound):
             cause = f"there is no template {fault.name}"
         elif isinstance(fault, jinja2.UndefinedError):
-            known = ", ".join(GIVEN)
-            cause += f" (settings are given by --set, and every template has {known})"
+            undefined = re.match(r"'(\w+)' is undefined", cause)
+            taken = why_taken(undefined[1]) if undefined else None
+            cause += f" ({taken})" if taken else f" (settings are given by --set, and every template has {', '.join(GIVEN)})"
         elif not isinstance(fault, jinja2.TemplateError):
             cause = f"{type(fault).__name__}: {cause}"
         return f"{file}: line {line}: {cause}" if line else f"{file}: {cause}"

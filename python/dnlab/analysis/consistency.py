@@ -1,0 +1,177 @@
+"""Refuses a report that its scenario can't have: losses, packets in flight, steps, instances and the ways of packets.
+
+What no line tells, as CoDel's times before its first drop, isn't compared (docs/reference/tools.md).
+"""
+from __future__ import annotations
+
+import math
+from typing import TYPE_CHECKING
+
+import numpy as np
+
+from dnlab.analysis import routes
+from dnlab.analysis.packets import DROPPED, HELD
+from dnlab.errors import Refused
+from dnlab.io.digits import Flags, Ints
+from dnlab.io.lines import ACK, CAUSES, DELIVER, EXPIRE, FINISH, OK, PASS, REFUSED, pipe_name
+from dnlab.io.scenario_parts import MASKS
+
+if TYPE_CHECKING:
+    from dnlab.analysis.view import View
+
+_DENIED, _LOST, _FULL, _CODEL, _BUDGET = (DROPPED + CAUSES.index(cause) for cause in ("denied", "lost", "full", "codel", "budget"))
+# Losses less likely than this aren't taken for chance.
+_SURELY_NOT = 1e-10
+_NEVER = 2**62
+
+
+def check_consistency(view: View) -> None:
+    """Raises `Refused` where the report can't be the scenario's; `view` has a plan."""
+    for check in (_steps, _budget, _losses, _thresholds, _ways, _instances):
+        check(view)
+
+
+def _no(view: View, cause: str) -> Refused:
+    return Refused(view.experiment.line, f"experiment {view.name}: {cause}: the report isn't this scenario's")
+
+
+def _steps(view: View) -> None:
+    assert view.plan is not None
+    words = np.bincount(view.experiment.columns.word[view.experiment.columns.word >= 0], minlength=32)
+    least = int(words[[OK, REFUSED, FINISH, PASS, DELIVER, EXPIRE]].sum())
+    if least > view.plan.steps:
+        raise _no(view, f"its lines take {least} steps, where the scenario has `steps {view.plan.steps}`")
+
+
+def _in_flight(begins: Ints, ends: Ints, moments: Ints, side_begin: str, side_end: str) -> Ints:
+    """How many packets are in flight at some moments; the sides say whether those of the same moment count."""
+    return np.searchsorted(np.sort(begins), moments, side_begin) - np.searchsorted(np.sort(ends), moments, side_end)  # type: ignore
+
+
+def _budget(view: View) -> None:
+    assert view.plan is not None
+    packets = view.packets
+    own = packets.outcome != _BUDGET
+    begins, ends = packets.made[own], np.where(packets.outcome[own] == HELD, _NEVER, packets.ended[own])
+    # Those that ended in a moment before those that were made in it, so that no more are counted than there were.
+    lasting = ends > begins
+    most = _in_flight(begins[lasting], ends[lasting], begins[lasting], "right", "right").max(initial=0)
+    if most > view.plan.budget:
+        raise _no(view, f"{most} packets are in flight at once, where the scenario has `budget {view.plan.budget}`")
+    moments = packets.ended[~own]
+    if len(moments) and _in_flight(begins, ends, moments, "right", "left").min() < view.plan.budget:
+        raise _no(view, f"packets are dropped for the budget, with fewer than {view.plan.budget} in flight")
+
+
+def _losses(view: View) -> None:
+    """What a pipe lost, by its `plr`, where that never changes."""
+    shares = {pipe: {change.config.plr for change in changes if change.config is not None} for pipe, changes in view.changes.items()}
+    pipes, served = view.visits.pipe // 256, view.visits.finish >= 0
+    for pipe, share in shares.items():
+        if share == {10**6} and (served & (pipes == pipe)).any():
+            raise _no(view, f"pipe {pipe} served packets, where the scenario has `plr 1`")
+    lossy = [pipe for pipe, share in shares.items() if share != {0}]
+    if len(lossy) != 1 or len(shares[lossy[0]]) != 1:
+        return
+    plr = shares[lossy[0]].pop() / 10**6
+    lost = int(np.count_nonzero(view.packets.outcome == _LOST))
+    came = lost + int(np.count_nonzero(pipes == lossy[0]))
+    more = int(np.count_nonzero(np.isin(view.packets.outcome, (_FULL, _CODEL))))
+    if _chance_below(lost, came, plr) < _SURELY_NOT or _chance_above(lost, came + more, plr) < _SURELY_NOT:
+        raise _no(view, f"{lost} of {came} packets were lost, where the scenario has `plr {plr:g}` in pipe {lossy[0]}")
+
+
+def _chance_below(lost: int, came: int, share: float) -> float:
+    """A bound of the chance that so few of those that came are lost (Chernoff).
+
+    >>> _chance_below(0, 100, 0.5) < 1e-10 < _chance_below(30, 100, 0.5)
+    True
+    """
+    return _chernoff(lost / came, came, share) if came and lost < came * share else 1.0
+
+
+def _chance_above(lost: int, came: int, share: float) -> float:
+    return _chernoff(lost / came, came, share) if came and lost > came * share else 1.0
+
+
+def _chernoff(seen: float, count: int, share: float) -> float:
+    parts = [(seen, share), (1 - seen, 1 - share)]
+    if any(one > 0 and other == 0 for one, other in parts):
+        return 0.0
+    return math.exp(-count * sum(one * math.log(one / other) for one, other in parts if one > 0))
+
+
+def _thresholds(view: View) -> None:
+    """The first `ack` line of a flow has the threshold that it began with."""
+    columns = view.experiment.columns
+    rows = np.flatnonzero((columns.word == ACK) | (columns.word == EXPIRE))
+    flows, first = np.unique(columns.flow[rows], return_index=True)
+    for flow, row in zip(flows.tolist(), rows[first].tolist()):
+        _, sends = view.sends.get(f"flow {flow}", (0, None))
+        if sends is not None and columns.word[row] == ACK and int(columns.more[row]) != sends.ssthresh:
+            raise view.experiment.refused(row, f"flow {flow} has ssthresh {int(columns.more[row])}, where the scenario has"
+                                          f" {sends.ssthresh}: the report isn't this scenario's")
+
+
+def _first_pipes(view: View) -> Ints:
+    """Of each packet the pipe that it came to first; 0 where no line says one. Shape (packets,)."""
+    found = np.zeros(len(view.packets), dtype=np.int64)
+    order = np.argsort(view.visits.arrival, kind="stable")[::-1]
+    found[view.visits.packet[order]] = view.visits.pipe[order] // 256
+    return found
+
+
+def _ways(view: View) -> None:
+    """Where each packet went first, by the rules of its moment."""
+    headers, which = view.headers
+    epochs = view.epochs
+    settled = routes.is_settled(view, epochs, which) & (view.packets.outcome != _BUDGET)
+    at = np.searchsorted(np.array([epoch.moment for epoch in epochs]), view.packets.made, "right") - 1
+    first = _first_pipes(view)
+    for place, epoch in enumerate(epochs):
+        own = np.flatnonzero(settled & (at == place))
+        if not len(own):
+            continue
+        ends = routes.search(epoch, headers)[0][which[own]]
+        fate, pipe = view.packets.outcome[own], first[own]
+        wrong = (ends == routes.DENIED) & (fate != _DENIED) & (fate != HELD)
+        wrong |= (ends == routes.ALLOWED) & ((pipe > 0) | (fate == _DENIED))
+        wrong |= (ends > 0) & (pipe > 0) & (pipe != ends)
+        _refuse_way(view, own, wrong, ends)
+
+
+def _refuse_way(view: View, own: Ints, wrong: Flags, ends: Ints) -> None:
+    if wrong.any():
+        place = int(np.flatnonzero(wrong)[0])
+        said = {routes.DENIED: "deny it", routes.ALLOWED: "allow it at once"}.get(int(ends[place]), f"hand it to pipe {ends[place]} first")
+        raise _no(view, f"packet {own[place]} of {view.packets.names[view.packets.who[own[place]]]} went another way than by the rules,"
+                  f" which {said}")
+
+
+def _instances(view: View) -> None:
+    """Which instance a packet came to, by the mask of its pipe, where that never changes."""
+    headers, which = view.headers
+    known = which[view.visits.packet] >= 0
+    for pipe, changes in view.changes.items():
+        masks = {change.config.mask if change.config else None for change in changes}
+        own = np.flatnonzero(known & (view.visits.pipe // 256 == pipe))
+        if len(masks) != 1 or None in masks or not len(own):
+            continue
+        bits = _bits(str(masks.pop()))
+        keys = headers[which[view.visits.packet[own]]] & bits
+        instances = view.visits.pipe[own] % 256
+        pairs = set(map(tuple, np.unique(np.column_stack((keys, instances)), axis=0).tolist()))
+        if len({pair[:-1] for pair in pairs}) != len(pairs) or len({pair[-1] for pair in pairs}) != len(pairs):
+            raise _no(view, f"packets come to other instances of pipe {pipe} than by its mask, as {pipe_name(int(view.visits.pipe[own[0]]))}")
+
+
+def _bits(mask: str) -> Ints:
+    """The bits of a mask, in the columns of a header."""
+    columns = {"proto": 0, "src-ip": 1, "src-port": 2, "dst-ip": 3, "dst-port": 4}
+    found = np.zeros(len(columns), dtype=np.int64)
+    if mask == "all":
+        return found | 0xffffffff
+    for name, value in zip(mask.split()[::2], mask.split()[1::2]):
+        assert name in MASKS
+        found[columns[name]] = int(value, 16)
+    return found
