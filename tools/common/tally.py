@@ -3,12 +3,13 @@ from collections.abc import Iterable
 
 
 class Tally:
-    """Counts trials; one that failed is said at once, behind the words that stand before each."""
+    """Counts trials, and prints each that fails at once, after the words of `before`."""
 
     def __init__(self, before: str = "") -> None:
         self.before = before
         self.passed = 0
         self.failed = 0
+        self.skipped = 0
 
     def count(self, is_well: object, what: str = "") -> None:
         if is_well:
@@ -24,6 +25,7 @@ class Tally:
             self.count(is_well, f"{before}{name}: not so")
 
     def close(self) -> int:
-        """Says the closing line, and answers the tool's status: 1 where a trial failed or none ran."""
-        print(f"{self.passed} passed, {self.failed} failed", flush=True)
+        """Prints the closing line, and returns the tool's status: 1 if a trial failed or none ran."""
+        skipped = f", {self.skipped} skipped" if self.skipped else ""
+        print(f"{self.passed} passed, {self.failed} failed{skipped}", flush=True)
         return 1 if self.failed or not self.passed else 0

@@ -3,14 +3,16 @@
 # Python).
 passed=0
 failed=0
+skipped=0
 
-# says whether what was tried went well: NAME STATUS
+# Counts a trial, and prints a failed one with the last lines of a file: NAME STATUS [FILE]. The file is no part of the name,
+# since "$(cat FILE)" before $? would make $? the status of cat.
 count() {
   if [ "$2" -eq 0 ]; then
     passed=$((passed + 1))
   else
     failed=$((failed + 1))
-    echo "failed: $1"
+    echo "failed: $1${3:+: $(tail -n 5 "$3")}"
   fi
 }
 
@@ -20,8 +22,12 @@ same() {
   count "$1: '$2', wanted '$3'" $?
 }
 
-# says the closing line; the status is the script's: 1 where a trial failed or none ran
+# prints the closing line; the status is the script's: 1 if a trial failed or none ran
 close() {
-  echo "$passed passed, $failed failed"
+  if [ "$skipped" -gt 0 ]; then
+    echo "$passed passed, $failed failed, $skipped skipped"
+  else
+    echo "$passed passed, $failed failed"
+  fi
   [ "$failed" -eq 0 ] && [ "$passed" -gt 0 ]
 }

@@ -1,9 +1,14 @@
 """What the tools of the gate share: the crates of crates.txt, and what the machine has."""
+import contextlib
+import errno
+import functools
 import hashlib
 import os
 import pathlib
 import re
+import stat
 import subprocess
+import sys
 from typing import Dict, Iterable, List, Optional
 
 # What a check of a crate reads.
@@ -47,10 +52,29 @@ def below(uses: Dict[str, List[str]], names: Iterable[str]) -> List[str]:
     return found
 
 
+@functools.lru_cache(maxsize=None)
 def cache_folder() -> pathlib.Path:
-    """Where what is made of checkouts is kept: `dnlab` in the user's cache folder (XDG base directories)."""
-    named = os.environ.get("XDG_CACHE_HOME", "")
-    return (pathlib.Path(named) if os.path.isabs(named) else pathlib.Path.home() / ".cache") / "dnlab"
+    """Where what is made of checkouts is kept: `dnlab` in the user's cache folder (XDG base directories); where nothing can be written
+    there, a folder of the user's own among the temporary files. Where that can't be either, this ends with status 3."""
+    named, home = (os.environ.get(name, "") for name in ("XDG_CACHE_HOME", "HOME"))
+    base = named if os.path.isabs(named) else f"{home}/.cache" if os.path.isabs(home) else ""
+    if base:
+        with contextlib.suppress(OSError):
+            folder = pathlib.Path(base) / "dnlab"
+            folder.mkdir(parents=True, exist_ok=True)
+            if os.access(folder, os.W_OK | os.X_OK):
+                return folder
+    own = pathlib.Path(os.environ.get("TMPDIR") or "/tmp") / f"dnlab-{os.getuid()}"
+    try:
+        own.mkdir(mode=0o700, exist_ok=True)
+        found = own.lstat()
+        if not stat.S_ISDIR(found.st_mode) or found.st_uid != os.getuid() or found.st_mode & 0o022:
+            raise PermissionError(errno.EACCES, "others can write there", str(own))
+    except OSError as fault:
+        print(f"dnlab: nothing can be kept, neither in {base or 'a cache folder (HOME is not set)'} nor in {fault.filename}: {fault.strerror}"
+              " (XDG_CACHE_HOME names another place)", file=sys.stderr)
+        raise SystemExit(3) from None
+    return own
 
 
 def checkout_name(root: pathlib.Path) -> str:

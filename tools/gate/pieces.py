@@ -9,6 +9,7 @@ from typing import NamedTuple
 PROGRAM, ROOM, MOST = "{program}", "{room}", 0
 CHECKED = "the checked build"
 LIBRARY = "the library"
+KERNEL = "the guest's kernel"
 
 
 class Piece(NamedTuple):
@@ -38,7 +39,6 @@ LAID_OUT = Piece("tools/gate/laid_out", "each crate is laid out", ("tools/gate/l
 SEEN = (
     Piece("tools/gate/map", "the map of docs/explanation/architecture.md has the libraries of crates.txt", ("tools/gate/map",), 1),
     Piece("tools/gate/docs", "links, paths, lines and figures of README.md, CHANGELOG.md, docs/ and the crates' pages", ("tools/gate/docs",), 2),
-    Piece("tools/gate/sentences", "how long their sentences are", ("tools/gate/sentences",), 1),
     Piece("tools/gate/site", "the site of the pages", ("tools/gate/site",), 4, "command -v mkdocs && [ -d /usr/share/mkdocs/themes/material ]"),
     Piece("tools/gate/lint", "what linters say of Python and of scripts of the shell", ("tools/gate/lint",), 50),
     Piece("tools/gate/texts", "the texts of the crate text_examples are those of examples/", ("tools/gate/texts", "--check"), 1),
@@ -53,8 +53,14 @@ MADE = (
     Piece(CHECKED, "the checked build of the sources", ("./dnlab", "program"), 1000),
     Piece(LIBRARY, "the library of the sources", ("sh", "-c", f"tools/library {ROOM}/library || tools/library {ROOM}/library --unproved"), 900,
           "command -v cc"),
+    Piece(KERNEL, "the kernel in which tools/hosts runs programs", ("sh", "-c", "PATH=/usr/bin:$PATH tools/hosts --kernel"), 900,
+          "[ -f /usr/src/linux-source-6.1.tar.xz ] && command -v cc && command -v flex && command -v bison && command -v bc"
+          " && /usr/bin/python3 -c 'import yaml'", (LIBRARY,), MOST),
 )
 MAKERS = {it.name for it in MADE}
+GUEST = Piece("hosts/check_guest", "the guest's kernel, its driver and the link process",
+              ("sh", "-c", "PATH=/usr/bin:$PATH && kernel=$(tools/hosts --kernel) && hosts/check_guest \"$kernel\""), 300, MADE[-1].needs,
+              (CHECKED, KERNEL), is_alone=True)
 PYTHON = "import numpy, pandas, pytest, hypothesis"
 # What is tried by a program, in `quick` and in the whole.
 BY_PROGRAM = (
@@ -66,7 +72,9 @@ BY_PROGRAM = (
     tried("tools/gate/check_library", "the library from C, Python and Rust", 10, needs="command -v cc", after=(LIBRARY,)),
 )
 # Beside those what only the whole tries.
-RELEASE = tried("tools/gate/check_release", "what tools/release makes", 36, needs="command -v dpkg-deb && /usr/bin/python3 -c 'import build, wheel'")
+PACKAGING = "command -v dh && /usr/bin/python3 -c 'import build, wheel'"
+RELEASE = tried("tools/gate/check_release", "what tools/release makes", 60, needs=PACKAGING)
+PACKAGES = tried("tools/gate/check_packages", "the Debian packages in clean roots", 120, needs=f"{PACKAGING} && command -v mmdebstrap")
 SCRIPT = Piece("tools/gate/check_dnlab", "the script ./dnlab, beside a kit that only says what it is told to say", ("tools/gate/check_dnlab",), 16)
 WORKED = "the worked examples of examples/, alone and by many workers"
 # Each number of workers and of moves that the worked examples are run by.
@@ -88,7 +96,7 @@ def of_page(seconds: int, about: str, *words: str) -> Piece:
 def of_python(seconds: int, *words: str) -> Piece:
     """The tests of Python, which take any core."""
     about = "the Python package with its tables, pictures and parts, and the commands of the pages"
-    return tried("tools/gate/check_python", about, seconds, *words, needs=f"python3 -c '{PYTHON}' || /usr/bin/python3 -c '{PYTHON}'", cores=MOST)
+    return tried("tools/gate/check_python", about, seconds, *words, needs=f"python3 -c '{PYTHON}' || /usr/bin/python3 -c '{PYTHON}'", after=(KERNEL,), cores=MOST)
 
 
 LISTS = {
@@ -98,6 +106,7 @@ LISTS = {
         *SEEN,
         SCRIPT,
         *MADE,
+        GUEST,
         tried("examples/check", WORKED, 9, PROGRAM, "--run", "2:64", "--run", "4:1"),
         drawn(1),
         tried("tools/attack/sessions", "sessions beside alone", 3, "--quick"),
@@ -109,6 +118,8 @@ LISTS = {
         # as somebody calls it: ./dnlab finds the proved program
         Piece("examples/check", WORKED, ("env", "-u", "DNLAB", "examples/check", "./dnlab", *WAYS), 40),
         SCRIPT,
+        MADE[-1],
+        GUEST,
         Piece("tools/gate/check_gate", "tools/gate/plants, tools/gate/times and how a module is cut, beside such a kit", ("tools/gate/check_gate",), 9, "command -v git"),
         tried("tools/attack/refusals", "allocations refused in turn, and those of worlds in part", 60, "--quick", needs="command -v cc", is_alone=True),
         tried("tools/attack/sessions", "sessions beside alone", 10, is_alone=True),
@@ -116,6 +127,7 @@ LISTS = {
         *BY_PROGRAM,
         of_page(100, "the playground in Node, Chromium and Firefox, with reports of millions of lines"),
         RELEASE,
+        PACKAGES,
         of_python(700),
     ),
 }

@@ -10,6 +10,7 @@ import re
 import select
 import shutil
 import signal
+import stat
 import subprocess
 import sys
 import tempfile
@@ -24,6 +25,8 @@ RUN = ("args", "stdin", "stdout", "status", "data")
 # What rt ci says of a crate; of its tests it says the same behind a colon.
 PROVED = re.compile(r"rt: (\w+) (proved$|is kept:)")
 NOT_PROVED = re.compile(r"rt: (\w+)(?:: its tests are)? NOT PROVED")
+# How rt begins its verdict on an edit that is refused only because a proof names what the edit took away. That shows nothing of the contract.
+NAMELESS = "refused, as it must be (only because a proof file names"
 # What is told of it beside the crates that are proved.
 TOLD = re.compile(r"rt: (.*(?: NOT PROVED|: trying its must-fail edits| waiting for ).*)")
 # How many lines are shown of what was said of a crate.
@@ -36,6 +39,7 @@ def copy_crates(root: pathlib.Path, names: Sequence[str], to: pathlib.Path, *mor
     """Copies these crates, in the order in which they stand on each other, to a repository of their own: what a proof reads, what their programs
     are run with, and more of their folders."""
     lines = crates.lines_of_crates(root)
+    to.mkdir(parents=True, exist_ok=True)
     for name in names:
         for part in (*crates.PARTS, *RUN, *more):
             one, other = root / "crates" / name / part, to / "crates" / name / part
@@ -49,6 +53,9 @@ def copy_crates(root: pathlib.Path, names: Sequence[str], to: pathlib.Path, *mor
         shutil.copy2(root / "HANDLES", to)
     # By it rt knows the top of a repository.
     (to / ".git").mkdir()
+    # The copy is written to, and taken away, though its original may be read-only.
+    for path in to.rglob("*"):
+        path.chmod(path.stat().st_mode | stat.S_IWUSR)
 
 
 @contextlib.contextmanager

@@ -27,7 +27,7 @@ class Told:
     def tell(self, what: str = "") -> None:
         """Says what is done from now on, or how long it has taken."""
         now = time.monotonic()
-        if what or now - self.last >= (1 if self.is_terminal else TELL):
+        if what or (self.what and now - self.last >= (1 if self.is_terminal else TELL)):
             self.last, self.what = now, what or self.what
             line = f"dnlab: {self.what}, {now - self.began:.0f} s"
             print(f"\r\033[K{line}" if self.is_terminal else line, end="" if self.is_terminal else "\n", file=sys.stderr, flush=True)
