@@ -143,13 +143,18 @@ def test_help_names_the_installed_commands(tmp_path: Path) -> None:
 
 
 def test_pip_install_of_the_sources(tmp_path: Path) -> None:
-    """What pip installs of the sources has no program in it: its script says so, and takes one that is on the PATH, never itself."""
+    """The sources have no program: they are not installed where there is none, and then use one that is on the PATH, never the script itself."""
     shutil.copytree(ROOT / "python", tmp_path / "python", ignore=shutil.ignore_patterns("__pycache__", "tests", "bin"))
     subprocess.run([sys.executable, "-m", "venv", "--without-pip", "--system-site-packages", tmp_path / "v"], check=True, timeout=60)
     pip = [sys.executable, "-m", "pip", "--python", tmp_path / "v/bin/python3", "install", "-q", "--no-index", "--no-deps", "--no-build-isolation"]
     if not all(map(find_spec, ("pip", "setuptools", "wheel"))):
         pytest.skip("python3-pip and python3-wheel aren't there")
-    subprocess.run([*pip, tmp_path / "python"], check=True, timeout=120, capture_output=True)
+    there = script(tmp_path / "there" / "dnlab", "echo the program: $*")
+    bare_path = {"PATH": "/usr/bin:/bin", "HOME": str(tmp_path)}
+    refused = subprocess.run([*pip, tmp_path / "python"], timeout=120, capture_output=True, text=True, check=False, env=bare_path)
+    assert refused.returncode == 1 and "have no program `dnlab`" in refused.stderr and "pip install dnlab-*" in refused.stderr
+    assert not list((tmp_path / "v/bin").glob("dnlab*"))
+    subprocess.run([*pip, tmp_path / "python"], check=True, timeout=120, capture_output=True, env={**bare_path, "DNLAB": str(there)})
     own = tmp_path / "v/bin/dnlab"
     bare = {"PATH": f"{own.parent}:/usr/bin:/bin", "HOME": str(tmp_path)}
 
@@ -159,6 +164,5 @@ def test_pip_install_of_the_sources(tmp_path: Path) -> None:
     lacking = called()
     assert (lacking.returncode, lacking.stdout) == (3, "") and "tools/install" in lacking.stderr and lacking.stderr.count("\n") == 1
     assert called(DNLAB=str(own)).returncode == 2
-    there = script(tmp_path / "there" / "dnlab", "echo the program: $*")
     assert called(PATH=f"{own.parent}:{there.parent}:/usr/bin:/bin").stdout == "the program: --version\n"
     assert called(DNLAB=str(there)).stdout == "the program: --version\n"
