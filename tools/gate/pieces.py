@@ -38,7 +38,7 @@ def tried(name: str, about: str, seconds: int, *words: str, needs: str = "", aft
 LAID_OUT = Piece("tools/gate/laid_out", "each crate is laid out", ("tools/gate/laid_out",), 16)
 SEEN = (
     Piece("tools/gate/map", "the map of docs/explanation/architecture.md has the libraries of crates.txt", ("tools/gate/map",), 1),
-    Piece("tools/gate/docs", "links, paths, lines and figures of README.md, CHANGELOG.md, docs/ and the crates' pages", ("tools/gate/docs",), 2),
+    Piece("tools/gate/docs", "the pages name no file, command, symbol, crate or heading that is not in the tree", ("tools/gate/docs",), 2),
     Piece("tools/gate/site", "the site of the pages", ("tools/gate/site",), 4, "command -v mkdocs && [ -d /usr/share/mkdocs/themes/material ]"),
     Piece("tools/gate/lint", "what linters say of Python and of scripts of the shell", ("tools/gate/lint",), 50),
     Piece("tools/gate/texts", "the texts of the crate text_examples are those of examples/", ("tools/gate/texts", "--check"), 1),
