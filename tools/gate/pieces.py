@@ -120,7 +120,7 @@ LISTS = {
         SCRIPT,
         MADE[-1],
         GUEST,
-        Piece("tools/gate/check_gate", "tools/gate/plants, tools/gate/times and how a module is cut, beside such a kit", ("tools/gate/check_gate",), 9, "command -v git"),
+        Piece("tools/gate/check_gate", "what counts as refused, and that a module in parts keeps its checks, beside such a kit", ("tools/gate/check_gate",), 9, "command -v git"),
         tried("tools/attack/refusals", "allocations refused in turn, and those of worlds in part", 60, "--quick", needs="command -v cc", is_alone=True),
         tried("tools/attack/sessions", "sessions beside alone", 10, is_alone=True),
         drawn(2),
