@@ -1,7 +1,6 @@
 """Trials of the words `--progress` and `--moves` of a dnlab program, by what a user sees of them."""
 import os
 import re
-import shutil
 import subprocess
 import time
 from collections.abc import Iterator
@@ -75,29 +74,10 @@ def processor_time(program: str, words: list[str]) -> float:
     return min(once() for _ in range(3))
 
 
-def instructions(program: str, words: list[str]) -> int | None:
-    """How many instructions one worker takes, as valgrind counts them; None where it can't run the program."""
-    if not shutil.which("valgrind"):
-        return None
-    counting = ["valgrind", "--tool=callgrind", "--callgrind-out-file=/dev/null"]
-    done = subprocess.run([*counting, program, "run", "--workers", "1", *words], input=HELD, capture_output=True, timeout=300)
-    counted = re.search(rb"Collected : (\d+)", done.stderr)
-    return int(counted[1]) if counted and done.returncode == 0 else None
-
-
 def moves(program: str) -> Iterator[Trial]:
-    """An offer packs the experiment. So an offer at each step takes far more time, and twice or half as many take more or
-    fewer instructions."""
+    """An offer packs the experiment, so an offer at each step takes far more time than the usual ones."""
     usual, each = processor_time(program, []), processor_time(program, ["--moves", "1"])
     yield f"an offer at each step takes more time: {each:.3f} s of processor time, {usual:.3f} s by default", each > 2 * usual
-    default = instructions(program, [])
-    if default is None:
-        # A checked build doesn't run under valgrind; the proved program does.
-        return
-    half, same, twice = (instructions(program, ["--moves", str(number)]) or 0 for number in (32, 64, 128))
-    said = f"{default} instructions, {half} with 32, {same} with 64, {twice} with 128"
-    near = abs(default - same)
-    yield f"--moves is 64 where it isn't given: {said}", near < abs(half - same) / 4 and near < abs(twice - same) / 4
 
 
 def trials(program: str) -> Iterator[Trial]:
