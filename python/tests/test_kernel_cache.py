@@ -108,7 +108,7 @@ def test_two_calls_build_once(caller: Caller) -> None:
 
 
 def test_a_line_says_that_it_is_not_proved(caller: Caller) -> None:
-    line = "hosts: libdnlab is the checked build of the sources, not proved (./dnlab prove makes the proved one)\n"
+    line = "hosts: libdnlab is the checked build of the sources, not proved: run ./dnlab prove to build the proved one\n"
     assert line in caller.call("checked")[2] and caller.call("checked")[2] == line
 
 

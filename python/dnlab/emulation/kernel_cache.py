@@ -55,8 +55,8 @@ def kernel() -> Kernel:
     A line on standard error says if its libdnlab is not proved."""
     found = _found()
     if found.is_proved is False:
-        say("hosts", "libdnlab is the checked build of the sources, not proved (./dnlab prove makes the"
-              " proved one)")
+        say("hosts", "libdnlab is the checked build of the sources, not proved: run ./dnlab prove to build"
+              " the proved one")
     return found
 
 
