@@ -102,8 +102,9 @@ def names_in(plans: Iterable[Plan]) -> list[str]:
     flows: dict[int, None] = {}
     trains: dict[int, None] = {}
     pipes: dict[int, None] = {}
-    is_injected = False
-    for command in (command for plan in plans for command in plan.commands):
+    commands = [plan.commands for plan in plans]
+    is_injected = any(own.runs for own in commands)
+    for _, command in (one for own in commands for one in own.plain):
         if command.pipe is not None:
             pipes[command.pipe] = None
         elif command.sends is not None and command.sends.number is not None:

@@ -10,6 +10,7 @@ from typing import TYPE_CHECKING
 import numpy as np
 
 from dnlab.analysis import routes
+from dnlab.analysis.commands import distinct
 from dnlab.analysis.packets import DROPPED, HELD
 from dnlab.errors import Refused
 from dnlab.io.digits import Flags, Ints
@@ -158,10 +159,9 @@ def _instances(view: View) -> None:
         if len(masks) != 1 or None in masks or not len(own):
             continue
         bits = _bits(str(masks.pop()))
-        keys = headers[which[view.visits.packet[own]]] & bits
-        instances = view.visits.pipe[own] % 256
-        pairs = set(map(tuple, np.unique(np.column_stack((keys, instances)), axis=0).tolist()))
-        if len({pair[:-1] for pair in pairs}) != len(pairs) or len({pair[-1] for pair in pairs}) != len(pairs):
+        _, key = distinct(headers & bits)
+        pairs = np.unique(key[which[view.visits.packet[own]]] << 8 | view.visits.pipe[own] % 256)
+        if len(np.unique(pairs >> 8)) != len(pairs) or len(np.unique(pairs & 255)) != len(pairs):
             raise _no(view, f"packets come to other instances of pipe {pipe} than by its mask, as {pipe_name(int(view.visits.pipe[own[0]]))}")
 
 

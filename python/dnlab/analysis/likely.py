@@ -18,7 +18,7 @@ from dnlab.analysis.emissions import first_window
 from dnlab.analysis.notes import Note
 from dnlab.analysis.routes import unmet
 from dnlab.io.lines import ACK, ACKNOWLEDGES, DATA, EXPIRE, pipe_name
-from dnlab.io.scenario_parts import Command, Sends
+from dnlab.io.scenario_parts import Sends
 from dnlab.io.settings import DEFAULTS, Change, Config, stretches_of
 
 if TYPE_CHECKING:
@@ -58,7 +58,7 @@ def spoken(moment: int) -> str:
 def _unsent(view: View) -> Iterator[Note]:
     if view.ended.is_short():
         return
-    stopped = {command.stops for _, command in view.done if command.stops is not None}
+    stopped = {command.stops for _, command in view.done.plain if command.stops is not None}
     packets = dict(view.senders)
     for name, (moment, sends) in view.sends.items():
         own = packets.get(name, np.zeros(0, dtype=np.int64))
@@ -76,7 +76,7 @@ def _unsent(view: View) -> Iterator[Note]:
 
 def _by_pipes(view: View) -> Iterator[Note]:
     """What successive configurations of a pipe tell."""
-    largest = max((command.sends.size for _, command in view.done if command.sends is not None), default=0)
+    largest = max([*(sends.size for _, sends in view.sends.values()), int(view.done.injected.size.max(initial=0))])
     for pipe, changes in view.changes.items():
         for stretch in stretches_of(changes):
             for place, change in enumerate(stretch[1:], 1):
@@ -162,25 +162,25 @@ def _unused(view: View) -> Iterator[Note]:
 
 def _units(view: View) -> Iterator[Note]:
     end = view.ended.moment
-    commands = [command for _, command in view.done]
-    for command in commands:
-        sends = command.sends
+    done, injected = view.done, view.done.injected
+    sent = [(row, command.line, command.moment, command.sends) for row, command in done.plain]
+    odd = np.flatnonzero((injected.columns[0] >= _ODD.start) & (injected.columns[0] < _ODD.stop))
+    sent += zip(done.rows[odd].tolist(), injected.line[odd].tolist(), injected.columns[0, odd].tolist(), [None] * len(odd))
+    for _, line, moment, sends in sorted(sent, key=lambda one: one[0]):
         if sends is not None and sends.count > 1 and 0 < sends.gap and sends.size * 8 * 10**9 > _FASTEST * sends.gap:
-            yield _unit(command, f"gap {sends.gap} is {spoken(sends.gap)}, so the train is faster than any pipe: gaps are"
+            yield _unit(line, f"gap {sends.gap} is {spoken(sends.gap)}, so the train is faster than any pipe: gaps are"
                         f" nanoseconds, {sends.gap} ms is {sends.gap * 10**6}", sends)
-        if command.moment in _ODD and end >= _SHORT:
-            yield _unit(command, f"@{command.moment} is {spoken(command.moment)}: moments are nanoseconds, {command.moment} ms"
-                        f" is @{command.moment * 10**6}")
+        if moment in _ODD and end >= _SHORT:
+            yield _unit(line, f"@{moment} is {spoken(moment)}: moments are nanoseconds, {moment} ms is @{moment * 10**6}")
     for changes in view.changes.values():
         for config in (change.config for change in changes if change.config is not None):
             if 0 < config.bw < _SLOWEST:
                 yield Note("units", f"line {config.line}: {config.words('bw')} is {config.bw} bit/s: is a unit missing, as in"
                            " 10Mbit/s?", "units")
-    sent = [command for command in commands if command.sends is not None]
-    if sent and 0 < end < _SHORT and not view.ended.is_short() and not view.counters.delivered:
-        yield _unit(commands[-1], f"@{end} end is {spoken(end)}, and nothing was delivered by then: moments are nanoseconds,"
+    if (view.sends or len(done.rows)) and 0 < end < _SHORT and not view.ended.is_short() and not view.counters.delivered:
+        yield _unit(done.plain[-1][1].line, f"@{end} end is {spoken(end)}, and nothing was delivered by then: moments are nanoseconds,"
                     f" {end} ms is @{end * 10**6}")
 
 
-def _unit(command: Command, said: str, sends: Sends | None = None) -> Note:
-    return Note("units", f"line {command.line}: {said}", "units", sends.name() if sends is not None else "")
+def _unit(line: int, said: str, sends: Sends | None = None) -> Note:
+    return Note("units", f"line {line}: {said}", "units", sends.name() if sends is not None else "")

@@ -10,11 +10,12 @@ from typing import Optional
 
 import numpy as np
 
+from dnlab.analysis.commands import Done, injected_packets
 from dnlab.analysis.life import Life, limits
 from dnlab.analysis.makings import Makings
 from dnlab.analysis.packets import HELD, Packets, Visits, never_seen
 from dnlab.io.digits import Ints
-from dnlab.io.lines import CAUSES, DATA, DELIVER, DROP, FINISH, OK, PASS, PLAIN, REFUSED, pipe_name
+from dnlab.io.lines import CAUSES, DATA, DELIVER, DROP, FINISH, PASS, PLAIN, pipe_name
 from dnlab.io.report import Recorded
 from dnlab.io.scenario_parts import Command, Plan
 from dnlab.io.settings import Change, changes_of, stretches_of
@@ -38,26 +39,19 @@ class _Fault:
 class Links:
     """Compares an experiment with its plan; `check` raises `Refused` at the first line that differs."""
 
-    def __init__(self, experiment: Recorded, plan: Plan, makings: Makings, packets: Packets, visits: Visits) -> None:
+    def __init__(self, experiment: Recorded, plan: Plan, done: Done, makings: Makings, packets: Packets, visits: Visits) -> None:
         self.experiment = experiment
         self.plan = plan
         self.makings = makings
         self.packets = packets
         self.visits = visits
-        columns = experiment.columns
-        rows = np.flatnonzero((columns.word == OK) | (columns.word == REFUSED)).tolist()
-        self.done = [(row, command) for row, command in zip(rows, plan.commands) if columns.word[row] == OK]
-        self.changes = changes_of(self.done)
+        self.done = done
+        self.changes = changes_of(done.plain)
         self.faults: list[_Fault] = []
         # Of each injected packet the row of its command; -1 of others.
         self.row_of = np.full(len(packets), -1, dtype=np.int64)
-        injected = [(row, command.sends.name()) for row, command in self.done
-                    if command.sends is not None and command.sends.number is None]
-        if injected:
-            senders = {name for _, name in injected}
-            places = [place for place, name in enumerate(makings.names) if name in senders]
-            serials = np.flatnonzero(np.isin(makings.who, places))
-            self.row_of[serials] = np.array([row for row, _ in injected], dtype=np.int64)[:len(serials)]
+        serials = injected_packets(done, makings.who)
+        self.row_of[serials] = done.rows[:len(serials)]
 
     def check(self) -> None:
         lives = self.lives()
@@ -168,8 +162,7 @@ class Links:
 
     def is_whole(self) -> bool:
         """Whether the experiment came to its `end`."""
-        columns = self.experiment.columns
-        return len(self.done) > 0 and self.done[-1][1].word == "end" and int(columns.word[self.done[-1][0]]) == OK
+        return len(self.done.plain) > 0 and self.done.plain[-1][1].word == "end"
 
     def queue(self, life: Life) -> None:
         """Packets that were taken where the queue was full by the scenario."""
@@ -247,9 +240,9 @@ class Links:
         size = int(self.packets.size[packet])
         line: Optional[int] = None
         if self.row_of[packet] >= 0:
-            line = next(command.line for row, command in self.done if row == self.row_of[packet])
+            line = int(self.done.injected.line[np.searchsorted(self.done.rows, self.row_of[packet])])
         else:
-            line = next((command.line for _, command in self.done if _is_of(command, name)), None)
+            line = next((command.line for _, command in self.done.plain if _is_of(command, name)), None)
         return f"line {line}: {name}, {size} bytes" if line is not None else f"{size} bytes"
 
 
@@ -265,6 +258,6 @@ def _service(served: Ints, rate: Ints) -> Ints:
     return np.array([-(-8 * 10**9 * one // by) for one, by in zip(served.tolist(), rate.tolist())], dtype=np.int64)
 
 
-def compare_links(experiment: Recorded, plan: Plan, makings: Makings, packets: Packets, visits: Visits) -> None:
+def compare_links(experiment: Recorded, plan: Plan, done: Done, makings: Makings, packets: Packets, visits: Visits) -> None:
     """Refuses the first line that has finishes, exits or queues otherwise than the scenario."""
-    Links(experiment, plan, makings, packets, visits).check()
+    Links(experiment, plan, done, makings, packets, visits).check()

@@ -7,15 +7,16 @@ of the `flow` command, `ack` or `expire` line that allowed them, behind all else
 the report's; what is worked out is compared with each line that names a packet, and with the counters.
 """
 from dataclasses import dataclass
-from typing import Any, NamedTuple
+from typing import Any, NamedTuple, Optional
 
 import numpy as np
 from numpy.typing import NDArray
 
+from dnlab.analysis.commands import Done, done_of, is_spent
 from dnlab.analysis.emissions import NEVER, Emissions, by_flow, first_window, missing_after, sent_by
 from dnlab.analysis.making_checks import compare
 from dnlab.io.digits import Flags, Ints
-from dnlab.io.lines import ACK, ACKNOWLEDGES, DATA, DELIVER, EXPIRE, OK, PLAIN, REFUSED, RULE, SPENT
+from dnlab.io.lines import ACK, ACKNOWLEDGES, DATA, DELIVER, EXPIRE, PLAIN, RULE
 from dnlab.io.report import Recorded, follows_ack
 from dnlab.io.scenario_parts import HEADER, Plan, Sends
 
@@ -50,41 +51,16 @@ class Started(NamedTuple):
     sends: Sends
 
 
-def commands_of(experiment: Recorded, plan: Plan) -> list[int]:
-    """The rows of the scenario's commands, in order; a report with others is refused."""
-    columns = experiment.columns
-    rows: list[int] = np.flatnonzero((columns.word == OK) | (columns.word == REFUSED)).tolist()
-    for number, (row, command) in enumerate(zip(rows, plan.commands)):
-        moment = int(columns.moment[row])
-        if command.moment != moment:
-            raise experiment.refused(row, f"command {number} at {moment}, where line {command.line} of the scenario"
-                                     f" has {command.moment}")
-    if len(rows) > len(plan.commands):
-        raise experiment.refused(rows[len(plan.commands)],
-                                 f"the scenario has no command {len(plan.commands)} in {plan.name}")
-    if len(rows) < len(plan.commands) and not is_spent(experiment):
-        raise experiment.refused(len(columns), f"the report ends before command {len(rows)}, which stands in line"
-                                 f" {plan.commands[len(rows)].line} of the scenario")
-    return rows
-
-
-def is_spent(experiment: Recorded) -> bool:
-    """Whether the experiment ended with its budget of steps."""
-    return len(experiment.columns) > 0 and int(experiment.columns.word[-1]) == SPENT
-
-
 class Maker:
     """Works out an experiment's makings."""
 
-    def __init__(self, experiment: Recorded, plan: Plan) -> None:
+    def __init__(self, experiment: Recorded, done: Done) -> None:
         self.experiment = experiment
         self.columns = experiment.columns
-        self.plan = plan
+        self.done = done
         self.spent = is_spent(experiment)
-        self.rows = commands_of(experiment, plan)
         timed = np.flatnonzero(self.columns.word < RULE)
         self.last = int(self.columns.moment[timed[-1]]) if len(timed) else 0
-        self.injected: list[Started] = []
         self.trains: dict[int, Started] = {}
         self.flows: dict[int, Started] = {}
         self.stopped: dict[int, int] = {}
@@ -93,20 +69,14 @@ class Maker:
         self.flows_are_known()
 
     def take_commands(self) -> None:
-        for row, command in zip(self.rows, self.plan.commands):
-            if self.columns.word[row] != OK:
-                continue
+        for row, command in self.done.plain:
             if command.stops is not None:
                 if command.stops not in self.flows:
                     raise self.experiment.refused(row, f"the scenario has no flow {command.stops} by then")
                 self.stopped.setdefault(command.stops, command.moment)
-            elif command.sends is not None:
-                started = Started(row, command.moment, command.sends)
-                if command.sends.number is None:
-                    self.injected.append(started)
-                else:
-                    kind = self.trains if command.word == "train" else self.flows
-                    kind[command.sends.number] = started
+            elif command.sends is not None and command.sends.number is not None:
+                kind = self.trains if command.word == "train" else self.flows
+                kind[command.sends.number] = Started(row, command.moment, command.sends)
 
     def flows_are_known(self) -> None:
         """Refuses a line of a flow that wasn't begun by then."""
@@ -153,17 +123,14 @@ class Maker:
 
     def made_by_lines(self, names: list[str]) -> Makings:
         """Injected packets and acknowledgements, in the order of the lines that made them."""
-        rows = np.array([started.row for started in self.injected], dtype=np.int64)
-        sizes = np.array([started.sends.size for started in self.injected], dtype=np.int64)
+        rows, sizes = self.done.rows, self.done.injected.size
         segments, upto = self.acknowledged()
         every = np.concatenate((rows, segments))
         order = np.argsort(every, kind="stable")
         kinds = np.repeat(np.array([PLAIN, ACKNOWLEDGES], dtype=np.int8), [len(rows), len(segments)])[order]
         flows = np.concatenate((np.full(len(rows), -1, dtype=np.int32), self.columns.flow[segments]))[order]
-        senders = [started.sends.name() for started in self.injected]
-        names += dict.fromkeys(senders)
-        places = {name: place for place, name in enumerate(names)}
-        own = np.array([places[name] for name in senders] + [0] * len(segments), dtype=np.int32)[order]
+        names += self.done.names
+        own = np.concatenate((self.done.who, np.zeros(len(segments), dtype=np.int64)))[order].astype(np.int32)
         who = np.zeros(65536, dtype=np.int32)
         for number in self.flows:
             who[number] = len(names)
@@ -235,8 +202,8 @@ def _arrays(makings: Makings) -> list[Any]:
     return [makings.moment, makings.size, makings.who, makings.kind, makings.flow, makings.number]
 
 
-def makings_of(experiment: Recorded, plan: Plan) -> Makings:
-    """The makings of an experiment by its scenario, compared with each line of the report."""
-    makings = Maker(experiment, plan).work_out()
+def makings_of(experiment: Recorded, plan: Plan, done: Optional[Done] = None) -> Makings:
+    """Returns the makings of an experiment by its scenario, compared with each line of the report; `done` if it is known."""
+    makings = Maker(experiment, done or done_of(experiment, plan)).work_out()
     compare(experiment, makings)
     return makings

@@ -4,11 +4,11 @@ A source is the address of packets, or address and port, as `10.0.0.1` and `10.0
 in the scenario alone, so names are put into its plans, and all that is made of these has them.
 """
 import re
-from dataclasses import replace
 from typing import Iterable, Mapping, Optional, Sequence
 
+from dnlab.analysis.commands import injected_of
 from dnlab.errors import Faulty
-from dnlab.io.scenario_parts import Command, Plan
+from dnlab.io.scenario_parts import Plan
 
 FORM = "SOURCE=NAME, as 10.0.0.1=mine or 10.0.0.1:1000=mine"
 _NAME = re.compile(r"[A-Za-z][A-Za-z0-9_.-]*")
@@ -50,20 +50,18 @@ def with_names(plans: Optional[dict[str, Plan]], names: Mapping[str, str], wante
     if plans is None:
         raise Faulty(f"name {_said(names)}: the scenario alone has which packets were injected: give it beside the report")
     _check([plans[name] for name in (wanted or plans) if name in plans], names)
-    return {own: plan._replace(commands=[_named(command, names) for command in plan.commands]) for own, plan in plans.items()}
+    return {own: plan._replace(names=names) for own, plan in plans.items()}
 
 
-def source_of(command: Command) -> Optional[tuple[str, str]]:
-    """Address, and address with port, of the packet that a command injects; None of any other command."""
-    if command.word != "inject":
-        return None
-    _, _, address, port, *_ = command.text.split()
-    return address, f"{address}:{port}"
+def sources_of(plan: Plan) -> list[tuple[str, str]]:
+    """Returns address, and address with port, of those who inject, each once, in the order of the first."""
+    headers = injected_of(plan.commands).words()
+    return list(dict.fromkeys((address, f"{address}:{port}") for _, address, port, _, _ in headers))
 
 
 def _check(plans: Iterable[Plan], names: Mapping[str, str]) -> None:
     """Refuses a source that no `inject` of some plans has, and one that has a name by its address and one by its port."""
-    found = dict.fromkeys(source for plan in plans for source in map(source_of, plan.commands) if source is not None)
+    found = dict.fromkeys(source for plan in plans for source in sources_of(plan))
     for address, source in found:
         if address in names and source in names and names[address] != names[source]:
             raise Faulty(f"name {_said(names)}: {source} would have two names, {names[address]!r} and {names[source]!r}")
@@ -77,11 +75,3 @@ def _check(plans: Iterable[Plan], names: Mapping[str, str]) -> None:
 
 def _said(names: Mapping[str, str]) -> str:
     return " ".join(f"{source}={name}" for source, name in names.items())
-
-
-def _named(command: Command, names: Mapping[str, str]) -> Command:
-    """A command whose packet has its name."""
-    source = source_of(command)
-    if source is None or command.sends is None:
-        return command
-    return command._replace(sends=replace(command.sends, label=next((names[one] for one in source if one in names), "")))

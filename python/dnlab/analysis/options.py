@@ -13,7 +13,7 @@ _MOST_SHOWN = 4
 def configs_of(plan: Plan) -> dict[int, list[Config]]:
     """Of each pipe of an experiment its configurations, in order."""
     found: dict[int, list[Config]] = {}
-    for command in plan.commands:
+    for _, command in plan.commands.plain:
         if command.pipe is not None:
             found.setdefault(command.pipe, []).append(config_of(command.line, command.text))
     return found

@@ -2,12 +2,12 @@
 from __future__ import annotations
 
 import ipaddress
-from functools import lru_cache
 from typing import TYPE_CHECKING, NamedTuple, Sequence
 
 import numpy as np
 from numpy.typing import NDArray
 
+from dnlab.analysis.commands import distinct, injected_packets
 from dnlab.io.digits import Flags, Ints
 from dnlab.io.exports import Rule, rule_of
 from dnlab.io.lines import ACKNOWLEDGES
@@ -32,7 +32,7 @@ def epochs_of(view: View) -> list[Epoch]:
     """The sets of rules that an experiment had, by the commands that were done."""
     rules: list[tuple[int, Rule]] = []
     found = [Epoch(0, (), True)]
-    for _, command in view.done:
+    for _, command in view.done.plain:
         words = command.text.split()
         if command.word == "add":
             rules = sorted([*rules, (command.line, rule_of(command.text))], key=lambda one: one[1].number)
@@ -45,7 +45,6 @@ def epochs_of(view: View) -> list[Epoch]:
     return found
 
 
-@lru_cache(maxsize=1 << 16)
 def _header(*words: str) -> list[int]:
     """The header of `PROTOCOL ADDRESS PORT ADDRESS PORT`."""
     ends = [int(ipaddress.IPv4Address(words[1])), int(words[2]), int(ipaddress.IPv4Address(words[3])), int(words[4])]
@@ -56,29 +55,24 @@ def headers_of(view: View) -> tuple[Ints, Ints]:
     """The headers that are sent, and of each packet which it has (-1 where that isn't known). Shapes (n, 5) and (packets,)."""
     rows: list[list[int]] = []
     by_name: dict[str, int] = {}
-    injected: dict[str, list[int]] = {}
-    for _, command in view.done:
+    for _, command in view.done.plain:
         if command.sends is None:
             continue
-        words = command.text.split()
-        if command.word == "inject":
-            injected.setdefault(command.sends.name(), []).append(len(rows))
-            rows.append(_header(*words[1:6]))
-        else:
-            name = command.sends.name()
-            by_name[name] = len(rows)
-            rows.append(_header(*words[2:7]) if command.word == "train" else _header("tcp", *words[2:6]))
-            if command.word == "flow":
-                protocol, source, port, target, other = rows[-1]
-                by_name[f"{name} acks"] = len(rows)
-                rows.append([protocol, target, other, source, port])
+        words, name = command.text.split(), command.sends.name()
+        by_name[name] = len(rows)
+        rows.append(_header(*words[2:7]) if command.word == "train" else _header("tcp", *words[2:6]))
+        if command.word == "flow":
+            protocol, source, port, target, other = rows[-1]
+            by_name[f"{name} acks"] = len(rows)
+            rows.append([protocol, target, other, source, port])
     which = np.full(len(view.packets), -1, dtype=np.int64)
     for name, packets in view.senders:
         if name in by_name:
             which[packets] = by_name[name]
-        elif name in injected:
-            which[packets] = np.array(injected[name][:len(packets)], dtype=np.int64)
-    return np.array(rows, dtype=np.int64).reshape(-1, _COLUMNS), which
+    injected = injected_packets(view.done, view.packets.who)
+    which[injected] = len(rows) + view.done.header[:len(injected)]
+    own = np.array(rows, dtype=np.int64).reshape(-1, _COLUMNS)
+    return np.concatenate((own, view.done.headers)), which
 
 
 def search(epoch: Epoch, headers: Ints, is_whole: bool = False) -> tuple[Ints, Flags]:
@@ -119,7 +113,7 @@ def unmet(view: View) -> tuple[list[tuple[int, Rule]], list[int]]:
     if not len(view.packets):
         return [], []
     there, _ = view.headers
-    headers = np.unique(np.concatenate((there, there[:, [0, 3, 4, 1, 2]])), axis=0)
+    headers, _ = distinct(np.concatenate((there, there[:, [0, 3, 4, 1, 2]])))
     rules: dict[tuple[int, Rule], bool] = {}
     for epoch in view.epochs:
         for one, is_met in zip(epoch.rules, search(epoch, headers, True)[1].tolist()):

@@ -8,18 +8,19 @@ import numpy as np
 from numpy.typing import NDArray
 
 from dnlab.analysis.consistency import check_consistency
+from dnlab.analysis.commands import Done, done_of, is_spent
 from dnlab.analysis.links import compare_links
-from dnlab.analysis.makings import is_spent, makings_of
+from dnlab.analysis.makings import makings_of
 from dnlab.analysis.marks import Refusal, marks_of, refused_of
 from dnlab.analysis.notes import KINDS, NO_SCENARIO, Note
 from dnlab.analysis.packets import Packets, Visits, never_seen, packets_of, visits_of
 from dnlab.analysis.routes import Epoch, epochs_of, headers_of
 from dnlab.errors import Faulty, Refused
 from dnlab.io.digits import Flags, Ints
-from dnlab.io.lines import ACKNOWLEDGES, DATA, MAKE, OK, PLAIN, REFUSED, RULE
+from dnlab.io.lines import ACKNOWLEDGES, DATA, MAKE, OK, PLAIN, RULE
 from dnlab.io.pieces import Piece
 from dnlab.io.report import Counters, Recorded, read_piece
-from dnlab.io.scenario_parts import Command, Plan, Sends
+from dnlab.io.scenario_parts import Plan, Sends
 from dnlab.io.settings import Change, changes_of
 
 __all__ = ["KINDS", "NO_SCENARIO", "Ended", "Note", "View", "flows_of", "view_of"]
@@ -47,10 +48,11 @@ class View:
     folder: Optional[Path] = None
 
     def __post_init__(self) -> None:
-        makings = makings_of(self.experiment, self.plan) if self.plan is not None else None
+        self.done: Done = done_of(self.experiment, self.plan)
+        makings = makings_of(self.experiment, self.plan, self.done) if self.plan is not None else None
         self.packets: Packets = packets_of(self.experiment, makings)
         if self.plan is not None and makings is not None:
-            compare_links(self.experiment, self.plan, makings, self.packets, self.visits)
+            compare_links(self.experiment, self.plan, self.done, makings, self.packets, self.visits)
         # Whether it is known of each packet when it was made, how long it is and who sent it.
         if self.plan is not None:
             check_consistency(self)
@@ -93,25 +95,13 @@ class View:
     @cached_property
     def sends(self) -> dict[str, tuple[int, Sends]]:
         """The flows and trains of the scenario that were begun, by name, with their moments."""
-        if self.plan is None:
-            return {}
-        columns = self.experiment.columns
-        done = set(columns.number[columns.word == OK].tolist())
-        return {command.sends.name(): (command.moment, command.sends) for number, command in enumerate(self.plan.commands)
-                if command.sends is not None and command.sends.number is not None and number in done}
-
-    @cached_property
-    def done(self) -> list[tuple[int, Command]]:
-        """The commands of the scenario that were done, each with its row."""
-        columns = self.experiment.columns
-        rows = np.flatnonzero((columns.word == OK) | (columns.word == REFUSED)).tolist()
-        commands = self.plan.commands if self.plan else []
-        return [(row, command) for row, command in zip(rows, commands) if columns.word[row] == OK]
+        return {command.sends.name(): (command.moment, command.sends) for _, command in self.done.plain
+                if command.sends is not None}
 
     @cached_property
     def changes(self) -> dict[int, list[Change]]:
         """Of each pipe of the scenario its configurations and deletions that were done, in order."""
-        return changes_of(self.done)
+        return changes_of(self.done.plain)
 
     @cached_property
     def is_injected(self) -> Flags:

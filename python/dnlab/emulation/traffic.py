@@ -1,12 +1,12 @@
 """The traffic of a run by hosts and ports, as `client:* > server:5201`: packets, losses, delays and rates."""
 import json
 from collections import defaultdict
-from dataclasses import replace
 from pathlib import Path
 from typing import Any, NamedTuple, Optional
 
 import numpy as np
 
+from dnlab.analysis.commands import injected_of
 from dnlab.analysis.figures import place
 from dnlab.analysis.packets import DELIVERED, DROPPED, Packets
 from dnlab.analysis.view import View
@@ -16,7 +16,7 @@ from dnlab.emulation.outcome import SUMMARY, VERSION
 from dnlab.errors import Faulty, Refused
 from dnlab.io import report, scenario
 from dnlab.io.report import Recorded
-from dnlab.io.scenario_parts import Command, Plan
+from dnlab.io.scenario_parts import Plan
 
 PERCENTILES = (50, 95, 99)
 
@@ -78,19 +78,14 @@ def _joined(folder: Path, names: dict[str, str]) -> tuple[View, dict[Ends, Pair]
     plan, experiment = _read(folder)
     pairs: dict[Ends, Pair] = {}
     numbers: dict[Pair, str] = {}
-
-    def labelled(command: Command) -> Command:
-        if command.word != "inject" or command.sends is None:
-            return command
-        _, protocol, source, port, target, target_port, *_ = command.text.split()
+    labels: dict[str, str] = {}
+    for header in injected_of(plan.commands).words():
+        protocol, source, port, target, target_port = header
         ends = protocol, source, int(port), target, int(target_port)
         if ends not in pairs:
             _add(pairs, ends, names)
-        number = numbers.setdefault(pairs[ends], str(len(numbers)))
-        return command._replace(sends=replace(command.sends, label=number))
-
-    plan = plan._replace(commands=[labelled(command) for command in plan.commands])
-    return View(experiment, plan), {ends: pairs[ends] for ends in pairs}
+        labels[" ".join(header)] = numbers.setdefault(pairs[ends], str(len(numbers)))
+    return View(experiment, plan._replace(names=labels)), pairs
 
 
 def _read(folder: Path) -> tuple[Plan, Recorded]:

@@ -33,17 +33,18 @@ _FILLS = np.array([0x3030303030303030 & ((1 << (8 * (8 - n))) - 1) for n in rang
 class Text:
     """A block of whole lines, with its words.
 
-    `ends` are the places of the spaces and line ends, in order, int64; a word begins behind the end before.
+    `ends` are the places of the spaces and line ends, in order, int64, and with `points` those of points too; a word
+    begins behind the end before.
     """
 
-    def __init__(self, block: bytes) -> None:
+    def __init__(self, block: bytes, points: bool = False) -> None:
         self.block = block
         self.bytes: Bytes = np.frombuffer(block, dtype=np.uint8)
         padded = np.frombuffer(block + bytes(24), dtype=np.uint8)
         # The eight bytes at each place, overlapping: a view of the same bytes, with a stride of one.
         self._eights: Any = np.lib.stride_tricks.as_strided(
             padded[:8].view("<u8"), shape=(len(block) + 16,), strides=(1,), writeable=False)
-        self.ends: Ints = np.flatnonzero(self.bytes <= 32)
+        self.ends: Ints = np.flatnonzero((self.bytes <= 32) | (self.bytes == ord(".")) if points else self.bytes <= 32)
 
     def eight(self, places: Ints) -> Words:
         """The eight bytes from each place on, as numbers; bytes past the block are 0. Shape (n,), uint64."""

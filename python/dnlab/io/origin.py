@@ -43,8 +43,7 @@ def scenario_checksum(plans: Mapping[str, Plan]) -> str:
     whole = hashlib.sha256()
     for name in sorted(plans):
         plan = plans[name]
-        commands = "".join(f"@{command.moment} {command.text}\n" for command in plan.commands)
-        whole.update(f"{name} {plan.seed} {plan.budget} {plan.steps}\n{commands}".encode())
+        whole.update(f"{name} {plan.seed} {plan.budget} {plan.steps}\n".encode() + plan.commands.text())
     return whole.hexdigest()
 
 

@@ -4,13 +4,17 @@
 needs nothing but Python itself, and has no simulation.
 """
 import re
-from typing import Optional, Union
+from contextlib import suppress
+from typing import Iterator, Optional, Union
 
 from dnlab.errors import Refused
-from dnlab.io.scenario_parts import MOST_BYTES, MOST_EXPERIMENTS, MOST_LINE, Command, Plan, Sends
+from dnlab.io.scenario_parts import MOST_BYTES, MOST_EXPERIMENTS, MOST_LINE, Command, Commands, Plan, Run, Sends
 from dnlab.io.scenario_words import BadWord, Told, Words, command, experiment
 
 __all__ = ["Command", "Judged", "MOST_BYTES", "MOST_EXPERIMENTS", "MOST_LINE", "Plan", "Sends", "read"]
+
+# Reading fewer injected packets than this by NumPy costs more than it saves, as NumPy itself must be loaded.
+MANY = 1000
 
 
 class Judged:
@@ -33,14 +37,27 @@ class Judged:
     def judge(self, text: bytes) -> Optional[tuple[int, str]]:
         if self.limited and len(text) > MOST_BYTES:
             return 0, "toobig"
-        *lines, rest = text.split(b"\n")
-        for number, line in enumerate(lines, 1):
-            cause = self.cause(line, number)
-            if cause:
-                return number, cause
-        if rest:
-            return len(lines) + 1, "cut"
-        return (len(lines) + 1, "noend") if self.is_open else None
+        end = text.rfind(b"\n") + 1
+        for line, part in _parts_of(text[:end]):
+            fault = self.injected(part) if isinstance(part, Run) else self.fault_in(part, line)
+            if fault:
+                return fault
+        cause = "cut" if end < len(text) else "noend" if self.is_open else None
+        return (text.count(b"\n") + 1, cause) if cause else None
+
+    def injected(self, run: Run) -> Optional[tuple[int, str]]:
+        """Takes lines that inject; returns the first that is refused, and the cause."""
+        moments = run.columns[0]
+        falls = (moments[1:] < moments[:-1]).nonzero()[0]
+        cause = self.misplaced(int(moments[0]))
+        if cause or len(falls):
+            return int(run.lines[0 if cause else falls[0] + 1]), cause or "backwards"
+        self.take(run, int(moments[-1]), len(moments))
+        return None
+
+    def fault_in(self, line: bytes, number: int) -> Optional[tuple[int, str]]:
+        cause = self.cause(line, number)
+        return (number, cause) if cause else None
 
     def cause(self, line: bytes, number: int) -> Optional[str]:
         if len(line) > MOST_LINE:
@@ -75,23 +92,43 @@ class Judged:
         self.names.add(name)
         self.experiments.append((name, 0))
         if self.keep:
-            self.plans[name] = Plan(name, line, seed, budget, steps, [])
+            self.plans[name] = Plan(name, line, seed, budget, steps, Commands())
         self.last, self.is_open = 0, True
         return None
 
     def told(self, line: int, split: list[str], moment: int, word: str, told: Told) -> Optional[str]:
+        cause = self.misplaced(moment)
+        if not cause:
+            self.is_open = word != "end"
+            self.take(Command(line, moment, word, " ".join(split[1:]), *told), moment, 1)
+        return cause
+
+    def misplaced(self, moment: int) -> Optional[str]:
+        """Returns why no command of a moment can be here."""
         if not self.experiments:
             return "noexperiment"
         if not self.is_open:
             return "afterend"
-        if moment < self.last:
-            return "backwards"
-        self.last, self.is_open = moment, word != "end"
+        return "backwards" if moment < self.last else None
+
+    def take(self, part: Union[Command, Run], last: int, more: int) -> None:
+        """Adds one or more commands to the experiment, the last of them at a moment."""
+        self.last = last
         name, count = self.experiments[-1]
-        self.experiments[-1] = name, count + 1
+        self.experiments[-1] = name, count + more
         if self.keep:
-            self.plans[name].commands.append(Command(line, moment, word, " ".join(split[1:]), *told))
-        return None
+            self.plans[name].commands.add(part)
+
+
+def _parts_of(text: bytes) -> Iterator[tuple[int, Union[bytes, Run]]]:
+    """Yields the lines of a text of whole lines, each with its number; by NumPy, if it is installed, those that inject together
+    if they are many."""
+    if text.count(b" inject ") >= MANY:
+        with suppress(ModuleNotFoundError):
+            from dnlab.io.injections import parts_of
+
+            return parts_of(text)
+    return enumerate(text.split(b"\n")[:-1], 1)
 
 
 def read(text: bytes) -> dict[str, Plan]:

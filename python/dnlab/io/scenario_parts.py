@@ -1,7 +1,10 @@
 """What a scenario has: experiments, their commands and what these send; and the numbers of docs/reference/scenario.md."""
+from bisect import bisect_right
 from dataclasses import dataclass
-from typing import NamedTuple, Optional
+from typing import TYPE_CHECKING, Iterator, Mapping, NamedTuple, Optional, Sequence, Union, overload
 
+if TYPE_CHECKING:
+    from dnlab.io.digits import Ints
 
 MOST_BYTES = 16777216
 MOST_LINE = 512
@@ -20,6 +23,8 @@ STEPS = 10**6
 WINDOW = 65535
 SSTHRESH = 65535
 HEADER = 40
+# The sender of injected packets, where a user gives no other name.
+INJECTED = "injected"
 
 
 @dataclass(frozen=True)
@@ -27,8 +32,7 @@ class Sends:
     """What a command sends: a packet of `inject`, a train or a flow.
 
     `size` is a packet's in bytes, with 40 bytes of header in a flow's; `count` packets or segments; `gap` in ns;
-    `smss`, `window` and `ssthresh` in bytes; `source` and `target` are addresses. `label` is a name of a user's own for an
-    injected packet's sender (`dnlab.analysis.naming`).
+    `smss`, `window` and `ssthresh` in bytes; `source` and `target` are addresses.
     """
     word: str
     number: Optional[int]
@@ -40,17 +44,14 @@ class Sends:
     ssthresh: int = SSTHRESH
     source: str = ""
     target: str = ""
-    label: str = ""
 
     def name(self) -> str:
         """The sender as tables name it.
 
         >>> Sends("train", 9, 100).name()
         'train 9'
-        >>> Sends("inject", None, 100).name(), Sends("inject", None, 100, label="mine").name()
-        ('injected', 'mine')
         """
-        return self.label or "injected" if self.number is None else f"{self.word} {self.number}"
+        return INJECTED if self.number is None else f"{self.word} {self.number}"
 
 
 class Command(NamedTuple):
@@ -67,14 +68,84 @@ class Command(NamedTuple):
     pipe: Optional[int] = None
 
 
+class Run(NamedTuple):
+    """Lines that each inject a packet, with no others between them but empty ones: their numbers from 1, shape (n,), their bytes
+    without needless spaces, and what they say as int64 of shape (7, n): moment, protocol (6 or 17), source, its port, target,
+    its port, size."""
+    lines: "Ints"
+    text: bytes
+    columns: "Ints"
+
+    def commands(self, begin: int = 0) -> Iterator[Command]:
+        """Yields the commands, from a place among them on."""
+        for number, line in zip(self.lines[begin:].tolist(), self.text.decode("ascii").split("\n")[begin:-1]):
+            moment, text = line[1:].split(" ", 1)
+            words = text.split(" ")
+            yield Command(number, int(moment), "inject", text,
+                          Sends("inject", None, int(words[6]), source=words[2], target=words[4]))
+
+
+class Commands(Sequence[Command]):
+    """The commands of an experiment, in order. Lines that inject may be kept in `runs`, whose commands are made when they
+    are used; `plain` has all others, each with its place. `runs` has the place of the first command of each."""
+
+    def __init__(self) -> None:
+        self.plain: list[tuple[int, Command]] = []
+        self.runs: list[tuple[int, Run]] = []
+        self._parts: list[Union[Command, Run]] = []
+        self._places: list[int] = []
+        self._count = 0
+
+    def add(self, part: Union[Command, Run]) -> None:
+        self._parts.append(part)
+        self._places.append(self._count)
+        if isinstance(part, Run):
+            self.runs.append((self._count, part))
+            self._count += len(part.lines)
+        else:
+            self.plain.append((self._count, part))
+            self._count += 1
+
+    def __len__(self) -> int:
+        return self._count
+
+    def __iter__(self) -> Iterator[Command]:
+        for part in self._parts:
+            if isinstance(part, Run):
+                yield from part.commands()
+            else:
+                yield part
+
+    @overload
+    def __getitem__(self, place: int) -> Command: ...
+
+    @overload
+    def __getitem__(self, place: slice) -> list[Command]: ...
+
+    def __getitem__(self, place: Union[int, slice]) -> Union[Command, list[Command]]:
+        if isinstance(place, slice):
+            return list(self)[place]
+        at = range(self._count)[place]
+        number = bisect_right(self._places, at) - 1
+        part = self._parts[number]
+        return next(part.commands(at - self._places[number])) if isinstance(part, Run) else part
+
+    def text(self) -> bytes:
+        """Returns all lines, without comments and needless spaces."""
+        return b"".join(part.text if isinstance(part, Run) else f"@{part.moment} {part.text}\n".encode()
+                        for part in self._parts)
+
+
 class Plan(NamedTuple):
-    """An experiment of a scenario: its name, the line of its heading, seed, budgets of packets and of steps."""
+    """An experiment of a scenario: its name, the line of its heading, seed, budgets of packets and of steps; `names` has
+    a user's names for senders of injected packets, by source (`dnlab.analysis.naming`)."""
     name: str
     line: int
     seed: int
     budget: int
     steps: int
-    commands: list[Command]
+    commands: Commands
+    names: Mapping[str, str] = {}
 
     def end(self) -> Optional[int]:
         """The moment of its `end`, in ns."""
@@ -82,5 +153,5 @@ class Plan(NamedTuple):
 
     def settings(self) -> str:
         """The configurations of its pipes, in the order in which they are given, without spaces too many."""
-        return "; ".join(command.text.replace(" config", "", 1) for command in self.commands
+        return "; ".join(command.text.replace(" config", "", 1) for _, command in self.commands.plain
                          if command.pipe is not None)

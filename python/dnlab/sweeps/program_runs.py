@@ -7,7 +7,7 @@ from pathlib import Path
 from typing import Any, Iterable, Mapping, NamedTuple, Optional, Sequence
 
 from dnlab.analysis.asking import USUAL, Ask, Found, answer
-from dnlab.analysis.naming import source_of, with_names
+from dnlab.analysis.naming import sources_of, with_names
 from dnlab.analysis.spans import Span
 from dnlab.analysis.view import View
 from dnlab.errors import Failed, Faulty, Refused
@@ -138,5 +138,5 @@ def _names(folder: Path, plan: Plan) -> dict[str, str]:
         names = {str(host["address"]): str(name) for name, host in hosts.items()}
     except (OSError, ValueError, KeyError, TypeError, AttributeError):
         return {}
-    sources = {found[0] for found in map(source_of, plan.commands) if found is not None}
+    sources = {address for address, _ in sources_of(plan)}
     return {address: name for address, name in names.items() if address in sources}
