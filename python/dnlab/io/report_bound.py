@@ -1,6 +1,8 @@
 """A bound of a report's length, by its scenarios' text: what a worker writes beyond isn't their report."""
 import re
 
+from dnlab.io.splitting import lines_in
+
 # What one step, one command, one `show` and one `pipe show` write at most, in bytes, each with room to spare: a listing has 256 rules, or 64 pipes
 # of 256 instances.
 _STEP, _COMMAND, _RULES, _INSTANCES = 1 << 10, 1 << 8, 1 << 16, 1 << 22
@@ -9,8 +11,7 @@ _STEPS = 10**6
 _SAID = 1 << 20
 # What one step may send at once: windows of many flows, in steps.
 _BURST = 1 << 14
-_HEADING = re.compile(rb"(?m)^ *experiment .*$")
-_LISTING = re.compile(rb" (pipe +)?show\b")
+_LISTING = re.compile(rb" show\b")
 _WORDS = re.compile(rb" steps +([0-9]{1,8})")
 
 
@@ -20,8 +21,8 @@ def most_report(text: bytes) -> int:
     >>> most_report(b"experiment a seed 1 budget 1 steps 10\\n@0 end\\n")
     17836544
     """
-    said = [_WORDS.search(heading[0]) for heading in _HEADING.finditer(text)]
+    said = [_WORDS.search(heading) for _, heading, _ in lines_in(text)]
     steps = sum(_BURST + (int(found[1]) if found else _STEPS) for found in said)
-    listings = _LISTING.findall(text)
-    pipes = sum(1 for pipe in listings if pipe)
+    listings = [text[text.rfind(b"\n", 0, found.start()) + 1:found.start()] for found in _LISTING.finditer(text)]
+    pipes = sum(before.split()[-1:] == [b"pipe"] for before in listings)
     return _SAID + steps * _STEP + text.count(b"\n") * _COMMAND + pipes * _INSTANCES + (len(listings) - pipes) * _RULES

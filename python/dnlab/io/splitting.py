@@ -37,6 +37,11 @@ def lines_in(text: bytes) -> Iterator[tuple[int, bytes, int]]:
         place = min(end + 1, len(text))
 
 
+def names_of(text: bytes) -> list[str]:
+    """Returns the names of a text's experiments, '' for a heading without one."""
+    return [(heading.split()[1:2] or [b""])[0].decode("ascii", "replace") for _, heading, _ in lines_in(text)]
+
+
 def experiments_in(texts: Iterable[bytes]) -> list[Part]:
     """The experiments of some texts, one behind the other. What stands before a text's first is left out: comments."""
     found = []

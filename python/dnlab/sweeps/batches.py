@@ -3,6 +3,7 @@ from typing import Iterator, NamedTuple, Optional, Sequence
 
 from dnlab.analysis.asking import Found
 from dnlab.errors import Failed
+from dnlab.io.splitting import lines_in
 from dnlab.io.scenario_words import BadWord, Words, experiment
 from dnlab.processes import children
 from dnlab.processes.children import Killed
@@ -39,9 +40,9 @@ def together(waiting: Sequence[Waiting], workers: int) -> Iterator[list[Waiting]
 
 def steps_of(text: str) -> int:
     """The steps that a text's experiment may take."""
-    heading = next(line for line in text.splitlines() if line.split()[:1] == ["experiment"])
+    _, heading, _ = next(lines_in(text.encode()))
     try:
-        return experiment(Words(heading.split()))[3]
+        return experiment(Words(heading.decode("ascii", "replace").split()))[3]
     except BadWord:
         return _MOST_STEPS
 

@@ -14,6 +14,8 @@ from dnlab.sweeps.templates import Template, TooLong
 # The processor time that one text may take, in seconds, and the memory that is wanted for it, in bytes.
 MOST_SECONDS = 10.0
 MOST_MEMORY = 2**29
+# Texts that are needed again are kept up to so many bytes; further ones are made again.
+MOST_KEPT = 2**28
 # How much longer is waited for a process that doesn't heed its signal, or gets no processor.
 _PATIENCE = 6.0
 
@@ -46,12 +48,17 @@ class Maker:
     def __init__(self, template: Template) -> None:
         self._template = template
         self._crew: Optional[Crew[str]] = None
+        self._kept: dict[tuple[Any, ...], str] = {}
+        self._left = MOST_KEPT
 
-    def __getstate__(self) -> dict[str, Any]:
-        return {"_template": self._template, "_crew": None}
+    def __reduce__(self) -> "tuple[type[Maker], tuple[Template]]":
+        return Maker, (self._template,)
 
     def made(self, name: str, seed: int, settings: Mapping[str, Any], told: str) -> str:
         """The text of an experiment; `Faulty`, with what is told of it, where it takes too long or too much memory."""
+        key = name, seed, *map(str, settings.items())
+        if key in self._kept:
+            return self._kept[key]
         if self._crew is None:
             self._crew = Crew(1)
         source = self._template.text if self._template.path is None else self._template.path
@@ -67,6 +74,9 @@ class Maker:
         if isinstance(outcome.fault, Faulty) and str(outcome.fault).endswith(": MemoryError: MemoryError"):
             raise Faulty(f"{str(outcome.fault).removesuffix(': MemoryError: MemoryError')}: a text may want {MOST_MEMORY} bytes at most")
         text: str = outcome.get()
+        if len(text) <= self._left:
+            self._kept[key] = text
+            self._left -= len(text)
         return text
 
     def close(self) -> None:

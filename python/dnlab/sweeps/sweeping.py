@@ -13,7 +13,7 @@ from dnlab.analysis.work import cores
 from dnlab.errors import Failed, Faulty
 from dnlab.io.scenario import read
 from dnlab.io.scenario_parts import MOST_BYTES, MOST_EXPERIMENTS, Plan
-from dnlab.io.splitting import experiments_in
+from dnlab.io.splitting import lines_in, names_of
 from dnlab.processes import ending
 from dnlab.processes.children import Killed
 from dnlab.processes.crew import Crew
@@ -29,6 +29,7 @@ from dnlab.sweeps.templates import Template, shown, why_taken
 
 # An experiment's name hangs on the order of --set, and its answers don't.
 _HEADING = re.compile(r"^( *experiment +)\S+", re.MULTILINE)
+_LOSS = re.compile(rb" plr +(?!0(\.0*)?( |$))", re.MULTILINE)
 # Marks of experiments that weren't run as their texts have it: a table of them is no answer, unless they are allowed.
 STOPPING = ("refused", "spent")
 
@@ -80,7 +81,7 @@ class Sweep(Swept):
     def text(self, case: Case) -> str:
         """The text of an experiment; one that isn't just this experiment is refused."""
         text = self._maker.made(case.name, case.seed, case.settings, case.told())
-        found = [part.name for part in experiments_in([text.encode()])]
+        found = names_of(text.encode())
         if found != [case.name]:
             has = f"it has {', '.join(found)}" if found else "it has none"
             raise Faulty(f"{self.template.name}: {case.told()}: its text must have this one experiment, and {has}: let it"
@@ -231,8 +232,8 @@ class Sweep(Swept):
             by_setting.setdefault(tuple(map(str, case.settings.values())), []).append(case)
         found: list[str] = []
         for same in by_setting.values():
-            texts = [re.sub("^ *experiment .*", "", self.text(case), flags=re.MULTILINE) for case in same[:2]]
-            if len(texts) == 2 and texts[0] == texts[1] and not re.search(r" plr +(?!0(\.0*)?( |$))", texts[0], re.MULTILINE):
+            texts = [_without_heading(self.text(case).encode()) for case in same[:2]]
+            if len(texts) == 2 and texts[0] == texts[1] and not _LOSS.search(texts[0]):
                 found += [case.name for case in same]
         return frozenset(found)
 
@@ -247,6 +248,11 @@ class Sweep(Swept):
         """What may be silently wrong in experiments that were run, with their names."""
         return [(case.name, note) for case in self.cases if case.name in self.found
                 for note in self.found[case.name].notes]
+
+
+def _without_heading(text: bytes) -> bytes:
+    place, heading, _ = next(lines_in(text), (0, b"", 0))
+    return text[:place] + text[place + len(heading):]
 
 
 def sweep(template: Union[str, Path], *, seed: Union[int, Iterable[int]] = 1, of: Any = None, stat: Any = USUAL,

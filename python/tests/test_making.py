@@ -1,0 +1,48 @@
+"""Texts of a template: made once where they are needed again, and how long a report of them can be."""
+from pathlib import Path
+
+import pytest
+
+from dnlab.io.report_bound import most_report
+from dnlab.sweeps.making import Maker
+from dnlab.sweeps.templates import Template
+
+pytest.importorskip("jinja2")
+
+
+@pytest.fixture
+def maker(tmp_path: Path) -> Maker:
+    """Makes texts of a template that includes another file, which is read each time that a text is made."""
+    (tmp_path / "part.txt").write_text("first")
+    (tmp_path / "whole.tmpl").write_text("# {{ seed }} {{ queue }} {% include 'part.txt' %}\n")
+    found = Maker(Template(tmp_path / "whole.tmpl"))
+    yield found
+    found.close()
+
+
+def changed(maker: Maker, folder: Path) -> list[str]:
+    """Three texts of one name, the second and third of which are made after the included file changed."""
+    texts = [maker.made("a", 1, {"queue": 5}, "a")]
+    (folder / "part.txt").write_text("second, another length")
+    maker.close()
+    return texts + [maker.made("a", 1, {"queue": 5}, "a"), maker.made("a", 2, {"queue": 5}, "a")]
+
+
+def test_a_text_is_made_once(maker: Maker, tmp_path: Path) -> None:
+    assert changed(maker, tmp_path) == ["# 1 5 first\n", "# 1 5 first\n", "# 2 5 second, another length\n"]
+
+
+def test_many_texts_are_not_kept(maker: Maker, tmp_path: Path, monkeypatch: pytest.MonkeyPatch) -> None:
+    monkeypatch.setattr(maker, "_left", len("# 1 5 first\n") - 1)
+    assert changed(maker, tmp_path)[1] == "# 1 5 second, another length\n"
+
+
+def test_listings_count_by_their_kind() -> None:
+    """A listing of pipes may have 4194304 bytes, one of rules 65536, and each line 256 more."""
+    begin = b"experiment a seed 1 budget 1 steps 10\n"
+    none = most_report(begin + b"@0 end\n")
+    assert most_report(begin + b"@0 pipe   show\n@0 end\n") - none == 4194304 + 256
+    assert most_report(begin + b"@0  show\n@0 end\n") - none == 65536 + 256
+    assert most_report(begin + b"@0 shows\n@0 end\n") - none == 256
+    # Without `steps` an experiment has 1000000 of them, where 10 are given above; each writes 1024 bytes at most.
+    assert most_report(begin.replace(b" steps 10", b"") + b"@0 end\n") - none == 999990 * 1024
