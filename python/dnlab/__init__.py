@@ -15,14 +15,15 @@ Moments and times are whole nanoseconds (int64), sizes bytes, rates bits per sec
 python3-numpy python3-pandas python3-scipy python3-jinja2 python3-matplotlib). `live`, `dnlab.io.scenario` and
 `dnlab.io.splitting` need Python alone.
 """
-import importlib
+import importlib.util
 from typing import TYPE_CHECKING, Any
 
 from dnlab.errors import Failed, Faulty, Refused
 
 if TYPE_CHECKING:
     from dnlab.analysis.figures import interval, jain
-    from dnlab.analysis.results import Experiment, Report, intervals, read
+    from dnlab.analysis.reports import Report, read
+    from dnlab.analysis.results import Experiment, intervals
     from dnlab.sweeps.runs import run
     from dnlab.session.events import CommandRefused, Event, NotTaken, Over, Packet
     from dnlab.session.links import Link
@@ -32,13 +33,14 @@ if TYPE_CHECKING:
 __version__ = "0.2.0"
 __all__ = ["CommandRefused", "Event", "Experiment", "Failed", "Faulty", "Link", "NotTaken", "Over", "Packet", "Refused",
            "Report", "Session", "Sweep", "interval", "intervals", "jain", "live", "read", "run", "sweep"]
-_PLACES = {"Experiment": "analysis.results", "Report": "analysis.results", "intervals": "analysis.results",
-           "read": "analysis.results", "run": "sweeps.runs", "interval": "analysis.figures", "jain": "analysis.figures",
+_PLACES = {"Experiment": "analysis.results", "Report": "analysis.reports", "intervals": "analysis.results",
+           "read": "analysis.reports", "run": "sweeps.runs", "interval": "analysis.figures", "jain": "analysis.figures",
            "Sweep": "sweeps.sweeping", "sweep": "sweeps.sweeping", "CommandRefused": "session.events",
            "Event": "session.events", "NotTaken": "session.events", "Over": "session.events", "Packet": "session.events",
            "Link": "session.links", "Session": "session.sessions", "live": "session.sessions"}
 _MODULES = ("hosts", "sim")
-_NEEDS: dict[str, tuple[str, ...]] = {"analysis.results": ("numpy", "pandas"), "sweeps.runs": ("numpy", "pandas"),
+_NEEDS: dict[str, tuple[str, ...]] = {"analysis.results": ("numpy", "pandas"), "analysis.reports": ("numpy", "pandas"),
+                                      "sweeps.runs": ("numpy", "pandas"),
                                       "sweeps.sweeping": ("numpy", "pandas", "scipy", "jinja2")}
 
 
@@ -50,9 +52,6 @@ def __getattr__(name: str) -> Any:
         raise AttributeError(f"module 'dnlab' has no attribute {name!r}")
     place = _PLACES[name]
     for needed in _NEEDS.get(place, ()):
-        try:
-            importlib.import_module(needed)
-        except ModuleNotFoundError:
-            raise ModuleNotFoundError(f"{needed} is missing (Debian: apt-get install python3-{needed})",
-                                      name=needed) from None
+        if importlib.util.find_spec(needed) is None:
+            raise ModuleNotFoundError(f"{needed} is missing (Debian: apt-get install python3-{needed})", name=needed)
     return getattr(importlib.import_module(f"dnlab.{place}"), name)

@@ -88,15 +88,6 @@ def module_of(command: str) -> ModuleType:
     return importlib.import_module(f"dnlab.cli.{command.replace('-', '_')}")
 
 
-def help_alone(words: Sequence[str]) -> None:
-    """Prints a command's help and ends, if its first word asks for that; what the help doesn't need may be missing."""
-    if list(words[1:2]) in (["--help"], ["-h"]):
-        from dnlab import absent
-
-        absent.stand_in(sorted({name for needs in NEEDS.values() for name in needs}))
-        module_of(words[0]).main(["--help"])
-
-
 def main(words: Optional[Sequence[str]] = None) -> int:
     """Runs a command by its words, the command first; gives the status."""
     from dnlab.cli.streams import guarded
@@ -141,9 +132,9 @@ def begun(words: Sequence[str]) -> int:
     from dnlab.processes import ending
 
     ending.watch(words[0])
-    lacking = missing(NEEDS[words[0]])
+    # Help needs none of these, and ends by itself.
+    lacking = missing(NEEDS[words[0]]) if list(words[1:2]) not in (["--help"], ["-h"]) else None
     if lacking is not None:
-        help_alone(words)
         print(said_of(words[0], lacking), file=sys.stderr)
         return MACHINE
     return int(module_of(words[0]).main(words[1:]))

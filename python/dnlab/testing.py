@@ -19,7 +19,7 @@ import pytest
 
 from dnlab.analysis.bounds import allowed_of, bound_of, bounds_in, failing, judge, percentiles_for
 from dnlab.analysis.naming import with_names
-from dnlab.analysis.results import Report
+from dnlab.analysis.reports import Report
 from dnlab.analysis.spans import span_of
 from dnlab.analysis.summing import summed
 from dnlab.errors import Faulty

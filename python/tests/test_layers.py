@@ -48,5 +48,5 @@ def test_a_module_keeps_to_its_layer(file: Path) -> None:
 
 def test_what_stands_below_needs_no_session() -> None:
     """What a layer imports by the modules of the package's own folder counts too: these have no numbers of their own."""
-    for name in "absent", "chance", "errors", "programs", "units":
+    for name in "chance", "errors", "programs", "units":
         assert {layer_of(one) for one in imported(PACKAGE / f"{name}.py")} <= {""}, name

@@ -12,8 +12,9 @@ from dnlab.analysis.makings import makings_of
 from dnlab.errors import Refused
 from dnlab.io import pieces, report, scenario
 from dnlab.io.digits import Text
+from dnlab.io.drops import CAUSES
 from dnlab.io.line_reader import Reader
-from dnlab.io.lines import CAUSES, CODES, LISTINGS, WORDS, pipe_code
+from dnlab.io.lines import CODES, LISTINGS, WORDS, pipe_code
 
 # Counted by hand in the reports: lines by word, then what the counters must be.
 COUNTED = {

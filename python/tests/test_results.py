@@ -110,13 +110,12 @@ def test_intervals() -> None:
     assert both.loc["b", ("rate", "mean")] == 2
 
 
-def test_without_numpy(tmp_path: Path) -> None:
-    """What it takes is named, and what needs nothing works."""
-    (tmp_path / "numpy.py").write_text("raise ModuleNotFoundError('no numpy', name='numpy')\n")
+def test_without_numpy() -> None:
+    """What it takes is named, and what needs nothing works; by -S Python has no packages."""
     words = ("import dnlab, dnlab.io.scenario, dnlab.io.splitting\ntry:\n    dnlab.read\nexcept ModuleNotFoundError as fault:\n"
              "    print(fault)")
-    done = subprocess.run([sys.executable, "-B", "-c", words], capture_output=True, text=True, check=False,
-                          env={**os.environ, "PYTHONPATH": f"{tmp_path}:{ROOT / 'python'}"})
+    done = subprocess.run([sys.executable, "-B", "-S", "-c", words], capture_output=True, text=True, check=False,
+                          env={**os.environ, "PYTHONPATH": str(ROOT / "python")})
     assert done.stdout == "numpy is missing (Debian: apt-get install python3-numpy)\n" and not done.stderr
 
 

@@ -15,8 +15,9 @@ from conftest import tool  # noqa: E402
 
 import dnlab  # noqa: E402
 from dnlab.analysis.by_hand import FLOWS, TRAIN, Run  # noqa: E402
+from dnlab.analysis.rows import Row  # noqa: E402
 from dnlab.analysis.spans import Span  # noqa: E402
-from dnlab.analysis.tables import Row, Tables  # noqa: E402
+from dnlab.analysis.tables import Tables  # noqa: E402
 from dnlab.analysis.view import View  # noqa: E402
 from dnlab.cli.sweep import far  # noqa: E402
 from dnlab.io import report, scenario  # noqa: E402

@@ -32,7 +32,8 @@ from dnlab.chance import Chance  # noqa: E402
 from dnlab.processes.progress import Progress  # noqa: E402
 from dnlab.sweeps.grids import cases_of, name_of, seeds_of, setting_of  # noqa: E402
 from dnlab.sweeps.jobs import How  # noqa: E402
-from dnlab.sweeps.templates import Template, value_of  # noqa: E402
+from dnlab.sweeps.templates import Template  # noqa: E402
+from dnlab.sweeps.values import value_of  # noqa: E402
 
 BOTTLENECK = ROOT / "python" / "examples" / "bottleneck.tmpl"
 # One packet of a size that the seed draws, by a link of 1 Mbit/s: 8000 ns a byte, and the delay.

@@ -10,8 +10,9 @@ from dnlab.analysis.estimates import half_of
 from dnlab.analysis.figures import Interval, interval, jain, percentile_name, place
 from dnlab.analysis.losses import losses, windows
 from dnlab.analysis.options import varied
+from dnlab.analysis.rows import times_of
 from dnlab.analysis.summing import grouped
-from dnlab.analysis.tables import Tables, times_of
+from dnlab.analysis.tables import Tables
 from dnlab.analysis.view import View
 from dnlab.cli.layout import milliseconds, table
 from dnlab.errors import Faulty

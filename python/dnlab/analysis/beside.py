@@ -5,7 +5,7 @@ from fractions import Fraction
 from typing import Iterator, NamedTuple, Optional, Sequence
 
 from dnlab.analysis.metrics import WORDS, Metric, metric_of, metrics
-from dnlab.analysis.tables import Row
+from dnlab.analysis.rows import Row
 from dnlab.units import amount_of, fitting, shown
 
 

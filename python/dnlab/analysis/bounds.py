@@ -15,9 +15,9 @@ from typing import Any, Callable, Iterable, Iterator, NamedTuple, Optional, Sequ
 
 from dnlab.analysis.metrics import Metric, is_named, metric_of, percentiles_in
 from dnlab.analysis.notes import Note
-from dnlab.analysis.tables import Row
+from dnlab.analysis.rows import Row
 from dnlab.errors import Faulty
-from dnlab.io.lines import CAUSES
+from dnlab.io.drops import CAUSES
 from dnlab.units import amount_of, shown
 
 SIGNS: dict[str, Callable[[Any, Any], bool]] = {"<=": operator.le, ">=": operator.ge, "==": operator.eq,

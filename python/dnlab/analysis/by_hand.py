@@ -9,7 +9,8 @@ FLOWS  flow 1 has two segments of 960 bytes and headers, over the same link: del
 """
 from typing import NamedTuple
 
-from dnlab.analysis.tables import Row, Tables
+from dnlab.analysis.rows import Row
+from dnlab.analysis.tables import Tables
 from dnlab.analysis.view import View
 from dnlab.io import report, scenario
 

@@ -14,7 +14,8 @@ from dnlab.analysis.commands import distinct
 from dnlab.analysis.packets import DROPPED, HELD
 from dnlab.errors import Refused
 from dnlab.io.digits import Flags, Ints
-from dnlab.io.lines import ACK, CAUSES, DELIVER, EXPIRE, FINISH, OK, PASS, REFUSED, pipe_name
+from dnlab.io.drops import CAUSES
+from dnlab.io.lines import ACK, DELIVER, EXPIRE, FINISH, OK, PASS, REFUSED, pipe_name
 from dnlab.io.scenario_parts import MASKS
 
 if TYPE_CHECKING:

@@ -10,7 +10,8 @@ from dnlab.analysis.losses import dropping_pipes
 from dnlab.analysis.packets import DROPPED, OUTCOMES, UNKNOWN
 from dnlab.analysis.view import View
 from dnlab.io.digits import Ints
-from dnlab.io.lines import ACK, CAUSES, DROP, EXPIRE, KINDS, OK, REFUSED, WORDS, pipe_name
+from dnlab.io.drops import CAUSES
+from dnlab.io.lines import ACK, DROP, EXPIRE, KINDS, OK, REFUSED, WORDS, pipe_name
 
 
 def whole(values: Any) -> Any:

@@ -15,7 +15,8 @@ from dnlab.analysis.life import Life, limits
 from dnlab.analysis.makings import Makings
 from dnlab.analysis.packets import HELD, Packets, Visits, never_seen
 from dnlab.io.digits import Ints
-from dnlab.io.lines import CAUSES, DATA, DELIVER, DROP, FINISH, PASS, PLAIN, pipe_name
+from dnlab.io.drops import CAUSES
+from dnlab.io.lines import DATA, DELIVER, DROP, FINISH, PASS, PLAIN, pipe_name
 from dnlab.io.report import Recorded
 from dnlab.io.scenario_parts import Command, Plan
 from dnlab.io.settings import Change, changes_of, stretches_of

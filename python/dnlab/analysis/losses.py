@@ -2,11 +2,12 @@
 import numpy as np
 
 from dnlab.analysis.packets import DELIVERED, DROPPED
-from dnlab.analysis.tables import Row
+from dnlab.analysis.rows import Row
 from dnlab.analysis.view import View
 from dnlab.errors import Faulty
 from dnlab.io.digits import Ints
-from dnlab.io.lines import CAUSES, PLAIN, pipe_name
+from dnlab.io.drops import CAUSES
+from dnlab.io.lines import PLAIN, pipe_name
 from dnlab.io.scenario_parts import HEADER
 
 # No table of windows of time has more rows of one experiment.

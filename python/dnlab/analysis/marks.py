@@ -12,7 +12,8 @@ import numpy as np
 from dnlab.analysis.likely import likely_of
 from dnlab.analysis.notes import Note
 from dnlab.analysis.packets import DELIVERED, DROPPED
-from dnlab.io.lines import ACKNOWLEDGES, CAUSES, OK, REFUSED
+from dnlab.io.drops import CAUSES
+from dnlab.io.lines import ACKNOWLEDGES, OK, REFUSED
 
 if TYPE_CHECKING:
     from dnlab.analysis.view import View

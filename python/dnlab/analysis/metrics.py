@@ -5,8 +5,8 @@ from fractions import Fraction
 from typing import Iterable, NamedTuple, Optional
 
 from dnlab.analysis.figures import percentile_name
-from dnlab.analysis.tables import PERCENTILES, WHOLE, Row, times_of
-from dnlab.io.lines import CAUSES
+from dnlab.analysis.rows import PERCENTILES, WHOLE, Row, times_of
+from dnlab.io.drops import CAUSES
 from dnlab.units import ENDINGS, shown
 
 _PERCENTILE = re.compile(r"delay\.p([0-9]{1,3}(?:\.[0-9]{1,6})?)")

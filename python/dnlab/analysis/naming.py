@@ -6,7 +6,6 @@ in the scenario alone, so names are put into its plans, and all that is made of 
 import re
 from typing import Iterable, Mapping, Optional, Sequence
 
-from dnlab.analysis.commands import injected_of
 from dnlab.errors import Faulty
 from dnlab.io.scenario_parts import Plan
 
@@ -55,6 +54,8 @@ def with_names(plans: Optional[dict[str, Plan]], names: Mapping[str, str], wante
 
 def sources_of(plan: Plan) -> list[tuple[str, str]]:
     """Returns address, and address with port, of those who inject, each once, in the order of the first."""
+    from dnlab.analysis.commands import injected_of
+
     headers = injected_of(plan.commands).words()
     return list(dict.fromkeys((address, f"{address}:{port}") for _, address, port, _, _ in headers))
 

@@ -31,3 +31,5 @@ KINDS = {
 }
 NO_SCENARIO = Note("no scenario", "sizes and the moments at which packets were made stand in a report under `trace 1`"
                    " alone: give the scenario as the second argument")
+# Marks of experiments that weren't run as their texts have it: a table of them is no answer, unless they are allowed.
+STOPPING = ("refused", "spent")

@@ -6,10 +6,12 @@ import pickle
 import re
 import sys
 from pathlib import Path
-from typing import Any, Callable, Optional
+from typing import TYPE_CHECKING, Any, Callable, Optional
 
-from dnlab.analysis.view import View
 from dnlab.errors import Faulty
+
+if TYPE_CHECKING:
+    from dnlab.analysis.view import View
 
 _WORD = re.compile(r"(.+\.py):([A-Za-z_][A-Za-z0-9_]*)")
 
@@ -32,7 +34,7 @@ class Own(str):
     def __reduce__(self) -> tuple[Any, tuple[Any, ...]]:
         return _made_anew, (str(self), _spelled(self.call), self.unit)
 
-    def of(self, view: View, of: str) -> Optional[float]:
+    def of(self, view: "View", of: str) -> Optional[float]:
         """What it is of a row's name; `Faulty` if the function raises, or gives no number."""
         from dnlab.analysis.results import Experiment
 

@@ -8,7 +8,8 @@ from numpy.typing import NDArray
 
 from dnlab.analysis.makings import Makings
 from dnlab.io.digits import Flags, Ints
-from dnlab.io.lines import ACKNOWLEDGES, ARRIVE, CAUSES, DATA, DELIVER, DROP, FINISH, KINDS, MAKE, PASS, PLAIN
+from dnlab.io.drops import CAUSES
+from dnlab.io.lines import ACKNOWLEDGES, ARRIVE, DATA, DELIVER, DROP, FINISH, KINDS, MAKE, PASS, PLAIN
 from dnlab.io.report import Recorded
 
 HELD, DELIVERED, DROPPED = 0, 1, 2

@@ -15,7 +15,8 @@ from dnlab.analysis.packets import UNKNOWN
 from dnlab.analysis.series import in_flight, waiting
 from dnlab.analysis.view import View
 from dnlab.io.digits import Ints
-from dnlab.io.lines import (ACK, ACKNOWLEDGES, ARRIVE, CAUSES, DATA, DROP, EXPIRE, IDENTIFY, MAKE, OK, REFUSED, RULE, WORDS,
+from dnlab.io.drops import CAUSES
+from dnlab.io.lines import (ACK, ACKNOWLEDGES, ARRIVE, DATA, DROP, EXPIRE, IDENTIFY, MAKE, OK, REFUSED, RULE, WORDS,
                             pipe_name)
 
 

@@ -5,9 +5,9 @@ from typing import Any, Optional, Sequence
 import pandas as pd
 
 from dnlab.analysis import frames
-from dnlab.analysis.asking import unit_of
 from dnlab.analysis.estimates import student
 from dnlab.analysis.figures import Interval, Kind, interval as interval_of
+from dnlab.analysis.stats import unit_of
 from dnlab.errors import Faulty
 
 # More seeds than this aren't counted.

@@ -14,11 +14,9 @@ from dnlab.analysis.packets import DELIVERED, DROPPED
 from dnlab.analysis.spans import Span
 from dnlab.analysis.view import Note, View
 from dnlab.io.digits import Ints
-from dnlab.io.lines import ACK, CAUSES, DATA, DROP, EXPIRE, pipe_name
+from dnlab.io.drops import CAUSES
+from dnlab.io.lines import ACK, DATA, DROP, EXPIRE, pipe_name
 
-WHAT = ("window", "queue", "sojourn", "rate", "drops")
-# Panels that are drawn where they are asked for by name (`dnlab.analysis.shares` makes them).
-MORE = ("throughput", "cdf:sojourn", "cdf:throughput", "box:sojourn", "box:throughput")
 # So many lines can be told apart in one panel without colour; windows are drawn of so many flows, and losses and timeouts of
 # so many apart.
 MOST = 8

@@ -1,13 +1,11 @@
 """A part of an experiment's time: so that a summary can leave out how it begins (its warm-up) and how it ends."""
 from typing import TYPE_CHECKING, NamedTuple, Optional
 
-import numpy as np
-
 from dnlab.errors import Faulty
-from dnlab.io.digits import Flags, Ints
 
 if TYPE_CHECKING:
     from dnlab.analysis.view import View
+    from dnlab.io.digits import Flags, Ints
 
 
 class Span(NamedTuple):
@@ -23,18 +21,20 @@ class Span(NamedTuple):
         """
         return self.begin == 0 and self.end is None
 
-    def has(self, moments: Ints) -> Flags:
+    def has(self, moments: "Ints") -> "Flags":
         """Which moments (ns, shape (n,)) lie in it: `begin` does and `end` doesn't. All do, known or not, if it is whole.
 
+        >>> import numpy as np
         >>> Span(2, 5).has(np.array([-1, 1, 2, 4, 5])).tolist()
         [False, False, True, True, False]
         """
-        found: Flags = np.ones(len(moments), dtype=np.bool_) if self.is_whole() else moments >= self.begin
+        found: Flags = moments == moments if self.is_whole() else moments >= self.begin
         return found if self.end is None else found & (moments < self.end)
 
-    def is_over(self, moments: Ints) -> Flags:
+    def is_over(self, moments: "Ints") -> "Flags":
         """Which moments (ns, shape (n,)) come after it."""
-        return np.zeros(len(moments), dtype=np.bool_) if self.end is None else moments >= self.end
+        found: Flags = moments != moments if self.end is None else moments >= self.end
+        return found
 
     def words(self) -> str:
         """The same as text, '' if it is whole.

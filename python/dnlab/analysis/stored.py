@@ -5,7 +5,7 @@ import zlib
 from contextlib import contextmanager
 from typing import IO, Iterator, Optional, cast
 
-from dnlab.analysis.tables import Row
+from dnlab.analysis.rows import Row
 from dnlab.errors import Faulty
 
 

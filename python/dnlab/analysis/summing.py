@@ -6,10 +6,11 @@ from dnlab.analysis.figures import Percentile, interval
 from dnlab.analysis.losses import losses, windows
 from dnlab.analysis.metrics import is_named
 from dnlab.analysis.options import varied
+from dnlab.analysis.rows import PERCENTILES, Row
 from dnlab.analysis.spans import Span
-from dnlab.analysis.tables import PERCENTILES, Row, Tables
+from dnlab.analysis.tables import Tables
 from dnlab.analysis.view import KINDS, Note, View
-from dnlab.analysis.work import Given, over
+from dnlab.analysis.work import Given, lacking, over
 from dnlab.errors import Faulty
 from dnlab.io.origin import check_beside
 from dnlab.io.scenario_parts import Plan
@@ -64,14 +65,6 @@ def whole(given: Given, plans: Optional[dict[str, Plan]], wanted: Sequence[str],
         names.add(name_of(made))
         yield made
     lacking(given.report, given.scenario(), [] if wanted or plans is None else [name for name in plans if name not in names])
-
-
-def lacking(report: str, scenario: str, names: Sequence[str]) -> None:
-    """Refuses a report that lacks some experiments of its scenario."""
-    if names:
-        more = f" and {len(names) - 1} more" if len(names) > 1 else ""
-        raise Faulty(f"{report}: it has no experiment {names[0]}{more}, which {scenario} has: was it cut short? (--experiment"
-                     " takes those that it has)")
 
 
 def grouped(rows: Sequence[Row], by: Sequence[str], columns: Sequence[str]) -> list[Row]:

@@ -3,38 +3,20 @@
 What can't be told is None. Times are nanoseconds, rates bits per second, rounded down.
 """
 from dataclasses import dataclass
-from typing import Any, Optional, Sequence
+from typing import Optional, Sequence
 
 import numpy as np
 
-from dnlab.analysis.figures import Percentile, jain, percentile_name, place
+from dnlab.analysis.figures import Percentile, jain, place
 from dnlab.analysis.marks import codes_of
 from dnlab.analysis.packets import DELIVERED, DROPPED, HELD
+from dnlab.analysis.rows import PERCENTILES, WHOLE, Row, columns_of, times_of
 from dnlab.analysis.spans import Span
 from dnlab.analysis.view import View, flows_of
 from dnlab.io.digits import Ints
-from dnlab.io.lines import CAUSES, DATA, PLAIN, pipe_name
+from dnlab.io.drops import CAUSES
+from dnlab.io.lines import DATA, PLAIN, pipe_name
 from dnlab.io.scenario_parts import HEADER
-
-Row = dict[str, Any]
-# Rows of all senders, or of those of one direction; they carry all marks.
-WHOLE = ("there", "back", "all")
-PERCENTILES: tuple[Percentile, ...] = (50, 99)
-_COUNTS = ("packets", "delivered", "in_flight", "bytes", "first", "last", "time", "rate")
-_MORE = ("mean", "jitter", "useful", "goodput", "utilisation", "retransmissions", "fct", "jain", "seed", "budget_packets",
-         "budget_steps", "params", "varied", "refused", "codes", "ended", "ended_at", "end", "warnings")
-
-
-def times_of(percentiles: Sequence[Percentile]) -> tuple[str, ...]:
-    """The columns of times under way."""
-    return "min", *(percentile_name(one) for one in percentiles), "max"
-
-
-def columns_of(percentiles: Sequence[Percentile] = PERCENTILES, span: Span = Span()) -> tuple[str, ...]:
-    """All columns of a summary, in order; one of a part of the time has `from` and `to` at the end."""
-    return ("experiment", "sender", *_COUNTS, *CAUSES, *times_of(percentiles), *_MORE,
-            *(() if span.is_whole() else ("from", "to")))
-
 
 def spread(times: Optional[Ints], percentiles: Sequence[Percentile], with_mean: bool = False) -> Row:
     """Minimum, percentiles by nearest rank, and maximum, where it is asked for the mean too; None where there is no time

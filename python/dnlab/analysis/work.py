@@ -2,16 +2,17 @@
 import os
 import sys
 from pathlib import Path
-from typing import BinaryIO, Callable, Iterable, Iterator, NamedTuple, Optional, Sequence, TypeVar, Union
+from typing import TYPE_CHECKING, BinaryIO, Callable, Iterable, Iterator, NamedTuple, Optional, Sequence, TypeVar, Union
 
-from dnlab.analysis.view import View, view_of
 from dnlab.errors import Faulty, Refused
 from dnlab.io.packed import unpacked
 from dnlab.io.pieces import Piece, pieces
 from dnlab.io.scenario import read
 from dnlab.io.scenario_parts import Plan
-from dnlab.processes.crew import Crew
-from dnlab.processes.progress import Progress
+
+if TYPE_CHECKING:
+    from dnlab.analysis.view import View
+    from dnlab.processes.crew import Crew
 
 T = TypeVar("T")
 # Below so many bytes of report a second process costs more than it saves.
@@ -76,6 +77,14 @@ def pieces_of(report: str, wanted: Sequence[str] = ()) -> Iterator[Piece]:
             raise Faulty(f"{report}: it has no experiment {name}")
 
 
+def lacking(report: str, scenario: str, names: Sequence[str]) -> None:
+    """Refuses a report that lacks some experiments of its scenario."""
+    if names:
+        more = f" and {len(names) - 1} more" if len(names) > 1 else ""
+        raise Faulty(f"{report}: it has no experiment {names[0]}{more}, which {scenario} has: was it cut short? (--experiment"
+                     " takes those that it has)")
+
+
 class TooMany(Faulty):
     """A report has more experiments than can be taken: `count` of them, where `most` can be."""
 
@@ -85,15 +94,20 @@ class TooMany(Faulty):
         self.most = most
 
 
-def _task(function: Callable[[View], T], piece: Piece, plans: Optional[dict[str, Plan]], given: Given) -> T:
+def _task(function: "Callable[[View], T]", piece: Piece, plans: Optional[dict[str, Plan]], given: Given) -> T:
+    from dnlab.analysis.view import view_of
+
     return function(view_of(piece, plans, given.report, given.scenario()))
 
 
-def over(given: Given, function: Callable[[View], T], plans: Optional[dict[str, Plan]], wanted: Sequence[str] = (),
+def over(given: Given, function: "Callable[[View], T]", plans: Optional[dict[str, Plan]], wanted: Sequence[str] = (),
          workers: Optional[int] = None, tool: str = "dnlab", most: Optional[int] = None) -> Iterator[T]:
     """What a function makes of each experiment, in the report's order, by so many processes (all cores where it isn't
     given and the report is long). The function must be one that another process finds by its name. Where
     a file has more than `most` experiments it is refused before one is read."""
+    # Here, since who runs a scenario and reads it needs no processes.
+    from dnlab.processes.progress import Progress
+
     found: Iterable[Piece] = pieces_of(given.report, wanted)
     total = None
     if given.report != "-":
@@ -115,10 +129,12 @@ def over(given: Given, function: Callable[[View], T], plans: Optional[dict[str, 
                 progress.step()
 
 
-def _by_processes(given: Given, function: Callable[[View], T], plans: Optional[dict[str, Plan]],
+def _by_processes(given: Given, function: "Callable[[View], T]", plans: Optional[dict[str, Plan]],
                   found: Iterable[Piece], workers: int) -> Iterator[T]:
     """What comes out of order waits for what is before it; a few are given ahead, so that no more texts are kept than
     are worked on."""
+    from dnlab.processes.crew import Crew
+
     done: dict[int, T] = {}
     head = 0
     with Crew[int](workers) as crew:
@@ -133,7 +149,7 @@ def _by_processes(given: Given, function: Callable[[View], T], plans: Optional[d
             head += 1
 
 
-def _in_order(crew: Crew[int], done: dict[int, T], head: int) -> Iterator[T]:
+def _in_order(crew: "Crew[int]", done: dict[int, T], head: int) -> Iterator[T]:
     """The result of the first that hasn't been given yet."""
     while head not in done:
         outcome = crew.next()

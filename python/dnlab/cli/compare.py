@@ -2,17 +2,14 @@
 import argparse
 import json
 from dataclasses import dataclass, field
-from typing import Any, Iterator, NamedTuple, Optional, Sequence
+from typing import TYPE_CHECKING, Any, Iterator, NamedTuple, Optional, Sequence
 
 from dnlab.analysis.beside import Pair, Tolerance, pairs, tolerance_of
 from dnlab.analysis.bounds import plain_amount
 from dnlab.analysis.metrics import is_named, metrics, percentiles_in
-from dnlab.analysis.parting import Parting, parting
+from dnlab.analysis.rows import Row
 from dnlab.analysis.stored import stored_rows
-from dnlab.analysis.summing import lacking
-from dnlab.analysis.tables import Row, Tables
-from dnlab.analysis.view import View, view_of
-from dnlab.analysis.work import pieces_of, plans_of
+from dnlab.analysis.work import lacking, pieces_of, plans_of
 from dnlab.cli.layout import lines_of
 from dnlab.cli.words import count_of, parser_of, percentiles_of
 from dnlab.errors import DIFFERS, INPUT, Faulty, status_of
@@ -20,6 +17,10 @@ from dnlab.io.origin import check_beside
 from dnlab.io.pieces import Piece
 from dnlab.io.scenario_parts import Plan
 from dnlab.programs import say
+
+if TYPE_CHECKING:
+    from dnlab.analysis.parting import Parting
+    from dnlab.analysis.view import View
 
 EXAMPLE = """What packets carry decides where the two first part (flow 1 byte 2920, train 9
 packet 5), since serial numbers shift. It prints the moment, the last line that
@@ -83,14 +84,18 @@ class Run:
     def names(self) -> list[str]:
         return [*self.pieces] if self.stored is None else [*self.stored]
 
-    def view(self, name: str) -> Optional[View]:
+    def view(self, name: str) -> "Optional[View]":
         """An experiment, joined; None of a stored summary."""
         if self.stored is not None:
             return None
+        from dnlab.analysis.view import view_of
+
         return view_of(self.pieces[name], self.plans, self.report, ", ".join(self.scenario))
 
-    def rows(self, name: str, view: Optional[View], percentiles: Sequence[str]) -> list[Row]:
+    def rows(self, name: str, view: "Optional[View]", percentiles: Sequence[str]) -> list[Row]:
         if view is not None:
+            from dnlab.analysis.tables import Tables
+
             return Tables(view, percentiles).rows()
         assert self.stored is not None
         return self.stored[name]
@@ -160,6 +165,8 @@ def only(first: Optional[Plan], second: Optional[Plan], lines: int) -> list[str]
 
 def parts_of(given: argparse.Namespace, first: Run, second: Run) -> Iterator[Part]:
     """What is found of each two experiments."""
+    from dnlab.analysis.parting import parting
+
     named = [metric for one in given.tolerance for metric in one.metrics]
     percentiles = list(dict.fromkeys([*given.percentiles, *percentiles_in(named)]))
     for name, other in names_of(given.experiment, first, second):
@@ -178,7 +185,7 @@ def parts_of(given: argparse.Namespace, first: Run, second: Run) -> Iterator[Par
                    told(shown, found, only(one.plan, two.plan, given.lines), given.lines))
 
 
-def parted(name: str, found: Optional[Parting]) -> Optional[dict[str, Any]]:
+def parted(name: str, found: "Optional[Parting]") -> Optional[dict[str, Any]]:
     """Where two experiments part, for other programs."""
     if found is None:
         return None
@@ -186,7 +193,7 @@ def parted(name: str, found: Optional[Parting]) -> Optional[dict[str, Any]]:
     return {"experiment": name, "moment": found.moment, **lines}
 
 
-def told(name: str, found: Optional[Parting], differs: Sequence[str], lines: int) -> list[str]:
+def told(name: str, found: "Optional[Parting]", differs: Sequence[str], lines: int) -> list[str]:
     """Where two experiments part, in lines, with what differs in their scenarios."""
     if found is None:
         return [f"{name}: the same, line by line"]

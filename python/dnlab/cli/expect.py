@@ -8,9 +8,8 @@ from typing import Sequence
 from dnlab.analysis.bounds import FAILING, FORM, Bound, Failing, Judged, allowed_of, bound_of, bounds_in, failing, judge, percentiles_for
 from dnlab.analysis.metrics import WORDS
 from dnlab.analysis.naming import names_of, with_names
-from dnlab.analysis.results import Report
+from dnlab.analysis.reports import Report
 from dnlab.analysis.spans import Span
-from dnlab.analysis.summing import summed, tell
 from dnlab.analysis.work import Given, bytes_of, plans_of
 from dnlab.cli.words import add_names, add_span, add_texts, count_of, listed, parser_of, span_in, taken
 from dnlab.errors import DIFFERS, MACHINE, Failed, Faulty, Lacking, status_of
@@ -142,6 +141,9 @@ def ran(given: argparse.Namespace) -> Report:
 
 def main(words_given: Sequence[str]) -> int:
     given = words(words_given)
+    # Here, since the help takes no numpy.
+    from dnlab.analysis.summing import summed, tell
+
     try:
         bounds = bounds_of(given)
         kept = ran(given) if given.run is not None else None

@@ -8,7 +8,7 @@ from pathlib import Path
 from typing import Sequence
 
 from dnlab.cli.words import count_of, parser_of, time_of
-from dnlab.emulation import guest_plan, hosts_file, kernel_cache, network_check, run, shell
+from dnlab.emulation import guest_plan, kernel_cache, network_check, run, shell
 from dnlab.emulation.experiment import Experiment
 from dnlab.emulation.terminal import Terminal
 from dnlab.emulation.verdict import Options
@@ -78,6 +78,9 @@ def words(given: Sequence[str]) -> argparse.Namespace:
 
 def read_file(name: str) -> Experiment:
     """Returns the experiment of a file, its network checked, after its warnings were printed."""
+    # Here, since the help takes no yaml.
+    from dnlab.emulation import hosts_file
+
     try:
         experiment = (hosts_file.experiment_of(sys.stdin.buffer.read(), "standard input", Path("."))
                       if name == "-" else hosts_file.read(Path(name)))

@@ -4,8 +4,8 @@ import re
 from typing import Optional, Sequence
 
 from dnlab.analysis.figures import Percentile
-from dnlab.analysis.tables import PERCENTILES, Row, times_of
-from dnlab.io.lines import CAUSES
+from dnlab.analysis.rows import PERCENTILES, Row, times_of
+from dnlab.io.drops import CAUSES
 from dnlab.units import FOR_PEOPLE
 
 

@@ -2,18 +2,18 @@
 import argparse
 import sys
 from fnmatch import fnmatchcase
-from typing import Iterable, Sequence
+from typing import TYPE_CHECKING, Iterable, Sequence
 
-import numpy as np
-
-from dnlab.analysis.summing import tell, whole
-from dnlab.analysis.view import View, view_of
 from dnlab.analysis.work import Given, pieces_of, plans_of
 from dnlab.cli.words import add_texts, parser_of, taken
 from dnlab.errors import Faulty, Lacking, status_of
 from dnlab.io.outputs import whole_file
 from dnlab.io.pieces import Piece
 from dnlab.programs import say
+
+if TYPE_CHECKING:
+    from dnlab.analysis.view import View
+    from dnlab.io.digits import Flags
 
 EXAMPLE = """The scenario must have `@0 trace 1` as the first command of the experiment, and
 leave it on: only then the report has every packet's addresses and size. What
@@ -51,8 +51,10 @@ def words(given: Sequence[str]) -> argparse.Namespace:
     return taken(parser, list(given))
 
 
-def wanted(view: View, patterns: Sequence[str]) -> "np.ndarray[tuple[int, ...], np.dtype[np.bool_]]":
+def wanted(view: "View", patterns: Sequence[str]) -> "Flags":
     """Which packets are of senders of some names. Shape (packets,)."""
+    import numpy as np
+
     found = np.full(len(view.packets), not patterns, dtype=np.bool_)
     known = []
     for name, packets in view.senders:
@@ -63,7 +65,7 @@ def wanted(view: View, patterns: Sequence[str]) -> "np.ndarray[tuple[int, ...], 
     return found
 
 
-def write_one(given: argparse.Namespace, view: View) -> None:
+def write_one(given: argparse.Namespace, view: "View") -> None:
     from dnlab.analysis import capture
 
     capture.judge(view)
@@ -82,6 +84,10 @@ def write_one(given: argparse.Namespace, view: View) -> None:
 
 def main(words_given: Sequence[str]) -> int:
     given = words(words_given)
+    # Here, since the help takes no numpy.
+    from dnlab.analysis.summing import tell, whole
+    from dnlab.analysis.view import view_of
+
     notes = []
     total = 0
     try:

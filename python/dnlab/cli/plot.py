@@ -1,19 +1,21 @@
 """Draws a report of dnlab over time: windows, queues, one-way delays, drops."""
 import argparse
 from functools import partial
-from typing import NamedTuple, Optional, Sequence
+from typing import TYPE_CHECKING, NamedTuple, Optional, Sequence
 
 from dnlab.analysis.metrics import is_named
 from dnlab.analysis.naming import names_of, with_names
-from dnlab.analysis.series import MORE, WHAT, Panel, panel_of
-from dnlab.analysis.shares import overlaid
+from dnlab.analysis.notes import Note
+from dnlab.analysis.panels import MORE, WHAT
 from dnlab.analysis.spans import Span
-from dnlab.analysis.summing import tell, whole
-from dnlab.analysis.view import Note, View
 from dnlab.analysis.work import Given, TooMany, over, plans_of
 from dnlab.cli.words import add_names, add_texts, count_of, moment_of, parser_of, taken, time_of
 from dnlab.errors import Faulty, status_of
 from dnlab.programs import say
+
+if TYPE_CHECKING:
+    from dnlab.analysis.series import Panel
+    from dnlab.analysis.view import View
 
 EXAMPLE = """A column for each experiment, a panel for each of --what:
   window   cwnd and ssthresh of each flow, 16 at most, in bytes and segments,
@@ -57,7 +59,7 @@ _MOST_OVER = 250
 class Drawn(NamedTuple):
     """What one experiment gives to a picture."""
     name: str
-    panels: list[Panel]
+    panels: "list[Panel]"
     notes: list[Note]
 
 
@@ -104,8 +106,10 @@ def words(given: Sequence[str]) -> argparse.Namespace:
     return found
 
 
-def draw_one(view: View, what: Sequence[str], span: Span, every: Optional[int], patterns: Sequence[str]) -> Drawn:
+def draw_one(view: "View", what: Sequence[str], span: Span, every: Optional[int], patterns: Sequence[str]) -> Drawn:
     """The panels of one experiment, for another process."""
+    from dnlab.analysis.series import panel_of
+
     names = [name for name, _ in view.senders]
     # Of all senders, so before some are chosen.
     notes = view.notes
@@ -119,6 +123,8 @@ def draw_one(view: View, what: Sequence[str], span: Span, every: Optional[int], 
 
 
 def draw(given: argparse.Namespace) -> list[Drawn]:
+    from dnlab.analysis.summing import whole
+
     plans = with_names(plans_of(given.scenarios), names_of(given.names), given.experiment)
     texts = Given(given.report, tuple(given.scenarios))
     drawn = []
@@ -143,9 +149,12 @@ def draw(given: argparse.Namespace) -> list[Drawn]:
 
 
 def main(words_given: Sequence[str]) -> int:
+    given = words(words_given)
+    # Here, since the help takes no numpy.
+    from dnlab.analysis.shares import overlaid
+    from dnlab.analysis.summing import tell
     from dnlab.plot import pictures
 
-    given = words(words_given)
     try:
         drawn = draw(given)
         names, columns = [one.name for one in drawn], [one.panels for one in drawn]

@@ -4,18 +4,18 @@ import itertools
 import sys
 from collections import Counter
 from contextlib import ExitStack
-from typing import BinaryIO, Callable, Iterator, Optional, Sequence
+from typing import TYPE_CHECKING, BinaryIO, Callable, Iterator, Optional, Sequence
 
 from dnlab.cli.from_ipfw import traffic_of
 from dnlab.cli.words import moment_of, parser_of, time_of
 from dnlab.errors import Failed, Faulty, cause_of, status_of
-from dnlab.io import arrivals
-from dnlab.io.arrivals import Arrival, Left
 from dnlab.io.outputs import whole_file
 from dnlab.io.scenario import Judged
 from dnlab.programs import program, say
-from dnlab.session import replaying
-from dnlab.session.replaying import Fate
+
+if TYPE_CHECKING:
+    from dnlab.io.arrivals import Arrival, Left
+    from dnlab.session.replaying import Fate
 
 EXAMPLE = """FILE is a capture (pcap or pcapng; tcp and udp over IPv4) or a table of arrivals
 (CSV, whose first line names the columns: moment in ns or seconds, size, and if
@@ -51,7 +51,7 @@ def words(given: Sequence[str]) -> argparse.Namespace:
     out.add_argument("--out", metavar="FILE", action="append", type=out_of,
                      help="what leaves the link: FILE.pcap or FILE.csv, or - (a capture on standard output); may be said again")
     out.add_argument("--inject", metavar="FILE", help="a scenario with the packets as `inject` lines; nothing is run")
-    parser.add_argument("--large", choices=arrivals.LARGE, default="refuse", help="what becomes of packets above 1500 bytes [refuse]")
+    parser.add_argument("--large", choices=("refuse", "cut", "split"), default="refuse", help="what becomes of packets above 1500 bytes [refuse]")
     parser.add_argument("--align", action="store_true", help="each file begins at the same moment, whatever its clock says")
     parser.add_argument("--tail", type=time_of, default=10 * 10**9, metavar="TIME", help="how long is waited for the last packets [10s]")
     parser.add_argument("--begin", type=moment_of, default=0, metavar="TIME", help="the moment of the first packet on the link [0]")
@@ -87,8 +87,10 @@ def link_of(given: argparse.Namespace, head: str) -> list[tuple[int, str]]:
     return commands
 
 
-def came(given: argparse.Namespace, left: Left) -> tuple[int, Iterator[Arrival]]:
+def came(given: argparse.Namespace, left: "Left") -> "tuple[int, Iterator[Arrival]]":
     """The moment of the first packet, and all of them, by their moments."""
+    from dnlab.io import arrivals
+
     files = [arrivals.of_file(name, left) for name in given.files]
     found = arrivals.fitting(arrivals.merged(files, given.align), given.large, left)
     first = next(found, None)
@@ -97,8 +99,10 @@ def came(given: argparse.Namespace, left: Left) -> tuple[int, Iterator[Arrival]]
     return first.moment, itertools.chain([first], found)
 
 
-def run(given: argparse.Namespace, head: str, left: Left) -> str:
+def run(given: argparse.Namespace, head: str, left: "Left") -> str:
     """Sends the packets through the link; what is said of them."""
+    from dnlab.session import replaying
+
     link = link_of(given, head)
     begin, packets = came(given, left)
     counts: Counter[str] = Counter()
@@ -106,7 +110,7 @@ def run(given: argparse.Namespace, head: str, left: Left) -> str:
     with ExitStack() as stack:
         takes = [_writer(given, name, begin, stack) for name in given.out]
 
-        def tell(fate: Fate) -> None:
+        def tell(fate: "Fate") -> None:
             counts[fate.cause] += 1
             seen = fate._replace(moment=fate.moment - given.begin)
             for take in takes:
@@ -116,7 +120,10 @@ def run(given: argparse.Namespace, head: str, left: Left) -> str:
     return replaying.tally_of(counts, held)
 
 
-def _writer(given: argparse.Namespace, name: str, begin: int, stack: ExitStack) -> Callable[[Fate], None]:
+def _writer(given: argparse.Namespace, name: str, begin: int, stack: ExitStack) -> "Callable[[Fate], None]":
+    from dnlab.io import arrivals
+    from dnlab.session import replaying
+
     file: BinaryIO = sys.stdout.buffer if name == "-" else stack.enter_context(whole_file(name))
     if name.endswith(".csv"):
         table = replaying.Table(file, begin)
@@ -128,6 +135,10 @@ def _writer(given: argparse.Namespace, name: str, begin: int, stack: ExitStack) 
 
 def main(words_given: Sequence[str]) -> int:
     given = words(words_given)
+    # Here, since the help takes no dpkt.
+    from dnlab.io.arrivals import Left
+    from dnlab.session import replaying
+
     left = Left()
     said: Optional[str] = None
     head = f"experiment replay seed {given.seed} budget {given.budget} steps 10000000"

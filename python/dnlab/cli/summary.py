@@ -6,10 +6,9 @@ import sys
 from typing import Sequence, TextIO
 
 from dnlab.analysis.naming import names_of, with_names
+from dnlab.analysis.notes import Note
+from dnlab.analysis.rows import Row, columns_of, times_of
 from dnlab.analysis.spans import Span
-from dnlab.analysis.summing import grouped, summed, tell, tell_empty
-from dnlab.analysis.tables import Row, columns_of, times_of
-from dnlab.analysis.view import Note
 from dnlab.analysis.work import Given, plans_of
 from dnlab.cli.layout import bare_table, table
 from dnlab.cli.words import add_names, add_span, add_texts, count_of, parser_of, percentiles_of, span_in, taken, time_of
@@ -112,6 +111,9 @@ def print_json(rows: Sequence[Row], out: TextIO) -> None:
 
 def main(words_given: Sequence[str]) -> int:
     given = words(words_given)
+    # Here, since the help takes no numpy.
+    from dnlab.analysis.summing import grouped, summed, tell, tell_empty
+
     span = Span(given.begin, given.end)
     kind = "windows" if given.every else "losses" if given.losses else "summary"
     rows: list[Row] = []

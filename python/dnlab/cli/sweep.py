@@ -1,17 +1,15 @@
 """Runs a template of a scenario with each setting and each seed, and prints means with their intervals."""
+from __future__ import annotations
+
 import argparse
 import importlib.util
 import io
 import sys
-from typing import Any, BinaryIO, Optional, Sequence
+from typing import TYPE_CHECKING, Any, BinaryIO, Sequence
 
-import pandas as pd
-
-from dnlab.analysis.asking import USUAL, Ask
 from dnlab.analysis.own import Own
-from dnlab.analysis.seeds import compared
 from dnlab.analysis.spans import Span
-from dnlab.analysis.summing import tell
+from dnlab.analysis.stats import USUAL, Ask
 from dnlab.cli.layout import plain, sweep_table
 from dnlab.cli.summary import print_csv, print_json
 from dnlab.cli.sweep_words import is_of_programs, look_of, pair_in, words
@@ -20,11 +18,15 @@ from dnlab.io.outputs import whole_file
 from dnlab.processes import ending
 from dnlab.programs import say
 from dnlab.sweeps.cells import told_of
-from dnlab.sweeps.sweeping import Sweep
-from dnlab.sweeps.templates import shown
+from dnlab.sweeps.values import shown
+
+if TYPE_CHECKING:
+    import pandas as pd
+
+    from dnlab.sweeps.sweeping import Sweep
 
 
-def lacking(given: argparse.Namespace) -> Optional[str]:
+def lacking(given: argparse.Namespace) -> str | None:
     """What a file that is asked for would need and isn't there."""
     is_parquet = given.parquet is not None or any(str(name).endswith(".parquet") for name in (given.each, given.long))
     if is_parquet and importlib.util.find_spec("pyarrow") is None:
@@ -36,6 +38,8 @@ def lacking(given: argparse.Namespace) -> Optional[str]:
 
 def records_of(frame: pd.DataFrame) -> list[dict[str, Any]]:
     """The rows of a frame, with None for what isn't known."""
+    import pandas as pd
+
     return [{name: None if value is pd.NA or value != value else value for name, value in row.items()}
             for row in frame.astype(object).to_dict("records")]
 
@@ -123,6 +127,8 @@ def say_needed(made: Sweep, table: pd.DataFrame, within: float) -> None:
 
 def say_all(made: Sweep, table: pd.DataFrame) -> None:
     """Says what there is to say of the experiments and of what is kept."""
+    from dnlab.analysis.summing import tell
+
     rows = records_of(table)
     tell("sweep", made.notes(), len(made.cases))
     seeds = len({case.seed for case in made.cases})
@@ -139,8 +145,10 @@ def say_all(made: Sweep, table: pd.DataFrame) -> None:
     say("sweep", f"{len(made.cases)} experiments: {made.ran} were run, {kept}")
 
 
-def sweep_of(given: argparse.Namespace) -> tuple[Sweep, Optional[str]]:
+def sweep_of(given: argparse.Namespace) -> tuple[Sweep, str | None]:
     """The sweep of the words, and the file that keeps its answers, if one does."""
+    from dnlab.sweeps.sweeping import Sweep
+
     asks = [Ask(ask.of, ask.stats or USUAL) for ask in given.asks]
     span = Span(given.begin, given.end)
     if is_of_programs(given):
@@ -156,13 +164,12 @@ def sweep_of(given: argparse.Namespace) -> tuple[Sweep, Optional[str]]:
                  anew=given.anew, allow=given.allow, parts=given.parts, span=span), kept
 
 
-def sweep(given: argparse.Namespace) -> int:
-    ending.tells(lambda: "no experiment was run")
-    made, kept = sweep_of(given)
-    if given.dry_run:
-        sys.stdout.write(made.text(made.cases[0]))
-        say("sweep", f"{len(made.cases)} experiments; this is the text of {made.cases[0].told()}")
-        return 0
+def judge(given: argparse.Namespace, made: Sweep) -> None:
+    """Refuses a picture or pairs that the settings don't have, before anything is run."""
+    import pandas as pd
+
+    from dnlab.analysis.seeds import compared
+
     if given.plot is not None:
         from dnlab.plot import curves
 
@@ -172,6 +179,16 @@ def sweep(given: argparse.Namespace) -> int:
         along, base = pair_in(given.pairs)
         compared(pd.DataFrame([{**case.settings, "sender": "", "seed": case.seed, "warnings": ""} for case in made.cases]),
                  made.settings, [], along, base)
+
+
+def sweep(given: argparse.Namespace) -> int:
+    ending.tells(lambda: "no experiment was run")
+    made, kept = sweep_of(given)
+    if given.dry_run:
+        sys.stdout.write(made.text(made.cases[0]))
+        say("sweep", f"{len(made.cases)} experiments; this is the text of {made.cases[0].told()}")
+        return 0
+    judge(given, made)
     ending.tells(lambda: far(made, kept))
     ending.add(made.kept.close)
     try:
@@ -186,7 +203,7 @@ def sweep(given: argparse.Namespace) -> int:
     return 0
 
 
-def far(made: Sweep, kept: Optional[str]) -> str:
+def far(made: Sweep, kept: str | None) -> str:
     """How many experiments are done, and where."""
     done = f"{len(made.found)} of {len(made.cases)} experiments"
     if any(isinstance(stat, Own) for stat in made.stats()):

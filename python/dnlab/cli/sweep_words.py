@@ -3,14 +3,14 @@ import argparse
 import os
 from typing import Any, Callable, Optional, Sequence, TypeVar
 
-from dnlab.analysis.asking import STATS, USUAL, Ask, stats_of
 from dnlab.analysis.figures import KINDS
+from dnlab.analysis.notes import STOPPING
+from dnlab.analysis.stats import STATS, USUAL, Ask, stats_of
 from dnlab.cli.plot import picture
 from dnlab.cli.words import add_span, count_of, listed, parser_of, span_in
-from dnlab.sweeps.elsewhere import DASK
 from dnlab.sweeps.grids import seeds_of, setting_of
-from dnlab.sweeps.sweeping import STOPPING
-from dnlab.sweeps.templates import value_of
+from dnlab.sweeps.jobs import DASK
+from dnlab.sweeps.values import value_of
 
 ABOUT = "Runs a template with each setting and seed, and prints means with intervals."
 T = TypeVar("T")

@@ -1,13 +1,15 @@
 """Makes a page of HTML to look at runs of dnlab in a browser, packet by packet."""
 import argparse
-from typing import Iterator, Sequence, cast
+from typing import TYPE_CHECKING, Iterator, Sequence, cast
 
-from dnlab.analysis.summing import tell, whole
-from dnlab.analysis.view import Note, View
+from dnlab.analysis.notes import Note
 from dnlab.analysis.work import Given, TooMany, over, plans_of
 from dnlab.cli.words import add_texts, count_of, parser_of, taken
 from dnlab.errors import Faulty, status_of
 from dnlab.programs import say
+
+if TYPE_CHECKING:
+    from dnlab.analysis.view import View
 
 EXAMPLE = """The page has, over one axis of time: the bytes of a flow (sent, sent again,
 acknowledged, dropped), windows, the packets at each pipe, delays, and rates
@@ -45,7 +47,7 @@ def words(given: Sequence[str]) -> argparse.Namespace:
     return taken(parser, list(given))
 
 
-def draw_one(view: View) -> "tuple[object, list[Note]]":
+def draw_one(view: "View") -> "tuple[object, list[Note]]":
     """What a page has of one experiment, for another process."""
     from dnlab.plot.page import drawn
 
@@ -54,11 +56,13 @@ def draw_one(view: View) -> "tuple[object, list[Note]]":
 
 
 def main(words_given: Sequence[str]) -> int:
+    given = words(words_given)
+    # Here, since the help takes no numpy.
     from plotly.offline import get_plotlyjs
 
+    from dnlab.analysis.summing import tell, whole
     from dnlab.plot.page import Drawn, write
 
-    given = words(words_given)
     notes: list[tuple[str, Note]] = []
     names: list[str] = []
 

@@ -16,7 +16,6 @@ import dpkt
 from dnlab.errors import Faulty
 
 LEAST, MOST = 40, 1500
-LARGE = ("refuse", "cut", "split")
 ETHERNET, RAW = 1, 101
 # Frames of a capture may stand a few places from where their moments would have them.
 # In ns; what clocks say since 1970 is below it.

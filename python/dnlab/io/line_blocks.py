@@ -5,8 +5,9 @@ from typing import TYPE_CHECKING, Callable, Optional
 import numpy as np
 
 from dnlab.io.digits import Flags, Ints, Text, word_key
-from dnlab.io.lines import (ACK, ARRIVE, CAUSES, CODES, DELIVER, DROP, EXPIRE, FINISH, IDENTIFIER, IDENTIFY, KINDS,
-                            LISTINGS, MAKE, OK, PASS, REFUSED, SPENT, WORDS, no_rows)
+from dnlab.io.drops import CAUSES
+from dnlab.io.lines import (ACK, ARRIVE, CODES, DELIVER, DROP, EXPIRE, FINISH, IDENTIFIER, IDENTIFY, KINDS, LISTINGS,
+                            MAKE, OK, PASS, REFUSED, SPENT, WORDS, no_rows)
 
 if TYPE_CHECKING:
     from dnlab.io.line_reader import Reader

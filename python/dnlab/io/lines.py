@@ -12,7 +12,6 @@ from numpy.typing import NDArray
 from dnlab.errors import Refused
 from dnlab.io.digits import Ints
 
-CAUSES = ("denied", "nopipe", "noinstance", "lost", "full", "codel", "deleted", "budget")
 CODES = (10, 11, 12, 13, 20, 21, 22, 23, 24, 25)
 # What a packet carries; `kind` is a place in it.
 KINDS = ("plain", "data", "ack")

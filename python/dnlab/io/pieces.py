@@ -9,8 +9,6 @@ from dataclasses import dataclass, field, replace
 from pathlib import Path
 from typing import IO, Any, BinaryIO, Callable, Iterable, Iterator, Optional, Union
 
-import numpy as np
-
 from dnlab.errors import Refused
 from dnlab.io.packed import GZIP, reading_gzip
 
@@ -202,4 +200,4 @@ class _Finder:
 
 
 def _lines(block: bytes, begin: int, end: int) -> int:
-    return int(np.count_nonzero(np.frombuffer(block, dtype=np.uint8)[begin:end] == 10))
+    return block.count(b"\n", begin, end)

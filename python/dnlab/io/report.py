@@ -13,8 +13,9 @@ import numpy as np
 
 from dnlab.errors import Refused
 from dnlab.io.digits import Ints
+from dnlab.io.drops import CAUSES
 from dnlab.io.line_reader import Reader
-from dnlab.io.lines import ACK, CAUSES, DELIVER, Columns, refused_at
+from dnlab.io.lines import ACK, DELIVER, Columns, refused_at
 from dnlab.io.pieces import Piece, pieces
 from dnlab.io.report_judge import Judge
 

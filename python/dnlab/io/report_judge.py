@@ -3,7 +3,8 @@ from typing import Optional
 
 import numpy as np
 
-from dnlab.io.lines import CAUSES, DELIVER, DROP, MAKE, OK, REFUSED, RULE, SPENT, Columns
+from dnlab.io.drops import CAUSES
+from dnlab.io.lines import DELIVER, DROP, MAKE, OK, REFUSED, RULE, SPENT, Columns
 
 # No experiment has more packets: each step makes one at most, and it has 10^7 steps at most.
 _MOST_PACKETS = 10**7

@@ -1,7 +1,7 @@
 """What stands beside axes: figures and settings in words, with their units, and never by the names of variables."""
 from typing import Any, Mapping
 
-from dnlab.analysis.asking import percentile_of
+from dnlab.analysis.stats import percentile_of
 from dnlab.units import FOR_PEOPLE
 
 _STATS = {"packets": "Packets made", "delivered": "Packets delivered", "in_flight": "Packets under way", "retransmissions": "Segments sent again",

@@ -12,15 +12,15 @@ from dnlab.processes.children import Killed
 from dnlab.processes.crew import Crew
 from dnlab.processes.rooms import Room
 from dnlab.sweeps import engines
-from dnlab.sweeps.jobs import How, Job, Stop
+from dnlab.sweeps.jobs import DASK, How, Job, Stop
 from dnlab.sweeps.measuring import answers as read_answers, measured, measured_by_turns
 
 if TYPE_CHECKING:
-    from dnlab.analysis.asking import Ask, Found
+    from dnlab.analysis.asking import Found
+    from dnlab.analysis.stats import Ask
     from dnlab.sweeps.batches import Answered, Waiting
     from dnlab.sweeps.sweeping import Sweep
 
-DASK = "dask:"
 # What a part should take on another machine, in seconds. By ssh it is one text, all of whose reports the program keeps
 # until its end; Slurm and Dask run several texts one after another.
 _PART = 60.0

@@ -7,7 +7,7 @@ from collections import Counter
 from typing import Any, Iterable, Mapping, NamedTuple, Sequence
 
 from dnlab.errors import Faulty
-from dnlab.sweeps.templates import Value, shown, value_of, why_taken
+from dnlab.sweeps.values import Value, shown, value_of, why_taken
 
 _MOST_NAME = 32
 _MOST_SEED = 2**64 - 1

@@ -8,6 +8,10 @@ from typing import Optional
 from dnlab.processes import children
 
 
+# What the address of a Dask scheduler stands behind.
+DASK = "dask:"
+
+
 class Stop(Exception):
     """Ends the run with a status and what standard error says."""
 

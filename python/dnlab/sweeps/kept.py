@@ -8,8 +8,9 @@ from functools import lru_cache
 from pathlib import Path
 from typing import Any, Optional, Sequence, Union
 
-from dnlab.analysis.asking import Ask, Found
+from dnlab.analysis.asking import Found
 from dnlab.analysis.notes import Note
+from dnlab.analysis.stats import Ask
 from dnlab.errors import Failed, Faulty, Lacking
 from dnlab.processes import children
 

@@ -3,8 +3,9 @@ import io
 import tempfile
 from typing import IO, BinaryIO, Sequence, Union, cast
 
-from dnlab.analysis.asking import Ask, Found, answer
+from dnlab.analysis.asking import Found, answer
 from dnlab.analysis.spans import Span
+from dnlab.analysis.stats import Ask
 from dnlab.analysis.view import View
 from dnlab.errors import Failed, Refused
 from dnlab.io.pieces import pieces

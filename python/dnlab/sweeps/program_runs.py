@@ -6,9 +6,10 @@ import tempfile
 from pathlib import Path
 from typing import Any, Iterable, Mapping, NamedTuple, Optional, Sequence
 
-from dnlab.analysis.asking import USUAL, Ask, Found, answer
+from dnlab.analysis.asking import Found, answer
 from dnlab.analysis.naming import sources_of, with_names
 from dnlab.analysis.spans import Span
+from dnlab.analysis.stats import USUAL, Ask
 from dnlab.analysis.view import View
 from dnlab.errors import Failed, Faulty, Refused
 from dnlab.io import report, scenario

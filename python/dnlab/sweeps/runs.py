@@ -6,7 +6,7 @@ from typing import BinaryIO, Iterator, Mapping, NamedTuple, Optional, Union
 
 from dnlab import library
 from dnlab.analysis.naming import with_names
-from dnlab.analysis.results import Report
+from dnlab.analysis.reports import Report
 from dnlab.errors import Failed, Refused
 from dnlab.io.origin import Origin, origin_of, write_beside
 from dnlab.io.outputs import whole_file

@@ -5,10 +5,11 @@ from functools import cached_property
 from pathlib import Path
 from typing import Any, Iterable, Iterator, Mapping, Optional, Sequence, Union
 
-from dnlab.analysis.asking import USUAL, Ask, Found, check, merged, names_in, stats_given, usual
-from dnlab.analysis.notes import Note
+from dnlab.analysis.asking import Found, check, names_in, usual
+from dnlab.analysis.notes import STOPPING, Note
 from dnlab.analysis.own import Own
 from dnlab.analysis.spans import Span, span_of
+from dnlab.analysis.stats import USUAL, Ask, merged, stats_given
 from dnlab.analysis.work import cores
 from dnlab.errors import Failed, Faulty
 from dnlab.io.scenario import read
@@ -25,13 +26,12 @@ from dnlab.sweeps.kept import Kept, checksum, program_checksum
 from dnlab.sweeps.making import Maker
 from dnlab.sweeps.measuring import measured
 from dnlab.sweeps.swept import Swept
-from dnlab.sweeps.templates import Template, shown, why_taken
+from dnlab.sweeps.templates import Template
+from dnlab.sweeps.values import shown, why_taken
 
 # An experiment's name hangs on the order of --set, and its answers don't.
 _HEADING = re.compile(r"^( *experiment +)\S+", re.MULTILINE)
 _LOSS = re.compile(rb" plr +(?!0(\.0*)?( |$))", re.MULTILINE)
-# Marks of experiments that weren't run as their texts have it: a table of them is no answer, unless they are allowed.
-STOPPING = ("refused", "spent")
 
 
 class Sweep(Swept):

@@ -6,11 +6,12 @@ from typing import Any, Optional, Sequence
 import pandas as pd
 
 from dnlab.analysis import frames, seeds as over_seeds
-from dnlab.analysis.asking import Ask, Found, unit_of
+from dnlab.analysis.asking import Found
 from dnlab.analysis.figures import Kind, interval as interval_of
 from dnlab.analysis.metrics import is_named
+from dnlab.analysis.stats import Ask, unit_of
 from dnlab.sweeps.grids import Case
-from dnlab.sweeps.templates import shown
+from dnlab.sweeps.values import shown
 
 
 class Swept:

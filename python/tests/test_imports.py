@@ -1,0 +1,44 @@
+"""What is loaded before it is needed: help needs none of the packages for tables, and running a scenario neither."""
+import os
+import subprocess
+import sys
+
+import pytest
+from conftest import ROOT
+
+from dnlab.__main__ import COMMANDS
+
+# Packages of Debian that take long to load, and what a stand-in for them would be made with.
+PACKAGES = {"numpy", "pandas", "scipy", "jinja2", "matplotlib", "plotly", "dpkt", "yaml", "unittest"}
+
+
+def loaded(*words: object, **more: str) -> set[str]:
+    """The packages that a call of Python loads, as Python itself lists them."""
+    done = subprocess.run([sys.executable, "-X", "importtime", *map(str, words)], capture_output=True, text=True, timeout=120,
+                          check=False, env={**os.environ, "PYTHONPATH": str(ROOT / "python"), **more})
+    assert done.returncode == 0, done.stderr
+    lines = [line for line in done.stderr.splitlines() if line.startswith("import time:")]
+    return {line.rpartition("|")[2].strip().partition(".")[0] for line in lines}
+
+
+@pytest.mark.parametrize("name", COMMANDS)
+def test_help_loads_no_package(name: str) -> None:
+    found = loaded(ROOT / "tools" / name, "--help")
+    assert {"argparse", "dnlab"} <= found and not found & PACKAGES
+
+
+def test_tables_load_them() -> None:
+    """So that the test above has something to find."""
+    example = next(ROOT.glob("examples/*/codel_one_drop"))
+    assert "numpy" in loaded(ROOT / "tools" / "summary", example / "expected.txt", example / "scenario.txt")
+
+
+RUN = """import dnlab
+report = dnlab.run("experiment a seed 1 budget 9\\n@9 end\\n")
+assert list(report) == ["a"] and "Report" in repr(report) and report.origin is not None
+"""
+
+
+@pytest.mark.parametrize("more,wanted", [("", set()), ("report['a'].packets()", {"numpy", "pandas"})], ids=["run", "table"])
+def test_a_run_loads_them_for_a_table(more: str, wanted: set[str], program: str) -> None:
+    assert loaded("-c", RUN + more, DNLAB=program) & {"numpy", "pandas"} == wanted
