@@ -4,10 +4,11 @@ Python promises of `random.Random` that a seed gives the same `random()` for eve
 all here is made of `random()`, of whole numbers, and of the logarithm and the exponential of `decimal`, which are
 rounded correctly everywhere. Those of `math` are the machine's own; they serve where their last digits can't matter.
 """
+import itertools
 import math
 import random
 from decimal import Context, Decimal
-from typing import Any, Optional, Sequence, Union
+from typing import Any, Callable, Iterator, Optional, Sequence, Union
 
 Number = Union[int, float]
 # More moments would make a text that no program takes.
@@ -38,12 +39,7 @@ class Chance:
 
     def exponential(self, mean: Number) -> int:
         """A gap of a Poisson process with this mean, to the nearest whole number."""
-        rest = 1 - self.random()
-        near = -math.log(rest) * mean
-        # No machine's logarithm is wrong by a part in 10^14, so what isn't near to the middle is rounded alike.
-        if near < 10**11 and abs(near % 1 - 0.5) > 0.001:
-            return round(near)
-        return int(_EXACT.multiply(_lifetime(rest), Decimal(mean)).to_integral_value())
+        return next(_gaps(self._source.random, mean))
 
     def arrivals(self, mean: Number, end: int, begin: int = 0) -> list[int]:
         """The moments of a Poisson process, in order: from `begin` on and before `end`, `mean` apart on average."""
@@ -51,12 +47,8 @@ class Chance:
             raise ValueError(f"rng.arrivals({mean}, ..): a mean gap is above 0")
         if end - begin > _MOST * mean:
             raise ValueError(f"rng.arrivals({mean}, {end}): more than {_MOST} moments")
-        found: list[int] = []
-        moment = int(begin) + self.exponential(mean)
-        while moment < end:
-            found.append(moment)
-            moment += self.exponential(mean)
-        return found
+        moments = itertools.accumulate(_gaps(self._source.random, mean), initial=int(begin))
+        return list(itertools.takewhile(lambda moment: moment < end, itertools.islice(moments, 1, None)))
 
     def pareto(self, shape: Number, least: Number) -> int:
         """A size with a heavy tail, to the nearest whole number: at least `least`, and above x with (least / x)^shape."""
@@ -92,6 +84,19 @@ class Chance:
     def shuffled(self, items: Sequence[Any]) -> list[Any]:
         """All of some things, in an order that is drawn."""
         return self.sample(items, len(items))
+
+
+def _gaps(draw: Callable[[], float], mean: Number) -> Iterator[int]:
+    """Yields gaps of a Poisson process, each to the nearest whole number."""
+    log = math.log
+    while True:
+        rest = 1 - draw()
+        near = -log(rest) * mean
+        # No machine's logarithm is wrong by a part in 10^14, so what isn't near to the middle is rounded alike.
+        if near < 10**11 and abs(near % 1 - 0.5) > 0.001:
+            yield round(near)
+        else:
+            yield int(_EXACT.multiply(_lifetime(rest), Decimal(mean)).to_integral_value())
 
 
 def _lifetime(rest: float) -> Decimal:

@@ -46,3 +46,8 @@ def test_listings_count_by_their_kind() -> None:
     assert most_report(begin + b"@0 shows\n@0 end\n") - none == 256
     # Without `steps` an experiment has 1000000 of them, where 10 are given above; each writes 1024 bytes at most.
     assert most_report(begin.replace(b" steps 10", b"") + b"@0 end\n") - none == 999990 * 1024
+
+
+def test_a_text_goes_on_behind_empty_pieces(tmp_path: Path) -> None:
+    text = "{% for place in range(5000) %}{{ '' }}{% endfor %}# {{ name }}\n{% for place in range(3) %}{{ place }}{% endfor %}"
+    assert Template(text).made("a", 1, {}) == "# a\n012\n"

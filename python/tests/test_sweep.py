@@ -104,6 +104,11 @@ def test_gaps_are_those_of_exact_logarithms() -> None:
     for mean in [7] * 3000 + [10**14] * 50:
         exact = -Context(prec=40).ln(1 - Decimal(plain.random())) * mean
         assert chance.exponential(mean) == int(exact.to_integral_value())
+    moments, moment = chance.arrivals(7, 20000, 100), 100
+    for found in [*moments, None]:
+        moment += int((-Context(prec=40).ln(1 - Decimal(plain.random())) * 7).to_integral_value())
+        assert (moment if moment < 20000 else None) == found
+    assert len(moments) > 2500 and chance.random() == plain.random()
 
 
 def test_chance_draws_fairly() -> None:

@@ -1,4 +1,5 @@
 """Templates of scenarios, in Jinja2 (Debian: python3-jinja2): a text in which settings, the seed and chance stand open."""
+import itertools
 import math
 import os
 import re
@@ -20,6 +21,8 @@ from dnlab.sweeps.values import GIVEN, shown, why_taken
 _TEXT = "<template>"
 # A loop over more numbers would make a text that no program takes.
 _MOST_NUMBERS = 10**6
+# So many pieces of a text are joined before its length is looked at.
+_TOGETHER = 1000
 # So many bytes may a whole number have.
 _MOST_DIGITS = 1 << 10
 
@@ -188,9 +191,10 @@ class Template:
         try:
             rng = Chance(seed)
             given = {**settings, "name": name, "seed": seed, "rng": rng, "traffic": Traffic(rng)}
-            for part in self._compiled.generate(given):
-                parts.append(part)
-                size += len(part)
+            pieces = self._compiled.generate(given)
+            while batch := list(itertools.islice(pieces, _TOGETHER)):
+                parts.append("".join(batch))
+                size += len(parts[-1])
                 if size > MOST_BYTES:
                     raise Faulty(f"{self.name}: the text of {name} has more than {MOST_BYTES} bytes, which no scenario has")
         except Faulty:
