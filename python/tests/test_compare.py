@@ -184,13 +184,13 @@ def test_bounds_that_hold_and_fail(two: list[Path], tmp_path: Path) -> None:
     a, plan, *_ = two
     status, out, err = tool("expect", a, plan, "train 9: delay.p95 <= 15ms", "a/train *: goodput > 2.6Mbit/s", "all: drops = 0")
     assert status == 0 and not err and out.split("\n")[:3] == [
-        "holds  bound 1: train 9: delay.p95 <= 15ms  (measured 15ms of a/train 9)",
-        "holds  bound 2: a/train *: goodput > 2.6Mbit/s  (measured 2.666666Mbit/s of a/train 9)",
+        "holds  bound 1: train 9: delay.p95 <= 15ms  (measured 15ms of a/train 9; holds by 0 %)",
+        "holds  bound 2: a/train *: goodput > 2.6Mbit/s  (measured 2.666666Mbit/s of a/train 9; holds by 2.6 %)",
         "holds  bound 3: all: drops = 0  (measured 0 of a/all)"]
     (tmp_path / "bounds").write_text("# of the train\ntrain 9: delay.min >= 11ms\n\n train 9 : delay.p95<15 ms\nall: packets > 9\n")
     status, out, _ = tool("expect", a, plan, "--bounds", tmp_path / "bounds")
     assert status == 1 and out == (
-        f"holds  {tmp_path}/bounds: line 2: train 9: delay.min >= 11ms  (measured 11ms of a/train 9)\n"
+        f"holds  {tmp_path}/bounds: line 2: train 9: delay.min >= 11ms  (measured 11ms of a/train 9; holds by 0 %)\n"
         f"FAILS  {tmp_path}/bounds: line 4: train 9 : delay.p95<15 ms  (measured 15ms of a/train 9)\n"
         f"FAILS  {tmp_path}/bounds: line 5: all: packets > 9  (measured 5 of a/all)\n")
     status, out, _ = tool("expect", a, plan, "--bounds", tmp_path / "bounds", "--first")

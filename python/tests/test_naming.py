@@ -131,7 +131,7 @@ def test_the_tools(files: tuple[Path, Path], tmp_path: Path) -> None:
     found = [(row["sender"], row["packets"], row["full"], row["max"]) for row in json.loads(out)]
     assert (status, found) == (0, [("mine", 3, 1, 12_500_000)])
     status, out, said = tool("expect", *name, *files, "mine: delay.max <= 12.5ms", "mine: drops.full == 1", *name)
-    assert (status, out.count("holds"), said) == (0, 2, "")
+    assert (status, out.count("holds  "), said) == (0, 2, "")
     assert tool("expect", *files, *name, "mine: delay.max < 12.5ms")[0] == 1
     picture = tmp_path / "plot.svg"
     status, _, said = tool("plot", *files, *name, "--what", "sojourn", "--of", "mine", "--out", picture)

@@ -30,7 +30,7 @@ _dnlab_tools() {
       ;;
     dnlab-plot:*) words="--experiment --name --only --of --what --from --to --bin --overlay --out --workers --help" ;;
     dnlab-compare:*) words="--experiment --of --tolerance --percentiles --lines --all --exact --json --help" ;;
-    dnlab-expect:*) words="--run --experiment --name --bounds --first --all --allow --json --from --to --workers --help" ;;
+    dnlab-expect:*) words="--run --experiment --name --bounds --first --all --allow -q --quiet --junit --github --color --json --from --to --workers --help" ;;
     dnlab-view:*) words="--experiment --out --single --workers --help" ;;
     dnlab-pcap:*) words="--experiment --of --at --out --help" ;;
     dnlab-spread:*) words="--parts --jobs --ssh --slurm --program --out --work --resume --help" ;;

@@ -7,7 +7,7 @@ whatever the bounds say, unless that is allowed.
 """
 import operator
 import re
-from dataclasses import dataclass
+from dataclasses import dataclass, replace
 from fnmatch import fnmatchcase
 from fractions import Fraction
 from pathlib import Path
@@ -26,13 +26,15 @@ FORM = "WHO: METRIC SIGN VALUE, as 'train 9: delay.p95 < 50ms'"
 # What fails a run, whatever the bounds say, unless it is allowed: marks of its rows, and bounds that hold whatever happens.
 FAILING = ("refused", "spent", "budget", "unsent", "vacuous")
 _SIGN = re.compile(r"[<>=!]+")
+_COMMENT = re.compile(r"(^|\s)#.*")
 # So many names stand in a message at most.
 _MOST_NAMES = 40
 
 
 @dataclass(frozen=True)
 class Bound:
-    """A bound, `where` it was said (`bounds.txt: line 2`, `bound 1`) and its `text`; `value` is in the metric's base unit."""
+    """A bound, `where` it was said (`bounds.txt: line 2`, `bound 1`) and its `text`; `value` is in the metric's base unit. One of a
+    file has its name and line."""
     where: str
     text: str
     experiment: str
@@ -41,6 +43,8 @@ class Bound:
     sign: str
     value: Fraction
     unit: str
+    file: Optional[str] = None
+    line: Optional[int] = None
 
     def rows(self, rows: Sequence[Row]) -> list[Row]:
         """The rows that it names; `Faulty` with the names that there are, where it names none."""
@@ -143,9 +147,9 @@ def _read(text: str, where: str) -> Bound:
 
 
 def bounds_in(path: Union[str, Path], text: str) -> list[Bound]:
-    """The bounds of a file's text, one a line; lines without words and those that begin with `#` are skipped."""
-    found = [bound_of(line, f"{path}: line {number}") for number, line in enumerate(text.split("\n"), 1)
-             if line.strip() and not line.strip().startswith("#")]
+    """Returns the bounds of a file, one per line. A comment starts with `#`, at the start of a line or after a space."""
+    lines = ((number, _COMMENT.sub("", line)) for number, line in enumerate(text.split("\n"), 1))
+    found = [replace(bound_of(line, f"{path}: line {number}"), file=str(path), line=number) for number, line in lines if line.strip()]
     if not found:
         raise Faulty(f"{path}: it has no bound")
     return found
@@ -184,8 +188,15 @@ def _judge(bound: Bound, rows: Sequence[Row], bounded: set[tuple[str, str]]) -> 
             nearest = measured, row
     assert nearest is not None
     of = f"; the nearest of {len(rows)} rows" if len(rows) > 1 else ""
-    easy = _easy(bound, rows, bounded)
-    return Judged(bound, True, f"measured {bound.show(nearest[0])} of {_place(nearest[1])}{of}{easy}", nearest[1], nearest[0])
+    said = f"measured {bound.show(nearest[0])} of {_place(nearest[1])}{of}{_slack(bound, nearest[0])}{_easy(bound, rows, bounded)}"
+    return Judged(bound, True, said, nearest[1], nearest[0])
+
+
+def _slack(bound: Bound, measured: Fraction) -> str:
+    """Returns by how much a bound on an amount holds, as a share of the bound."""
+    if bound.sign in ("==", "=", "!=") or not bound.value:
+        return ""
+    return f"; holds by {float(100 * abs(measured - bound.value) / bound.value):.2g} %"
 
 
 def _vacuous(bound: Bound, named: Sequence[Row], rows: Sequence[Row]) -> str:

@@ -1,7 +1,9 @@
 """Says whether a report of dnlab keeps to bounds, as 'train 9: delay.p95 < 50ms'."""
 import argparse
 import json
+import os
 import re
+import sys
 from pathlib import Path
 from typing import Sequence
 
@@ -11,8 +13,11 @@ from dnlab.analysis.naming import names_of, with_names
 from dnlab.analysis.reports import Report
 from dnlab.analysis.spans import Span
 from dnlab.analysis.work import Given, bytes_of, plans_of
+from dnlab.cli.ci_output import github_annotations, junit
+from dnlab.cli.streams import shown
 from dnlab.cli.words import add_names, add_span, add_texts, count_of, listed, parser_of, span_in, taken
 from dnlab.errors import DIFFERS, MACHINE, Failed, Faulty, Lacking, status_of
+from dnlab.io.outputs import whole_file
 from dnlab.programs import say
 from dnlab.units import UNITS, named
 
@@ -30,13 +35,13 @@ EXAMPLE = f"""A bound is {FORM}.
   VALUE   a number with its unit:
           {listed((named(kind) for kind in UNITS if kind not in ('count', 'index', 'ending')), '; ')};
           counts of packets, jain and endings have none
-A file has a bound in each line; what begins with # is skipped. It prints each
-bound with what was measured: the value nearest to the bound if it names several
-rows. A value that can't be computed fails, and so does a bound that holds
-whatever happens (`vacuous`: loss >= 0%, jain of one flow, a row that only some
-experiments have). A run in which commands were `refused`, whose steps were
-`spent`, in which packets were dropped for the `budget` or `end` cut a sender
-off (`unsent`) fails too. --allow names what shouldn't.
+A file has one bound per line, and comments after #. It prints each bound with
+what was measured, and by how much it holds: the value nearest to the bound if
+it names several rows. A value that can't be computed fails, and so does a bound
+that holds whatever happens (`vacuous`: loss >= 0%, jain of one flow, a row that
+only some experiments have). A run in which commands were `refused`, whose steps
+were `spent`, in which packets were dropped for the `budget` or `end` cut a
+sender off (`unsent`) fails too. --allow names what shouldn't.
 
 Example:
   tools/expect --run scenario.txt --bounds bounds.txt
@@ -59,6 +64,10 @@ def words(given: Sequence[str]) -> argparse.Namespace:
     parser.add_argument("--all", action="store_true", help="look at all bounds, as it does anyhow")
     parser.add_argument("--allow", action="append", default=[], type=allowed, metavar="MARK,..",
                         help=f"don't fail for this: {', '.join(FAILING)}")
+    parser.add_argument("-q", "--quiet", action="store_true", help="print only what fails")
+    parser.add_argument("--junit", metavar="FILE", help="also write the verdict as JUnit's XML")
+    parser.add_argument("--github", action="store_true", help="also print annotations for GitHub Actions, with file and line")
+    parser.add_argument("--color", choices=("auto", "always", "never"), default="auto", help="colour the verdicts [on a terminal, unless NO_COLOR is set]")
     parser.add_argument("--json", action="store_true", help="print an object, amounts in ns, bytes, bit/s, or as shares of 1")
     add_span(parser)
     parser.add_argument("--workers", type=count_of, metavar="N",
@@ -69,6 +78,8 @@ def words(given: Sequence[str]) -> argparse.Namespace:
     found.allow = [word for words in found.allow for word in words]
     if is_run and found.report is not None:
         parser.error("--run is in place of REPORT and SCENARIO")
+    if found.json and found.github:
+        parser.error("--json and --github can't be both")
     if found.all and found.first:
         parser.error("--all and --first can't be both")
     span_in(parser, found)
@@ -113,15 +124,34 @@ def bounds_of(given: argparse.Namespace) -> list[Bound]:
     return found
 
 
-def show(judged: Sequence[Judged], failed: Sequence[Failing], as_json: bool) -> None:
-    """Prints what was judged."""
-    if as_json:
+def show(judged: Sequence[Judged], failed: Sequence[Failing], given: argparse.Namespace) -> None:
+    """Prints the verdict, and writes it in the other forms that were requested."""
+    if given.junit is not None:
+        with whole_file(Path(given.junit)) as file:
+            file.write(junit(judged, failed))
+    if given.json:
         holds = not failed and all(one.holds for one in judged)
         print(json.dumps({"holds": holds, "bounds": [one.record() for one in judged],
                           "failing": [one.record() for one in failed]}, indent=1))
         return
-    for line in [*(one.line() for one in judged), *(one.line() for one in failed)]:
+    is_coloured = given.color == "always" or given.color == "auto" and sys.stdout.isatty() and not os.environ.get("NO_COLOR")
+    lines = [(one.line(), one.holds) for one in judged] + [(run.line(), False) for run in failed]
+    for line, holds in lines:
+        if not (given.quiet and holds):
+            show_line(line, holds, is_coloured)
+    if given.github:
+        for line in github_annotations(judged, failed):
+            print(line)
+
+
+def show_line(line: str, holds: bool, is_coloured: bool) -> None:
+    """Prints a line, with its first word in green or red if it is coloured."""
+    if not is_coloured:
         print(line)
+        return
+    verdict, space, rest = line.partition(" ")
+    # A terminal's stream escapes control characters, except on its way `direct`.
+    print(f"\x1b[{32 if holds else 31}m{verdict}\x1b[0m{space}{shown(rest)}", file=getattr(sys.stdout, "direct", sys.stdout))
 
 
 def ran(given: argparse.Namespace) -> Report:
@@ -159,6 +189,6 @@ def main(words_given: Sequence[str]) -> int:
         return status_of(faulty)
     notes = [(one.name, note) for one in found for note in one.notes]
     failed = failing(notes, given.allow)
-    show(judged, failed, given.json)
+    show(judged, failed, given)
     tell("expect", [(name, note) for name, note in notes if not any(note.text == one.said for one in failed)], len(found))
     return DIFFERS if failed or not all(one.holds for one in judged) else 0
