@@ -11,7 +11,8 @@ pytest.importorskip("plotly", reason="plotly is missing (Debian: python3-plotly)
 
 from test_view import COOKBOOK, browsing, near, page_of, read_back  # noqa: E402
 
-from dnlab.analysis.series import link_rates, panel_of, windows  # noqa: E402
+from dnlab.analysis.pipe_series import link_rates  # noqa: E402
+from dnlab.analysis.series import panel_of, windows  # noqa: E402
 from dnlab.analysis.tables import Tables  # noqa: E402
 from dnlab.analysis.view import View  # noqa: E402
 from dnlab.io import report, scenario  # noqa: E402
@@ -41,21 +42,24 @@ def test_the_effective_window(alone: Alone) -> None:
     panel = windows(seen(NARROW, alone))
     lines = {one.label: one for one in panel.series}
     assert lines["cwnd 1"].values.tolist() == [4000 + 1000 * k for k in range(7)]
-    assert lines["effective 1"].values.tolist() == [3000] * 7 and lines["effective 1"].under == lines["ssthresh 1"].under == "cwnd 1"
-    assert set(lines) == {"cwnd 1", "effective 1", "ssthresh 1", "cwnd 2", "ssthresh 2"} and "wide: effective window" in panel.title
+    assert lines["effective 1"].values.tolist() == [3000] * 7 and lines["effective 1"].under == "cwnd 1"
+    # Both thresholds stay at 65535, above the axis of at most 11000 bytes.
+    assert set(lines) == {"cwnd 1", "effective 1", "cwnd 2"}
+    assert [one.label for one in panel_of(seen(NARROW, alone), "window").series] == ["cwnd 1", "cwnd 2"]
 
 
-def test_segments_beside_bytes(alone: Alone) -> None:
-    """1000 bytes are a segment; where segments differ there is no such axis."""
+def test_windows_are_in_segments(alone: Alone) -> None:
+    """1000 bytes are a segment; if segments differ the axis has kB."""
     axes, = pictures.figure_of([seen(NARROW, alone)], ["window"]).axes
-    right, = axes.child_axes
-    axes.figure.canvas.draw()
-    assert right.get_ylabel() == "segments" and np.allclose(np.array(axes.get_ylim()) / 1000, right.get_ylim())
-    assert windows(seen(NARROW.replace(b"smss 1000 segments 1\n", b"smss 500 segments 1\n"), alone)).also is None
+    assert axes.get_ylabel() == "Congestion window (segments)"
+    assert [line.get_ydata().tolist() for line in axes.get_lines() if line.get_label() == "cwnd 1"] == [[4, 5, 6, 7, 8, 9, 10]]
+    axes, = pictures.figure_of([seen(NARROW.replace(b"smss 1000 segments 1\n", b"smss 500 segments 1\n"), alone)], ["window"]).axes
+    assert axes.get_ylabel() == "Congestion window (kB)"
+    assert [line.get_ydata().tolist() for line in axes.get_lines() if line.get_label() == "cwnd 1"] == [[4, 5, 6, 7, 8, 9, 10]]
 
 
 def many(flows: int) -> bytes:
-    lines = "".join(f"@{flow} flow {flow} 10.0.0.1 {flow} 10.0.0.2 80 smss 100 segments 3\n" for flow in range(1, flows + 1))
+    lines = "".join(f"@{flow} flow {flow} 10.0.0.1 {flow} 10.0.0.2 80 smss 100 segments 3 ssthresh 200\n" for flow in range(1, flows + 1))
     return ("experiment many seed 0 budget 999\n@0 pipe 1 config bw 8Mbit/s delay 10 queue 200\n@0 add 1 pipe 1 ip from 10.0.0.1 to"
             f" 10.0.0.2\n@0 add 2 allow ip from any to any\n{lines}@900000000 end\n").encode()
 
@@ -65,7 +69,7 @@ def test_thresholds_of_sixteen_flows(alone: Alone) -> None:
     panel = windows(seen(many(16), alone))
     assert len([one for one in panel.series if one.label.startswith("ssthresh")]) == 16
     axes, = pictures.figure_of([seen(many(16), alone)], ["window"]).axes
-    looks = {(line.get_color(), line.get_linestyle(), line.get_marker()) for line in axes.get_lines() if line.get_label()[:4] == "cwnd"}
+    looks = {(line.get_color(), str(line._unscaled_dash_pattern)) for line in axes.get_lines() if line.get_label()[:4] == "cwnd"}
     assert len(looks) == 16
     view = seen(many(17), alone)
     assert len([one for one in windows(view).series if one.label.startswith("cwnd")]) == 16

@@ -19,45 +19,64 @@ def near(got, want) -> bool:
     return len(got) == len(want) and all(abs(a - c) < 1e-9 and abs(b - d) < 1e-9 for (a, b), (c, d) in zip(got, want))
 
 
+PANELS = ["window", "queue", "sojourn", "delivered", "drops"]
+
+
 def test_four_segments() -> None:
-    figure = pictures.figure_of([view_of("reno_four_segments")], ["window", "queue", "sojourn", "rate", "drops"])
-    window, queue, sojourn, rate, drops = figure.axes
+    """Windows in segments of 1460 bytes. Of the three packets at 0 one is in service, and two wait; one packet alone never
+    waits. Acknowledgements of 40 bytes, and their pipe, are drawn on request."""
+    figure = pictures.figure_of([view_of("reno_four_segments")], PANELS)
+    window, queue, sojourn, delivered, drops = figure.axes
     want = {
-        (window, "cwnd 1"): [(0, 4380), (21.2, 5840), (22.4, 7300), (23.6, 8760), (42.4, 10220)],
-        (window, "ssthresh 1"): [(x, 65535) for x in (0, 21.2, 22.4, 23.6, 42.4)],
-        (queue, "at 1.0"): [(0, 3), (1.2, 2), (2.4, 1), (3.6, 0), (21.2, 1), (22.4, 0), (42.4, 0)],
-        (queue, "under way"): list(zip((0, 11.2, 12.4, 13.6, 21.2, 22.4, 23.6, 32.4, 42.4),
-                                       (3, 3, 3, 3, 3, 2, 1, 1, 0))),
+        (window, "cwnd 1"): [(0, 3), (21.2, 4), (22.4, 5), (23.6, 6), (42.4, 7)],
+        (queue, "pipe 1"): [(0, 2), (1.2, 1), (2.4, 0), (3.6, 0), (21.2, 0), (22.4, 0), (42.4, 0)],
         (sojourn, "flow 1"): [(11.2, 11.2), (12.4, 12.4), (13.6, 13.6), (32.4, 11.2)],
-        (sojourn, "flow 1 acks"): [(x, 10) for x in (21.2, 22.4, 23.6, 42.4)],
-        (rate, "flow 1"): [(0, 0), (11.2, 1500), (12.4, 3000), (13.6, 4500), (32.4, 6000), (42.4, 6000)],
-        (rate, "through 2.0"): [(0, 0), (11.2, 40), (12.4, 80), (13.6, 120), (32.4, 160), (42.4, 160)],
+        (delivered, "flow 1"): [(0, 0), (11.2, 1.5), (12.4, 3), (13.6, 4.5), (32.4, 6), (42.4, 6)],
+        (delivered, "through pipe 1"): [(0, 0), (1.2, 1.5), (2.4, 3), (3.6, 4.5), (22.4, 6), (42.4, 6)],
     }
     for (axes, label), values in want.items():
         assert near(lines_on(axes).get(label, []), values), label
-    assert [text.get_text() for text in drops.texts] == ["no packet was dropped"] and not drops.get_lines()
+    # ssthresh stays at 65535 bytes, above the axis.
+    assert [list(lines_on(axes)) for axes in figure.axes] == [["cwnd 1"], ["pipe 1"], ["flow 1"], ["flow 1", "through pipe 1"], []]
+    assert [text.get_text() for text in drops.texts] == ["no packet was dropped"] and not window.texts
     assert [axes.get_ylabel() for axes in figure.axes] + [drops.get_xlabel()] == [
-        "bytes", "packets", "ms", "bytes", "packets", "time (ms)"]
+        "Congestion window (segments)", "Queue length (packets)", "One-way delay (ms)", "Delivered data (kB)", "Dropped (packets)", "Time (ms)"]
+    assert [axes.get_title("left") for axes in figure.axes] == [
+        "Congestion window", "Queue length (limit of pipe 1 is 50 packets)", "One-way delay", "Delivered data, cumulative",
+        "Dropped packets by cause, cumulative"]
+    # The last line of the report is at 42.4 ms, and so is the end of the axes.
+    assert {axes.get_xlim() for axes in figure.axes} == {(0, 42.4)}
+
+
+def test_acknowledgements_on_request() -> None:
+    sojourn, delivered, queue, flight = pictures.figure_of(
+        [view_of("reno_four_segments")], ["sojourn", "rate", "queue", "flight"], acks=True).axes
+    assert near(lines_on(sojourn)["flow 1 acks"], [(x, 10) for x in (21.2, 22.4, 23.6, 42.4)])
+    assert near(lines_on(delivered)["through pipe 2"],
+                [(0, 0), (11.2, .04), (12.4, .08), (13.6, .12), (32.4, .16), (42.4, .16)])
+    assert list(lines_on(queue)) == ["pipe 1", "pipe 2"]
+    assert near(lines_on(flight)["in flight"], list(zip((0, 11.2, 12.4, 13.6, 21.2, 22.4, 23.6, 32.4, 42.4), (3, 3, 3, 3, 3, 2, 1, 1, 0))))
 
 
 def test_two_columns() -> None:
+    """The names are above the columns; time and values go over one range. ssthresh is drawn from where it is on the axis."""
     figure = pictures.figure_of([view_of("codel_one_drop"), view_of("reno_timeouts")], ["window", "drops"])
     first, second, one, five = figure.axes
-    assert lines_on(one) == {"codel": [(0.0, 0.0), (112.0, 1.0), (232.000001, 1.0)]}
+    assert near(lines_on(one)["codel"], [(0.0, 0.0), (0.112, 1.0), (0.232000001, 1.0)])
     assert lines_on(five) == {"lost": [(0.0, 3.0), (1.0, 4.0), (3.0, 5.0)]}
     assert {label: lines_on(second).get(label) for label in ("loss 1", "timeout 1")} == {
-        "loss 1": [(0, 4380)] * 3 + [(1, 1460), (3, 1460)], "timeout 1": [(1, 1460), (3, 1460)]}
-    assert lines_on(first) == {}
-    # The first window is 4380 bytes and ssthresh begins at 65535: the frame ends a quarter above the window.
-    assert second.get_ylim() == (0, 1.25 * 4380)
-    assert [text.get_text() for text in second.texts] == ["above the frame: ssthresh 1 to 65535"]
-    assert one.get_ylim() == five.get_ylim()
+        "loss 1": [(0, 3)] * 3 + [(1, 1), (3, 1)], "timeout 1": [(1, 1), (3, 1)]}
+    assert lines_on(first) == {} and [axes.get_title("left") for axes in (first, second)] == ["codel-one-drop", "reno-timeouts"]
+    # The first window is 3 segments, and the axis ends a tenth above it; ssthresh falls to 2920 bytes at 1 s.
+    assert second.get_ylim() == pytest.approx((0, 3.3)) and lines_on(second)["ssthresh 1"][1:] == [(1, 2), (3, 2)]
+    assert np.isnan(lines_on(second)["ssthresh 1"][0][1]) and not second.texts
+    assert one.get_ylim() == five.get_ylim() and figure._suptitle.get_text() == "Congestion window, dropped"
 
 
 def test_without_the_scenario() -> None:
-    bare = pictures.figure_of([view_of("reno_four_segments", joined=False)], ["sojourn", "rate"]).axes
+    bare = pictures.figure_of([view_of("reno_four_segments", joined=False)], ["sojourn", "delivered"]).axes
     assert not bare[0].get_lines() and "scenario" in bare[0].texts[0].get_text()
-    assert bare[1].get_ylabel() == "packets"
+    assert bare[1].get_ylabel() == "Delivered (packets)"
     assert near(lines_on(bare[1])["flow 1"], [(0, 0), (11.2, 1), (12.4, 2), (13.6, 3), (32.4, 4), (42.4, 4)])
 
 

@@ -141,28 +141,30 @@ def test_a_picture_for_a_paper(program: str, tmp_path: Path) -> None:
                        labels={"delay": "One-way delay (ms)", "count": "Packets", "bw": "Link", "bw:1Mbit/s": "1 Mbit/s"})
     left, right = figure.axes
     assert (left.get_ylabel(), left.get_xlabel()) == ("95th percentile of delay (ms)", "One-way delay (ms)")
-    assert [axes.get_title("left") for axes in figure.axes] == ["train 1, Packets: 1", "train 1, Packets: 5"]
+    assert [axes.get_title("left") for axes in figure.axes] == ["Packets: 1", "Packets: 5"]
     assert left.get_xscale() == left.get_yscale() == "log"
     assert [tick.get_text() for tick in left.get_xticklabels()] == ["5", "20"]
     # Plain numbers, 1, 2 and 5 in each decade.
     assert all(re.fullmatch(r"[125]0*|0\.0*[125]", tick.get_text()) for tick in left.get_yticklabels())
-    legend = left.get_legend()
+    # The legend is beside the last panel.
+    legend = right.get_legend()
     assert legend.get_title().get_text() == "Link" and [text.get_text() for text in legend.get_texts()] == ["1 Mbit/s", "2Mbit/s"]
 
     def hollow(axes) -> int:
         return sum(len(line.get_xdata()) for line in axes.get_lines() if line.get_markerfacecolor() == "white")
 
-    assert (hollow(left), hollow(right)) == (0, 4) and [text.get_text() for text in figure.texts] == ["hollow points: unsent"]
+    assert (hollow(left), hollow(right)) == (0, 4) and figure._supxlabel.get_text().endswith("; hollow points: unsent")
 
 
 def test_rows_and_columns(program: str) -> None:
     made = dnlab.sweep(ONE, delay=[5, 20], count=[1, 2], bw=["1Mbit/s", "2Mbit/s", "4Mbit/s"], of="train 1", stat="delivered",
                        dnlab=program)
     figure = made.plot(along="delay", rows="bw", columns="count")
-    assert len(figure.axes) == 6 and figure.axes[5].get_title("left") == "Bw: 4Mbit/s\nCount: 2"
+    assert len(figure.axes) == 6 and figure.axes[5].get_title("left") == "Link rate: 4Mbit/s\nCount: 2"
     several = dnlab.sweep(ONE, delay=[5, 20], count=1, bw=["1Mbit/s", "2Mbit/s"], of="train 1", stat=["delivered", "delay.p95"], dnlab=program)
     figure = several.plot(along="delay", rows="bw")
-    assert [axes.get_title("left") for axes in figure.axes] == ["train 1\nBw: 1Mbit/s", "train 1\nBw: 2Mbit/s"] * 2
+    assert figure._suptitle.get_text() == "Train 1 by link delay"
+    assert [axes.get_title("left") for axes in figure.axes] == ["Link rate: 1Mbit/s", "Link rate: 2Mbit/s"] * 2
     assert [axes.get_ylabel()[:5] for axes in figure.axes] == ["Packe"] * 2 + ["95th "] * 2
     for wrong, said in (({"rows": "nothing"}, "no setting"), ({"rows": "bw", "columns": "bw"}, "another setting"),
                         ({"log": ["z"]}, "--log z")):

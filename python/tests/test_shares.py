@@ -21,7 +21,7 @@ MS = 10**6
 
 def drawn(what: str, span: Span = Span(), every: "int | None" = None) -> dict[str, list[tuple[float, float]]]:
     """The lines of a panel of the four segments, by label; moments in ms."""
-    panel = panel_of(view_of("reno_four_segments"), what, span, every)
+    panel = panel_of(view_of("reno_four_segments"), what, span, every, acks=True)
     return {one.label: list(zip((one.moments / MS).tolist(), one.values.tolist())) for one in panel.series}
 
 
@@ -31,8 +31,8 @@ def test_throughput() -> None:
     assert lines["flow 1"] == [(0, 0), (10, 3.6), (20, 0), (30, 1.2), (40, 0), (50, 0)]
     # Acknowledgements at 21.2, 22.4, 23.6 and 42.4 ms.
     assert lines["flow 1 acks"] == [(0, 0), (10, 0), (20, 0.096), (30, 0), (40, 0.032), (50, 0.032)]
-    # The last line stands at 42.4 ms: of 500 us there are 50 or more.
-    assert panel_of(view_of("reno_four_segments"), "throughput").title == "Throughput in each 500 us"
+    # The last line stands at 42.4 ms. Four packets are few: there are 10 intervals or more, of 2 ms.
+    assert panel_of(view_of("reno_four_segments"), "throughput").title.startswith("Throughput in intervals of 2 ms")
 
 
 def test_shares() -> None:
@@ -55,7 +55,7 @@ def test_a_span_of_time() -> None:
     assert drawn("sojourn", Span(12 * MS, 33 * MS))["flow 1"] == [(12.4, 12.4), (13.6, 13.6), (32.4, 11.2)]
     # The window of 4380 bytes holds at 12 ms, and that of 8760 from 23.6 ms to 33 ms.
     assert drawn("window", Span(12 * MS, 33 * MS))["cwnd 1"] == [(12, 4380), (21.2, 5840), (22.4, 7300), (23.6, 8760), (33, 8760)]
-    assert drawn("rate", Span(12 * MS, 14 * MS))["flow 1"] == [(12, 1500), (12.4, 3000), (13.6, 4500), (14, 4500)]
+    assert drawn("delivered", Span(12 * MS, 14 * MS))["flow 1"] == [(12, 1500), (12.4, 3000), (13.6, 4500), (14, 4500)]
     panel = panel_of(view_of("reno_four_segments"), "sojourn", Span(50 * MS))
     assert not panel.series and panel.words == "nothing in this time"
 
@@ -114,14 +114,15 @@ def test_overlaid() -> None:
 def test_axes() -> None:
     pictures = pytest.importorskip("dnlab.plot.pictures", reason="matplotlib is missing (Debian: python3-matplotlib)")
     view, span = view_of("reno_four_segments"), Span(10 * MS, 30 * MS)
-    panels = [panel_of(view, what, span, 10 * MS) for what in ("cdf:sojourn", "box:sojourn", "throughput", "window")]
+    panels = [panel_of(view, what, span, 10 * MS, acks=True) for what in ("cdf:sojourn", "box:sojourn", "throughput", "window")]
     shares, boxes, throughput, window = pictures.figure_of_panels(["x"], [panels], span).axes
-    assert (shares.get_xlabel(), shares.get_ylabel(), shares.get_ylim()) == ("ms", "share", (0, 1))
-    assert [text.get_text() for text in boxes.get_xticklabels()] == ["flow 1", "flow 1 acks"] and boxes.get_ylabel() == "ms"
+    assert (shares.get_xlabel(), shares.get_ylabel(), shares.get_ylim()) == ("One-way delay (ms)", "Fraction of packets", (0, 1))
+    assert [text.get_text() for text in boxes.get_xticklabels()] == ["flow 1", "flow 1 acks"]
+    assert boxes.get_ylabel() == "One-way delay (ms)"
     # Delivered in this time: 11.2, 12.4, 13.6 ms; the box is from the first to the third.
     assert sorted({float(y) for y in boxes.get_lines()[0].get_ydata()}) == [11.2, 13.6]
-    assert throughput.get_ylabel() == "Mbit/s" and throughput.get_xlim() == window.get_xlim() == (10, 30)
-    assert window.get_xlabel() == "time (ms)"
+    assert throughput.get_ylabel() == "Throughput (Mbit/s)" and throughput.get_xlim() == window.get_xlim() == (10, 30)
+    assert window.get_xlabel() == "Time (ms)"
 
 
 def test_senders_are_chosen(tmp_path: Path) -> None:

@@ -380,7 +380,9 @@ def test_the_picture(program: str) -> None:
     bars, = axes.containers
     sizes = [size_of(made.text(case)) for case in made.cases[:3]]
     mean = sum(sizes) / 3 * 0.008
-    assert list(bars[0].get_xdata()) == [5, 10, 20] and axes.get_ylabel() == "Median delay (ms)" and axes.get_xlabel() == "Delay"
+    assert list(bars[0].get_xdata()) == [5, 10, 20] and axes.get_ylabel() == "Median delay (ms)"
+    assert axes.get_xlabel() == "Link delay (ms)" and axes.figure._suptitle.get_text() == "Train 1 by link delay"
+    assert axes.figure._supxlabel.get_text() == "Points: means of 3 seeds; bars: 95 % intervals"
     assert list(bars[0].get_ydata()) == pytest.approx([mean + 5, mean + 10, mean + 20])
     half = 4.302653 * math.sqrt(sum((size * 0.008 - mean) ** 2 for size in sizes) / 2 / 3)
     segment = bars[2][0].get_segments()[0]

@@ -106,8 +106,11 @@ def test_what_is_drawn_by_hand(tmp_path: Path) -> None:
     line = sequence["flow 1: acknowledged"]["line"]
     assert near(line[:5], [(21.2, 1460), (22.4, 1460), (22.4, 2920), (23.6, 2920), (23.6, 4380)], scale)
     assert near(found["panels"]["delay"]["flow 1"]["points"], [(11.2, 11.2), (12.4, 12.4), (13.6, 13.6), (32.4, 11.2)], (42.4, 14))
-    queue = found["panels"]["queue"]["at 1.0"]["line"]
-    assert near(queue[:6], [(0, 3), (1.2, 3), (1.2, 2), (2.4, 2), (2.4, 1), (3.6, 1)], (42.4, 4))
+    # One of the three is in service, and two wait.
+    queue = found["panels"]["queue"]["pipe 1"]["line"]
+    assert near(queue[:5], [(0, 2), (1.2, 2), (1.2, 1), (2.4, 1), (2.4, 0)], (42.4, 4))
+    flight = found["panels"]["queue"]["in flight"]["line"]
+    assert near(flight[-3:], [(32.4, 1), (42.4, 1), (42.4, 0)], (42.4, 4))
     # Windows, from the lines of the report: M ack F CWND SSTHRESH, and 4380 bytes at the begin.
     lines = [words.split() for words in (RENO / "expected.txt").read_text().split("\n") if " ack 1 " in words and "deliver" not in words]
     steps = [(0, 4380)] + [(int(words[0]) / 1e6, int(words[3])) for words in lines]

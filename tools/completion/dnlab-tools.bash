@@ -4,7 +4,7 @@ _dnlab_tools() {
   local now=${COMP_WORDS[COMP_CWORD]} before="" words=""
   [ "$COMP_CWORD" -gt 0 ] && before=${COMP_WORDS[COMP_CWORD - 1]}
   case ${COMP_WORDS[0]##*/}:$before in
-    *:--what) words="window queue sojourn rate drops throughput cdf:sojourn cdf:throughput box:sojourn box:throughput" ;;
+    *:--what) words="window queue sojourn delivered drops flight throughput cdf:sojourn cdf:throughput box:sojourn box:throughput" ;;
     *:--percentiles) words="50,99 50,95,99" ;;
     *:--by) words="varied settings experiment seed" ;;
     *:--stat) words="goodput delay.p50 delay.p95 delay.p99 lost" ;;
@@ -21,14 +21,20 @@ _dnlab_tools() {
     *:--allow) words="refused spent budget unsent vacuous" ;;
     *:--within) words="1% 5% 10%" ;;
     *:--log) words="x y x,y" ;;
+    *:--kind) words="means tradeoff ecdf box" ;;
+    *:--legend) words="right inside none" ;;
+    *:--size) words="16x9cm 6x4in" ;;
     *:--clock) words="simulated wall" ;;
     *:--shell | *:--limit | *:--late-bound) return ;;
-    *:--experiment | *:--name | *:--only | *:--pairs | *:--along | *:--rows | *:--label | *:--of | *:--columns | *:--ssh | *:--on | *:--set | *:--seeds | *:--from | *:--to) return ;;
+    *:--experiment | *:--name | *:--only | *:--pairs | *:--along | *:--rows | *:--label | *:--title | *:--font | *:--style | *:--of | *:--columns | *:--ssh | *:--on | *:--set | *:--seeds | *:--from | *:--to) return ;;
     *:--out | *:--work | *:--program | *:--csv | *:--json | *:--parquet | *:--each | *:--long | *:--plot | *:--kept | *:--bounds | *:--table) ;;
     dnlab-summary:*)
       words="--experiment --name --of --percentiles --every --losses --by --columns --from --to --exact --workers --csv --json --help"
       ;;
-    dnlab-plot:*) words="--experiment --name --only --of --what --from --to --bin --overlay --out --workers --help" ;;
+    dnlab-plot:*)
+      words="--experiment --name --only --of --what --from --to --bin --overlay --effective --acks --out"
+      words+=" --title --label --size --font --style --legend --workers --help"
+      ;;
     dnlab-compare:*) words="--experiment --of --tolerance --percentiles --lines --all --exact --json --help" ;;
     dnlab-expect:*) words="--run --experiment --name --bounds --first --all --allow -q --quiet --junit --github --color --json --from --to --workers --help" ;;
     dnlab-view:*) words="--experiment --out --single --workers --help" ;;
@@ -36,7 +42,7 @@ _dnlab_tools() {
     dnlab-spread:*) words="--parts --jobs --ssh --slurm --program --out --work --resume --help" ;;
     dnlab-sweep:*)
       words="--set --seeds --of --stat --from --to --ci --interval --exact --csv --json --parquet --each --long --pairs --within"
-      words+=" --plot --along --rows --columns --log --label --dry-run --kept --anew"
+      words+=" --plot --kind --along --rows --columns --log --title --label --size --font --style --legend --dry-run --kept --anew"
       words+=" --workers --on --parts --allow --program --run --help"
       ;;
     dnlab-from-ipfw:*) words="--if --me --flatten --drop-unmatchable --lenient --all --traffic --moment --end --name --seed --budget --out --help" ;;

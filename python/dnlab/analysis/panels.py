@@ -1,5 +1,7 @@
 """The names of the panels of a picture."""
 
-WHAT = ("window", "queue", "sojourn", "rate", "drops")
-# Panels that are drawn where they are asked for by name (`dnlab.analysis.shares` makes them).
-MORE = ("throughput", "cdf:sojourn", "cdf:throughput", "box:sojourn", "box:throughput")
+WHAT = ("window", "queue", "sojourn", "delivered", "drops")
+# Panels that are drawn only if they are named; `dnlab.analysis.shares` makes all but `flight`.
+MORE = ("flight", "throughput", "cdf:sojourn", "cdf:throughput", "box:sojourn", "box:throughput")
+# Former names of panels.
+ALIASES = {"rate": "delivered"}

@@ -12,7 +12,7 @@ import numpy as np
 from numpy.typing import NDArray
 
 from dnlab.analysis.packets import UNKNOWN
-from dnlab.analysis.series import in_flight, waiting
+from dnlab.analysis.pipe_series import in_flight, waiting
 from dnlab.analysis.view import View
 from dnlab.io.digits import Ints
 from dnlab.io.drops import CAUSES

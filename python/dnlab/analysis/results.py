@@ -123,11 +123,14 @@ class Experiment:
         """Drops by sender, cause and queue (<NA> if no line has it): sender, cause, queue, packets."""
         return frames.of_rows(losses(self.view), ["experiment", "sender", "cause", "queue", "packets"])
 
-    def plot(self, what: Sequence[str] = ("window", "queue", "sojourn", "rate", "drops")) -> Any:
-        """A matplotlib figure with a panel for each of `what`."""
+    def plot(self, what: Sequence[str] = ("window", "queue", "sojourn", "delivered", "drops"), acks: bool = False,
+             effective: bool = False, **design: Any) -> Any:
+        """A matplotlib figure with a panel for each of `what`; with `acks` and `effective` as `tools/plot` has them, and its
+        `title`, `labels`, `size` (inches), `font`, `style` and `legend`."""
         from dnlab.plot import pictures
+        from dnlab.plot.design import Design
 
-        return pictures.figure_of([self.view], what)
+        return pictures.figure_of([self.view], what, effective, acks, Design(**design))
 
 
 def intervals(rows: pd.DataFrame, by: Union[str, Sequence[str]], columns: Union[str, Sequence[str]]) -> pd.DataFrame:

@@ -3,6 +3,7 @@
 Moments are nanoseconds here; `pictures` scales them. A panel that needs what can't be told has no series but `words`,
 which say why.
 """
+import copy
 from dataclasses import dataclass
 from typing import Callable, NamedTuple, Optional, Sequence
 
@@ -11,27 +12,31 @@ from numpy.typing import NDArray
 
 from dnlab.analysis.emissions import first_window
 from dnlab.analysis.packets import DELIVERED, DROPPED
+from dnlab.analysis.panels import ALIASES
 from dnlab.analysis.spans import Span
 from dnlab.analysis.view import Note, View
 from dnlab.io.digits import Ints
 from dnlab.io.drops import CAUSES
-from dnlab.io.lines import ACK, DATA, DROP, EXPIRE, pipe_name
+from dnlab.io.lines import ACK, DATA, DROP, EXPIRE, Columns
 
-# So many lines can be told apart in one panel without colour; windows are drawn of so many flows, and losses and timeouts of
-# so many apart.
+# At most this many lines can be told apart in a panel without colour. Windows are drawn for at most FLOWS flows.
 MOST = 8
 FLOWS = 16
-APART = 2
 # A panel is some 750 dots wide. What has more moments than this many times four is thinned to so many stretches.
 STRETCHES = 1500
 
 Values = NDArray[np.float64]
 
 
+# What is said of the spikes in a window.
+_INFLATION = ("In fast recovery cwnd grows by one segment with each duplicate acknowledgement (the spikes), and falls back to"
+              " ssthresh at its end.")
+
+
 class Series(NamedTuple):
-    """`form` is `steps` (a value holds until the next), `points` or `marks` (what happened at a moment); besides `share`
-    (the part of all, 0 to 1, that isn't above what stands in `moments`) and `box` (`moments` are the least, the 5th,
-    25th, 50th, 75th and 95th percentile, and the greatest).
+    """`form` is `steps` (a value holds until the next), `level` (steps of a setting, as a queue's limit), `points` or `marks`
+    (what happened at a moment), `share` (the fraction, 0 to 1, of values that are at most the one in `moments`) or `box`
+    (`moments` are the minimum, the 5th, 25th, 50th, 75th and 95th percentile, and the maximum).
 
     `moments` are int64, ns (of a share or box the values, ns or bit/s), in order; `values` have the same shape (n,). `under`
     is the label of another line, whose colour it has."""
@@ -44,25 +49,40 @@ class Series(NamedTuple):
 
 @dataclass
 class Panel:
-    """`words` stand in a panel that has no series; `top`, where it is given, is the frame's greatest value; `across` is
-    what stands along it where that isn't time; `also` is a further unit on the right, and how much of `unit` is one of it."""
+    """What is drawn on one pair of axes.
+
+    unit      of the values: packets, bytes, ms, Mbit/s, or '' for a fraction
+    words     what is written in a panel that has no series
+    top       the maximum of the vertical axis, if it isn't that of the values
+    across    the horizontal axis in words, if it isn't time
+    segment   how many bytes a segment has, if the values can be counted in segments
+    quantity  the vertical axis in words, without its unit [the title]
+    note      a sentence below the picture
+    """
     title: str
     unit: str
     series: list[Series]
     words: str = ""
     top: Optional[float] = None
     across: str = ""
-    also: Optional[tuple[str, int]] = None
+    segment: int = 0
+    quantity: str = ""
+    note: str = ""
 
 
-def panel_of(view: View, what: str, span: Span = Span(), every: Optional[int] = None) -> Panel:
-    """A panel of an experiment, by its name in `WHAT` or `MORE`, of a span of time; long series are thinned. `every` is
-    the time, ns, over which throughput is taken; else it is a 1, 2 or 5 with zeros, so that there are 50 or more."""
-    # Here, since it builds on this module.
-    from dnlab.analysis import shares
+def panel_of(view: View, what: str, span: Span = Span(), every: Optional[int] = None, effective: bool = False,
+             acks: bool = False) -> Panel:
+    """A panel of an experiment, by its name in `WHAT`, `MORE` or `ALIASES`, for a span of time; long series are thinned.
+    `every` is the length of an interval of throughput, ns; by default a 1, 2 or 5 with zeros, so that there are 50 or more.
+    `effective` adds the effective windows, and `acks` the senders of acknowledgements."""
+    # Here, since they build on this module.
+    from dnlab.analysis import pipe_series, shares
 
+    view = view if acks else without_acks(view)
+    what = ALIASES.get(what, what)
     makers: dict[str, Callable[[View], Panel]] = {
-        "window": windows, "queue": queues, "sojourn": sojourns, "rate": rates, "drops": drops}
+        "window": lambda view: windows(view, FLOWS, effective), "queue": pipe_series.queues, "flight": pipe_series.flights,
+        "sojourn": sojourns, "delivered": rates, "drops": drops}
     panel = makers[what](view) if what in makers else shares.panel_of(view, what, span, every)
     if not panel.across and panel.series and span != Span():
         panel.series = [one for one in (within(one, span) for one in panel.series) if len(one.moments)]
@@ -71,13 +91,23 @@ def panel_of(view: View, what: str, span: Span = Span(), every: Optional[int] = 
     return panel
 
 
+def without_acks(view: View) -> View:
+    """The view without the senders of acknowledgements; itself if it has no others."""
+    senders = [(name, packets) for name, packets in view.senders if not name.endswith(" acks")]
+    if not senders or len(senders) == len(view.senders):
+        return view
+    own = copy.copy(view)
+    own.senders = senders
+    return own
+
+
 def within(one: Series, span: Span) -> Series:
     """The part of a series that lies in a span; steps begin with what holds at its begin, and hold to its end."""
     moments, values = one.moments, one.values
     end = int(moments[-1]) if span.end is None and len(moments) else span.end or 0
     begin, after = (int(np.searchsorted(moments, moment, side=side))  # type: ignore[call-overload]
                     for moment, side in ((span.begin, "left"), (end, "right")))
-    if one.form != "steps":
+    if one.form not in ("steps", "level"):
         return one._replace(moments=moments[begin:after], values=values[begin:after])
     held, left = min(begin, 1), int(0 < after < len(moments))
     return one._replace(
@@ -141,10 +171,10 @@ def too_many(panel_name: str, count: int, kept: int = MOST) -> Note:
                 " those with most changes, acknowledgements last")
 
 
-def windows(view: View, limit: Optional[int] = FLOWS) -> Panel:
-    """cwnd and ssthresh of each flow, as the lines have them, with losses and timeouts; and, where the flow's `window` is the
-    lesser, the effective window, which is what may be under way. Of more than 16 flows those with most changes, if there is
-    a limit."""
+def windows(view: View, limit: Optional[int] = FLOWS, effective: bool = True) -> Panel:
+    """cwnd and ssthresh of each flow, as the lines have them, with losses and timeouts; and the effective window, which is
+    the limit on the bytes in flight, if the flow's `window` is below cwnd. If there is a limit, of more than 16 flows those
+    with most changes are shown, and no ssthresh above the axis."""
     columns = view.experiment.columns
     # Flows by name are chosen by whom the panel shows (`dnlab-plot --of`).
     shown = {name for name, _ in view.senders}
@@ -152,27 +182,23 @@ def windows(view: View, limit: Optional[int] = FLOWS) -> Panel:
     flows = [flow for flow in np.unique(columns.flow[rows]).tolist() if f"flow {flow}" in shown or not view.is_told]
     found = {flow: flow_windows(view, flow, rows[columns.flow[rows] == flow]) for flow in flows}
     if not found:
-        return Panel("Windows", "bytes", [], "no flow: no `ack` or `expire` line")
+        return Panel("Congestion window", "bytes", [], "no flow: no `ack` or `expire` line")
     cwnds = most(view, "window", [parts[0] for parts in found.values()], limit)
     kept = [parts for parts in found.values() if any(parts[0] is one for one in cwnds)]
-    lines = [one for parts in kept for one in parts[:-2] if len(one.moments)]
-    marks = [one for parts in kept for one in parts[-2:]]
-    if limit is not None and len(kept) > APART:
-        marks = [Series(label, "marks", *merged(marks[place::2])) for place, label in ((0, "loss"), (1, "timeout"))]
-    is_effective = any(one.label.startswith("effective") for one in lines)
-    title = "Windows (dotted: ssthresh" + ("; wide: effective window)" if is_effective else ")")
+    top = 1.1 * max(int(parts[0].values.max()) for parts in kept)
+    lines = [one if limit is None or not one.label.startswith("ssthresh") else one._replace(values=np.where(one.values > top, np.nan, one.values))
+             for parts in kept for one in parts if effective or not one.label.startswith("effective")]
+    lines = [one for one in lines if len(one.moments) and not np.isnan(one.values).all()]
     sizes = {view.sends[f"flow {flow}"][1].smss for flow in found if f"flow {flow}" in view.sends}
-    return Panel(title, "bytes", lines + [one for one in marks if len(one.moments)],
-                 top=1.25 * max(int(parts[0].values.max()) for parts in kept),
-                 also=("segments", sizes.pop()) if len(sizes) == 1 else None)
+    return Panel("Congestion window", "bytes", lines, top=top, segment=sizes.pop() if len(sizes) == 1 else 0,
+                 note=_INFLATION if any(inflates(columns, flow) for flow in flows) else "")
 
 
-def merged(marks: Sequence[Series]) -> tuple[Ints, Ints]:
-    """Moments and values of all marks, in order."""
-    moments = np.concatenate([one.moments for one in marks])
-    values = np.concatenate([one.values for one in marks])
-    order = np.lexsort((values, moments))
-    return moments[order], values[order].astype(np.int64)
+def inflates(columns: Columns, flow: int) -> bool:
+    """Whether a flow enters fast recovery: a third duplicate acknowledgement lowers ssthresh."""
+    rows = np.flatnonzero((columns.flow == flow) & ((columns.word == ACK) | (columns.word == EXPIRE)))
+    falls = np.diff(columns.more[rows]) < 0
+    return bool((falls & (columns.word[rows][1:] == ACK)).any())
 
 
 def flow_windows(view: View, flow: int, rows: Ints) -> list[Series]:
@@ -186,61 +212,20 @@ def flow_windows(view: View, flow: int, rows: Ints) -> list[Series]:
         ssthresh = np.concatenate((np.array([sends.ssthresh]), ssthresh))
     dropped = (columns.word == DROP) & (columns.kind == DATA) & (columns.flow == flow)
     timeouts = columns.moment[rows[columns.word[rows] == EXPIRE]]
-    marks = []
+    marks, name = [], f"cwnd {flow}"
     for label, at in (("loss", columns.moment[dropped]), ("timeout", timeouts)):
         held = np.maximum(np.searchsorted(moments, at, side="right") - 1, 0)
-        marks.append(Series(f"{label} {flow}", "marks", at, cwnd[held]))
-    name = f"cwnd {flow}"
+        marks.append(Series(f"{label} {flow}", "marks", at, cwnd[held], name))
     lines = [Series(name, "steps", moments, cwnd)]
     if sends is not None and int(cwnd.max()) > sends.window:
         lines.append(Series(f"effective {flow}", "steps", moments, np.minimum(cwnd, sends.window), name))
     return [*lines, Series(f"ssthresh {flow}", "steps", moments, ssthresh, name), *marks]
 
 
-def queues(view: View) -> Panel:
-    """Packets that wait or are in service, by pipe, and all that are under way."""
-    pipes = view.visits.pipes()
-    if not view.is_told:
-        flights = [steps(view, f"in the delay line of {pipe_name(pipe)}", *in_flight(view, own)) for pipe, own in pipes]
-        return Panel("Packets in delay lines (how many wait needs the scenario)", "packets",
-                     most(view, "queue", flights), "" if flights else "no packet finished in a pipe")
-    series = [steps(view, f"at {pipe_name(pipe)}", *waiting(view, own)) for pipe, own in pipes]
-    lost = len(view.never_seen)
-    if lost:
-        view.more_notes.append(Note("no pipe", f"queue: {lost} packets have no line that names their pipe (held at the end,"
-                                    " or deleted while they waited), so no pipe's line counts them"))
-    made, ended = view.packets.made, view.packets.ended
-    changes = _changes(made, ended[ended >= 0])
-    series = most(view, "queue", series)
-    return Panel("Packets waiting or in service, by pipe, and all under way", "packets",
-                 series + [steps(view, "under way", *changes)], "" if len(made) else "no packet was made")
-
-
-def _changes(more: Ints, less: Ints) -> tuple[Ints, Ints]:
-    return np.concatenate((more, less)), np.repeat(np.array([1, -1], dtype=np.int64), [len(more), len(less)])
-
-
-def waiting(view: View, own: Ints) -> tuple[Ints, Ints]:
-    """The changes of how many packets wait or are in service, of some visits: moments and amounts."""
-    visits = view.visits
-    left = np.where(visits.finish[own] >= 0, visits.finish[own], visits.exit[own])
-    came = visits.arrival[own]
-    return _changes(came[came >= 0], left[(came >= 0) & (left >= 0)])
-
-
-def in_flight(view: View, own: Ints) -> tuple[Ints, Ints]:
-    """The changes of how many packets are in the delay line, of some visits: moments and amounts."""
-    visits = view.visits
-    own = own[visits.finish[own] >= 0]
-    left = np.where(visits.exit[own] >= 0, visits.exit[own], view.packets.ended[visits.packet[own]])
-    return _changes(visits.finish[own], left[left >= 0])
-
-
 def sojourns(view: View, limit: Optional[int] = MOST) -> Panel:
-    """Of each delivered packet the time from being made, at the moment of its delivery."""
+    """The one-way delay of each delivered packet, at the moment of its delivery."""
     if not view.is_told:
-        return Panel("Time from being made to delivery", "ms", [],
-                     "When packets were made can't be told\nwithout the scenario.")
+        return Panel("One-way delay", "ms", [], "When packets were made can't be told\nwithout the scenario.")
     table, delay = view.packets, view.packets.delay
     series = []
     for who, packets in view.senders:
@@ -249,11 +234,14 @@ def sojourns(view: View, limit: Optional[int] = MOST) -> Panel:
         delivered = delivered[np.argsort(table.ended[delivered], kind="stable")]
         series.append(Series(who, "points", table.ended[delivered], delay[delivered] / 10**6))
     series = most(view, "sojourn", series, limit)
-    return Panel("Time from being made to delivery", "ms", series, "" if series else "nothing was delivered")
+    return Panel("One-way delay", "ms", series, "" if series else "nothing was delivered")
 
 
 def rates(view: View, limit: Optional[int] = MOST) -> Panel:
-    """What was delivered, by who sent it, and what went through each pipe, added up over time."""
+    """What was delivered, by sender, and what went through each pipe, added up over time."""
+    # Here, since it builds on this module.
+    from dnlab.analysis.pipe_series import labelled
+
     known = view.is_told
     table, visits = view.packets, view.visits
     amounts = table.size if known else np.ones(len(table), dtype=np.int64)
@@ -261,29 +249,13 @@ def rates(view: View, limit: Optional[int] = MOST) -> Panel:
     for who, packets in view.senders:
         delivered = packets[table.outcome[packets] == DELIVERED]
         series.append(steps(view, who, table.ended[delivered], amounts[delivered]))
-    for pipe, own in visits.pipes():
+    for label, own in labelled(view):
         served = own[visits.finish[own] >= 0]
-        series.append(steps(view, f"through {pipe_name(pipe)}", visits.finish[served], amounts[visits.packet[served]]))
-    series = most(view, "rate", series, limit)
-    title = "Delivered, and through each pipe" + ("" if known else " (bytes need the scenario)")
-    return Panel(title, "bytes" if known else "packets", series, "" if series else "nothing was delivered")
-
-
-def link_rates(view: View) -> list[Series]:
-    """Of each pipe with a rate what it can carry over time, Mbit/s, by the configurations that were done; not a number where
-    it has no limit, or isn't there."""
-    found = []
-    for pipe, changes in view.changes.items():
-        moments = np.array([change.moment for change in changes], dtype=np.int64)
-        values = np.array([change.config.bw / 10**6 if change.config and change.config.bw else np.nan for change in changes])
-        if np.isnan(values).all() or int(moments[0]) > view.last:
-            continue
-        last = np.flatnonzero(np.append(moments[1:] != moments[:-1], True))
-        moments, values = moments[last], values[last]
-        if int(moments[-1]) < view.last:
-            moments, values = np.append(moments, view.last), np.append(values, values[-1])
-        found.append(Series(f"rate of pipe {pipe}", "steps", moments, values))
-    return found
+        series.append(steps(view, f"through {label}", visits.finish[served], amounts[visits.packet[served]]))
+    series = most(view, "delivered", series, limit)
+    title = "Delivered data, cumulative" if known else "Delivered packets, cumulative (bytes need the scenario)"
+    return Panel(title, "bytes" if known else "packets", series, "" if series else "nothing was delivered",
+                 quantity="Delivered data" if known else "Delivered")
 
 
 def drops(view: View) -> Panel:
@@ -291,4 +263,5 @@ def drops(view: View) -> Panel:
     table = view.packets
     series = [steps(view, cause, table.ended[table.outcome == DROPPED + place], 1) for place, cause in enumerate(CAUSES)]
     series = [one for one in series if len(one.moments)]
-    return Panel("Drops by cause", "packets", series, "" if series else "no packet was dropped")
+    return Panel("Dropped packets by cause, cumulative", "packets", series, "" if series else "no packet was dropped",
+                 quantity="Dropped")

@@ -1,12 +1,14 @@
 """Panels of how values are shared out: throughput over time, its CDF, that of times under way, and boxes of both; and
 panels of several experiments laid over one another."""
+from dataclasses import replace
 from typing import Optional, Sequence
 
 import numpy as np
 
 from dnlab.analysis.figures import place
 from dnlab.analysis.packets import DELIVERED
-from dnlab.analysis.series import MOST, Panel, Series, fewest, link_rates, most, too_many
+from dnlab.analysis.pipe_series import drawable, link_rates
+from dnlab.analysis.series import MOST, Panel, Series, fewest, most, too_many
 from dnlab.analysis.spans import Span
 from dnlab.analysis.view import Note, View
 from dnlab.errors import Faulty
@@ -14,23 +16,27 @@ from dnlab.io.digits import Ints
 
 # Throughput is taken over times of which there are so many or more, where nobody says which.
 _BINS = 50
+_FEWEST = 10
+_PACKETS = 5
 _MOST_BINS = 10**6
 _BOXES = 60
 _PERCENTILES = (5, 25, 50, 75, 95)
-_NAMES = {"sojourn": ("Times from being made to delivery", "ms"), "throughput": ("Throughput", "Mbit/s")}
+_NAMES = {"sojourn": ("One-way delay", "ms"), "throughput": ("Throughput", "Mbit/s")}
+_FRACTIONS = {"sojourn": "Fraction of packets", "throughput": "Fraction of intervals"}
 # What is missing, where a panel needs it.
 _NEEDS = {"sojourn": "When packets were made can't be told\nwithout the scenario.",
           "throughput": "Sizes can't be told\nwithout the scenario."}
 Samples = list[tuple[str, Ints]]
 
 
-def bin_of(time: int) -> int:
-    """A 1, 2 or 5 with zeros, ns, of which a time has 50 or more.
+def bin_of(time: int, packets: int = 10**9) -> int:
+    """A 1, 2 or 5 with zeros, ns, of which a time has 50 or more; fewer if they would have less than 5 packets on average, down
+    to 10.
 
-    >>> bin_of(10**10), bin_of(3 * 10**9)
-    (200000000, 50000000)
+    >>> bin_of(10**10), bin_of(3 * 10**9), bin_of(10**10, 100)
+    (200000000, 50000000, 500000000)
     """
-    wanted = max(time // _BINS, 1)
+    wanted = max(time // min(_BINS, max(packets // _PACKETS, _FEWEST)), 1)
     scale: int = 10 ** (len(str(wanted)) - 1)
     return next(scale * step for step in (5, 2, 1) if scale * step <= wanted)
 
@@ -48,29 +54,31 @@ def shown_time(time: int) -> str:
 def panel_of(view: View, what: str, span: Span, every: Optional[int]) -> Panel:
     """A panel by its name in `series.MORE`."""
     kind, _, of = what.rpartition(":")
-    title, unit = _NAMES[of]
+    quantity, unit = _NAMES[of]
     until = view.last if span.end is None else min(span.end, view.last)
-    every = every or bin_of(max(until - span.begin, 1))
-    if of == "throughput":
-        title += f" in each {shown_time(every)}"
+    delivered = sum(int(np.count_nonzero(view.packets.outcome[packets] == DELIVERED)) for _, packets in view.senders)
+    every = every or bin_of(max(until - span.begin, 1), delivered)
+    title = quantity + (f" in intervals of {shown_time(every)}" if of == "throughput" else "")
     if kind:
-        title += ", CDF" if kind == "cdf" else ": quartiles, 5 to 95 %, least and greatest"
-    across = {"cdf": unit, "box": "sender"}.get(kind, "")
+        title += ": distribution (CDF)" if kind == "cdf" else ": quartiles, 5th to 95th percentile, minimum and maximum"
+    across = {"cdf": f"{quantity} ({unit})", "box": "Sender"}.get(kind, "")
     # Of a report without sizes, or without the moments at which packets were made, nothing is said for 0.
     if not view.is_told:
-        return Panel(title, unit, [], _NEEDS[of], across=across)
+        return Panel(title, unit, [], _NEEDS[of], across=across, quantity=quantity)
     if not kind:
         series = [_stairs(_came(label), moments, values, every) for label, moments, values in throughputs(view, every)]
-        return Panel(title, unit, most(view, what, series) + link_rates(view), "" if series else "nothing was delivered")
+        series = most(view, what, series)
+        rates, named = drawable(link_rates(view), series, unit)
+        return Panel(title + named, unit, series + rates, "" if series else "nothing was delivered", quantity=quantity)
     samples = _times(view, span) if of == "sojourn" else [
         (_came(label), np.sort(values[(moments >= span.begin) & (moments + every <= until)]))
         for label, moments, values in throughputs(view, every)]
     samples = [(label, values) for label, values in samples if len(values)]
     words = "" if samples else "nothing was delivered in this time"
     if kind == "box":
-        return Panel(title, unit, [_box(label, values) for label, values in samples], words, across=across)
+        return Panel(title, unit, [_box(label, values) for label, values in samples], words, across=across, quantity=quantity)
     series = [Series(label, "share", values, np.arange(1, len(values) + 1) / len(values)) for label, values in samples]
-    return Panel(title, "share", most(view, what, series), words, 1.0, across)
+    return Panel(title, "", most(view, what, series), words, 1.0, across, quantity=_FRACTIONS[of])
 
 
 def throughputs(view: View, every: int) -> list[tuple[str, Ints, Ints]]:
@@ -126,8 +134,9 @@ def overlaid(names: Sequence[str], columns: Sequence[Sequence[Panel]]) -> tuple[
     left out. More boxes than 60 are refused by `Faulty`."""
     panels, notes = [], []
     for same in zip(*columns):
-        series = [one._replace(label=f"{name}: {one.label}") for name, panel in zip(names, same) for one in panel.series]
-        lines = [one for one in series if one.form != "marks"]
+        series = [one._replace(label=f"{name}: {one.label}", under=one.under and f"{name}: {one.under}")
+                  for name, panel in zip(names, same) for one in panel.series]
+        lines = [one for one in series if one.form not in ("marks", "level") and not one.under]
         first = same[0]
         if lines and lines[0].form == "box":
             if len(lines) > _BOXES:
@@ -136,8 +145,24 @@ def overlaid(names: Sequence[str], columns: Sequence[Sequence[Panel]]) -> tuple[
         elif len(lines) > MOST:
             notes.append((names[0], too_many(first.title, len(lines))))
             lines = fewest(lines)
+        kept = {one.label for one in lines}
+        lines += [one for one in series if one.under in kept or (not one.under and one.form == "marks")] + _levels(names, same)
         tops = [panel.top for panel in same if panel.top is not None]
-        words = next((panel.words for panel in same if panel.words), "")
-        panels.append(Panel(first.title, first.unit, [*lines, *(one for one in series if one.form == "marks")],
-                            words, max(tops) if len(tops) == len(same) else None, first.across))
+        sizes = {panel.segment for panel in same if panel.series}
+        title = first.title if len({panel.title for panel in same}) == 1 else first.quantity or first.title
+        panels.append(replace(first, title=title, series=lines, words=next((panel.words for panel in same if panel.words), ""),
+                              top=max(tops) if len(tops) == len(same) else None,
+                              segment=sizes.pop() if len(sizes) == 1 else 0,
+                              note=next((panel.note for panel in same if panel.note), "")))
     return panels, notes
+
+
+def _levels(names: Sequence[str], panels: Sequence[Panel]) -> list[Series]:
+    """The levels of several experiments; one that is the same in all has no experiment's name."""
+    found: dict[tuple[str, str], Series] = {}
+    for name, panel in zip(names, panels):
+        for one in panel.series:
+            if one.form == "level":
+                found.setdefault((one.label, str(one.values)), one._replace(label=f"{name}: {one.label}"))
+    labels = [label for label, _ in found]
+    return [one._replace(label=label) if labels.count(label) == 1 else one for (label, _), one in found.items()]

@@ -11,7 +11,6 @@ from dnlab.analysis.spans import Span
 from dnlab.analysis.tables import Tables
 from dnlab.analysis.view import KINDS, Note, View
 from dnlab.analysis.work import Given, lacking, over
-from dnlab.errors import Faulty
 from dnlab.io.origin import check_beside
 from dnlab.io.scenario_parts import Plan
 from dnlab.programs import say

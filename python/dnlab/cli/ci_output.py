@@ -35,14 +35,17 @@ def junit(judged: Sequence[Judged], failed: Sequence[Failing]) -> bytes:
     failures = sum(1 for case in cases if case.failed)
     suite = ElementTree.Element("testsuite", name="dnlab-expect", tests=str(len(cases)), failures=str(failures), errors="0", skipped="0")
     for case in cases:
-        more = {name: str(value) for name, value in (("file", case.file), ("line", case.line)) if value is not None}
-        found = ElementTree.SubElement(suite, "testcase", classname=_xml(case.group), name=_xml(case.name), **{name: _xml(it) for name, it in more.items()})
+        found = ElementTree.SubElement(suite, "testcase", classname=_xml(case.group), name=_xml(case.name))
+        for name, value in (("file", case.file), ("line", case.line)):
+            if value is not None:
+                found.set(name, _xml(str(value)))
         if case.failed:
             ElementTree.SubElement(found, "failure", message=_xml(case.failed)).text = _xml(f"{case.name}: {case.failed}")
     top = ElementTree.Element("testsuites")
     top.append(suite)
     ElementTree.indent(top)
-    return ElementTree.tostring(top, encoding="utf-8", xml_declaration=True) + b"\n"
+    text: bytes = ElementTree.tostring(top, encoding="utf-8", xml_declaration=True)
+    return text + b"\n"
 
 
 def _xml(text: str) -> str:

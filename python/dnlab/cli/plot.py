@@ -6,9 +6,10 @@ from typing import TYPE_CHECKING, NamedTuple, Optional, Sequence
 from dnlab.analysis.metrics import is_named
 from dnlab.analysis.naming import names_of, with_names
 from dnlab.analysis.notes import Note
-from dnlab.analysis.panels import MORE, WHAT
+from dnlab.analysis.panels import ALIASES, MORE, WHAT
 from dnlab.analysis.spans import Span
 from dnlab.analysis.work import Given, TooMany, over, plans_of
+from dnlab.cli.design_words import add_design, design_of, picture
 from dnlab.cli.words import add_names, add_texts, count_of, moment_of, parser_of, taken, time_of
 from dnlab.errors import Faulty, status_of
 from dnlab.programs import say
@@ -18,29 +19,32 @@ if TYPE_CHECKING:
     from dnlab.analysis.view import View
 
 EXAMPLE = """A column for each experiment, a panel for each of --what:
-  window   cwnd and ssthresh of each flow, 16 at most, in bytes and segments,
-           with its losses (x) and timeouts (triangle); and the effective
-           window, the lesser of cwnd and the flow's `window`, if they differ
-  queue    packets that wait or are in service, by pipe, and all under way
-  sojourn  the time from being made to delivery, at each delivery
-  rate     bytes delivered and bytes through each pipe, added up
-  drops    drops by cause, added up
+  window     congestion window and ssthresh of each flow, at most 16, in
+             segments, with losses (x) and timeouts (triangle)
+  queue      packets that wait at each pipe, without the one in service, and
+             the limit of its queue
+  sojourn    one-way delay of each packet, at its delivery
+  delivered  data delivered and data through each pipe, cumulative (its former
+             name, rate, is understood)
+  drops      dropped packets by cause, cumulative
 and on request:
+  flight     packets in flight
   throughput      what was delivered in each --bin of time, Mbit/s, and the
                   rates of the pipes
   cdf:sojourn, cdf:throughput
-                  which part of the values isn't above a value
+                  distribution of the values (CDF)
   box:sojourn, box:throughput
                   quartiles and median, lines from the 5th to the 95th
-                  percentile, the least and the greatest
-With --overlay all experiments stand in one column, each line with its
-experiment's name.
+                  percentile, minimum and maximum
+With --overlay all experiments are in one column, each line with its
+experiment's name. --effective adds the effective window, the lesser of cwnd
+and the flow's `window`, as a wide band. --acks adds acknowledgements.
 
 Sizes and the moments at which packets were made stand in no line of a report.
 They are worked out from the scenario, and compared with every line; without it
 the panels that need them say so.
-What has more points than a picture has dots is thinned: each of 1500 stretches
-of time keeps its first, least, greatest and last value.
+Long series are thinned without a visible change: each of 1500 intervals of time
+keeps its first, minimum, maximum and last value.
 It needs matplotlib (Debian: apt-get install python3-matplotlib).
 
 Example:
@@ -48,6 +52,8 @@ Example:
   tools/plot report.txt scenario.txt --what window,queue --out windows.svg
   tools/plot report.txt scenario.txt --only q50-s1,q200-s1 --overlay \\
     --of 'train 9' --what sojourn,cdf:sojourn --from 1s
+  tools/plot report.txt scenario.txt --what sojourn --of 'train 9' --overlay \\
+    --title 'A call beside a download' --label 'train 9=call' --size 16x9cm
 
 Exit status: 0 drawn, 2 wrong usage or a faulty input, 3 a file that can't be
 written, or a package that is missing."""
@@ -66,15 +72,9 @@ class Drawn(NamedTuple):
 def chosen(text: str) -> list[str]:
     names = text.split(",")
     for name in names:
-        if name not in (*WHAT, *MORE):
+        if name not in (*WHAT, *MORE, *ALIASES):
             raise argparse.ArgumentTypeError(f"{name!r} is none of {','.join((*WHAT, *MORE))}")
     return names
-
-
-def picture(text: str) -> str:
-    if text.rsplit(".", 1)[-1] not in ("svg", "png", "pdf"):
-        raise argparse.ArgumentTypeError(f"{text!r} ends neither in .svg nor in .png nor in .pdf")
-    return text
 
 
 def words(given: Sequence[str]) -> argparse.Namespace:
@@ -86,27 +86,33 @@ def words(given: Sequence[str]) -> argparse.Namespace:
     parser.add_argument("--what", type=chosen, default=list(WHAT),
                         help=f"panels, with commas between [{','.join(WHAT)}]")
     parser.add_argument("--of", action="append", default=[], metavar="PATTERN",
-                        help="only these senders, as 'flow 1' or 'train *' (not in queue, drops); may be said again")
+                        help="only these senders, as 'flow 1' or 'train *' (not in queue, flight, drops); may be said again")
     parser.add_argument("--from", type=moment_of, default=0, dest="begin", metavar="TIME",
                         help="the moment from which on is drawn, as 500ms [0s]")
     parser.add_argument("--to", type=moment_of, dest="end", metavar="TIME", help="the moment up to which is drawn [the last]")
     parser.add_argument("--bin", type=time_of, metavar="TIME",
-                        help="over which time throughput is taken [50 or more of 1, 2 or 5 with zeros]")
+                        help="the length of an interval of throughput [1, 2 or 5 with zeros: 50 or more, fewer if packets are few]")
     parser.add_argument("--overlay", action="store_true", help="all experiments in one column of panels")
+    parser.add_argument("--effective", action="store_true", help="draw effective windows too, as wide bands")
+    parser.add_argument("--acks", action="store_true", help="draw acknowledgements too, and pipes that carry nothing else")
     parser.add_argument("--out", type=picture, default="plot.svg", metavar="FILE",
                         help="what is written, .svg, .png or .pdf [plot.svg]")
+    add_design(parser, "a sender, a pipe or an experiment, as 'train 9=the call'")
     parser.add_argument("--workers", type=count_of, metavar="N",
                         help="how many processes [all cores if the report is long]")
     found = taken(parser, list(given))
     found.experiment += [name for names in found.only for name in names]
     if found.end is not None and found.end <= found.begin:
         parser.error("--to: it must be later than --from")
+    if found.effective and "window" not in found.what:
+        parser.error("--effective goes with --what window")
     if found.bin is not None and not any("throughput" in what for what in found.what):
         parser.error("--bin goes with --what throughput, cdf:throughput or box:throughput")
     return found
 
 
-def draw_one(view: "View", what: Sequence[str], span: Span, every: Optional[int], patterns: Sequence[str]) -> Drawn:
+def draw_one(view: "View", what: Sequence[str], span: Span, every: Optional[int], patterns: Sequence[str], effective: bool,
+             acks: bool) -> Drawn:
     """The panels of one experiment, for another process."""
     from dnlab.analysis.series import panel_of
 
@@ -118,7 +124,9 @@ def draw_one(view: "View", what: Sequence[str], span: Span, every: Optional[int]
                         if any(is_named(name, pattern) for pattern in patterns)]
         if not view.senders:
             view.more_notes.append(Note("senders", f"--of {' '.join(map(repr, patterns))}: it has {', '.join(names)}"))
-    panels = [panel_of(view, one, span, every) for one in what]
+    panels = [panel_of(view, one, span, every, effective, acks) for one in what]
+    for panel in panels if patterns else []:
+        panel.series = [one for one in panel.series if not one.label.startswith("through ")]
     return Drawn(view.name, panels, notes + view.more_notes)
 
 
@@ -130,7 +138,8 @@ def draw(given: argparse.Namespace) -> list[Drawn]:
     drawn = []
     most = _MOST_OVER if given.overlay else _MOST
     function = partial(draw_one, what=tuple(given.what), span=Span(given.begin, given.end), every=given.bin,
-                       patterns=tuple(given.of))
+                       patterns=tuple(given.of), effective=given.effective,
+                       acks=given.acks or any("acks" in pattern for pattern in given.of))
     try:
         made = over(texts, function, plans, given.experiment, given.workers, "plot", most)
         for one in whole(texts, plans, given.experiment, made, lambda one: one.name):
@@ -154,8 +163,10 @@ def main(words_given: Sequence[str]) -> int:
     from dnlab.analysis.shares import overlaid
     from dnlab.analysis.summing import tell
     from dnlab.plot import pictures
+    from dnlab.plot.design import save
 
     try:
+        design = design_of(given)
         drawn = draw(given)
         names, columns = [one.name for one in drawn], [one.panels for one in drawn]
         notes = [(one.name, note) for one in drawn for note in one.notes]
@@ -163,8 +174,8 @@ def main(words_given: Sequence[str]) -> int:
             panels, more = overlaid(names, columns)
             names, columns = [", ".join(names) if len(names) < 4 else f"{len(names)} experiments"], [panels]
             notes += more
-        figure = pictures.figure_of_panels(names, columns, Span(given.begin, given.end))
-        pictures.save(figure, given.out)
+        figure = pictures.figure_of_panels(names, columns, Span(given.begin, given.end), design)
+        save(figure, given.out)
     except Faulty as faulty:
         say("plot", faulty)
         return status_of(faulty)

@@ -88,12 +88,12 @@ def write_all(made: Sweep, table: pd.DataFrame, given: argparse.Namespace) -> No
     if given.long is not None:
         write(made.long(), given.long, given.long.rsplit(".", 1)[-1], made.settings)
     if given.plot is not None:
-        from dnlab.plot import pictures
-        from dnlab.plot import curves
+        from dnlab.plot import curves, design
 
-        figure = curves.figure_of(table, made.settings, look_of(given))
+        look = look_of(given, made.setting_labels())
+        figure = curves.figure_of(table, made.settings, look, made.long() if look.kind in ("ecdf", "box") else None)
         try:
-            pictures.save(figure, given.plot)
+            design.save(figure, given.plot)
         except OSError as fault:
             raise Failed(3, f"{given.plot}: {fault.strerror}") from None
 
@@ -171,9 +171,9 @@ def judge(given: argparse.Namespace, made: Sweep) -> None:
     from dnlab.analysis.seeds import compared
 
     if given.plot is not None:
-        from dnlab.plot import curves
+        from dnlab.plot import looks
 
-        curves.judge(pd.DataFrame([case.settings for case in made.cases]), made.settings,
+        looks.judge(pd.DataFrame([case.settings for case in made.cases]), made.settings,
                      [(ask.of, stat) for ask in made.asks for stat in ask.stats], look_of(given))
     if given.pairs is not None:
         along, base = pair_in(given.pairs)

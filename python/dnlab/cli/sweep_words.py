@@ -1,12 +1,12 @@
 """The words of `dnlab-sweep`, and what they mean."""
 import argparse
 import os
-from typing import Any, Callable, Optional, Sequence, TypeVar
+from typing import Any, Callable, Mapping, Optional, Sequence, TypeVar
 
 from dnlab.analysis.figures import KINDS
 from dnlab.analysis.notes import STOPPING
 from dnlab.analysis.stats import STATS, USUAL, Ask, stats_of
-from dnlab.cli.plot import picture
+from dnlab.cli.design_words import add_design, design_of, is_designed, picture
 from dnlab.cli.words import add_span, count_of, listed, parser_of, span_in
 from dnlab.sweeps.grids import seeds_of, setting_of
 from dnlab.sweeps.jobs import DASK
@@ -56,6 +56,9 @@ Example:
   tools/sweep python/examples/bottleneck.tmpl --set queue=10,25,50,100,200 \\
     --seeds 1-30 --of 'train 9' --stat delay.p50,delay.p95 \\
     --of flows --stat goodput,lost --csv best.csv --plot best.svg
+  tools/sweep python/examples/bottleneck.tmpl --set queue=10,25,50,100,200 \\
+    --seeds 1-30 --of 'train 9' --stat delay.p95 --of flows --stat goodput \\
+    --plot tradeoff.svg --kind tradeoff --label 'train 9=the call'
   tools/sweep python/examples/bottleneck.tmpl --set queue=50 --dry-run
 
 Exit status: 0 done; 2 wrong usage, a fault in the template, in a text made of
@@ -113,35 +116,30 @@ def share_of(text: str) -> float:
     return share
 
 
-def label_of(text: str) -> tuple[str, str]:
-    """The words of `--label`: a name and what stands in its place.
-
-    >>> label_of("rate=Link rate (Mbit/s)")
-    ('rate', 'Link rate (Mbit/s)')
-    """
-    name, equals, label = text.partition("=")
-    if not equals or not name or not label:
-        raise ValueError(f"{text!r}: NAME=TEXT is wanted, as 'rate=Link rate (Mbit/s)' or 'queue:codel=CoDel'")
-    return name, label
+# As `dnlab.plot.looks.KINDS`, which needs matplotlib.
+PICTURES = ("means", "tradeoff", "ecdf", "box")
 
 
 def add_look(parser: argparse.ArgumentParser) -> None:
     """The picture and how it is laid out."""
     parser.add_argument("--plot", type=picture, metavar="FILE", help="a picture, .svg, .png or .pdf")
-    parser.add_argument("--along", metavar="NAME", help="the setting that the picture goes along [the first with several]")
+    parser.add_argument("--kind", choices=PICTURES, default="means",
+                        help="what it shows: means with their intervals over a setting, one of two statistics against the other,"
+                        " or how the values of the seeds are distributed (ECDF, box plot) [means]")
+    parser.add_argument("--along", metavar="NAME", help="the setting on the horizontal axis [the first with several values]")
     parser.add_argument("--rows", metavar="NAME", help="a row of panels for each value of this setting [one row], of each stat")
     parser.add_argument("--columns", metavar="NAME", help="a column of panels for each value of this setting")
     parser.add_argument("--log", type=lambda text: text.split(","), default=[], metavar="x,y", help="logarithmic axes")
-    parser.add_argument("--label", action="append", default=[], type=kind_of(label_of), metavar="NAME=TEXT",
-                        help="what the picture says for a setting, a stat, a value (queue:codel=CoDel) or of whom; may be said"
-                        " again")
+    add_design(parser, "a setting, a value of it (queue:codel=CoDel), a statistic or a sender")
 
 
-def look_of(given: argparse.Namespace) -> Any:
-    """How the picture is laid out."""
-    from dnlab.plot.curves import Look
+def look_of(given: argparse.Namespace, known: Mapping[str, str] = {}) -> Any:
+    """How the picture is laid out; settings have the labels that are known, unless --label says others."""
+    from dnlab.plot.looks import Look
 
-    return Look(given.along, given.rows, given.columns, dict(given.label), given.log)
+    made = design_of(given)
+    return Look(made.title, {**known, **made.labels}, made.size, made.font, made.style, made.legend, given.along, given.rows,
+                given.columns, given.log, given.kind)
 
 
 def parser_of_words() -> argparse.ArgumentParser:
@@ -239,8 +237,9 @@ def words(given: Sequence[str]) -> argparse.Namespace:
         name = getattr(found, option)
         if name is not None and name.rsplit(".", 1)[-1] not in ("csv", "json", "parquet"):
             parser.error(f"--{option} {name}: it ends neither in .csv nor in .json nor in .parquet")
-    if not found.plot and (found.along or found.rows or found.columns or found.log or found.label):
-        parser.error("--along, --rows, --columns, --log and --label go with --plot")
+    if not found.plot and (found.along or found.rows or found.columns or found.log or found.kind != "means" or is_designed(found)):
+        parser.error("--kind, --along, --rows, --columns, --log, --title, --label, --size, --font, --style and --legend go with"
+                     " --plot")
     return found
 
 

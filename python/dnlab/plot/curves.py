@@ -1,192 +1,183 @@
-"""The picture of a sweep: figures with their intervals over a setting, drawn with matplotlib, fit for a paper."""
-from dataclasses import dataclass, field
-from typing import Any, Optional, Sequence
+"""The pictures of a sweep: means with their intervals over a setting, one statistic against another, and distributions over
+seeds."""
+from typing import Any, Callable, Optional, Sequence
 
 import matplotlib
 import pandas as pd
 from matplotlib.figure import Figure
 from matplotlib.ticker import FuncFormatter, LogLocator, NullLocator
-from pandas.api.types import is_numeric_dtype
 
-from dnlab.analysis.series import MOST
 from dnlab.errors import Faulty
 from dnlab.plot import names
-from dnlab.plot.pictures import COLOURS, LINES, MARKERS, STYLE, subplots
-from dnlab.units import FOR_PEOPLE
+from dnlab.plot.design import add_legend, subplots
+from dnlab.plot.looks import Line, Look, axis_of, check_count, check_two, lines_of, number_of, others_of, places_of
 
-# More panels than this are no picture.
-_MOST_PANELS = 24
-# So many values have a tick each on an axis of numbers.
+# So many values have a tick each on a logarithmic axis.
 _MOST_TICKS = 8
-AXES = ("x", "y")
+# Texts of ticks that are longer than this are turned.
+_LONG = 8
 
 
-@dataclass(frozen=True)
-class Look:
-    """How a picture of a sweep is laid out.
+def figure_of(table: pd.DataFrame, settings: Sequence[str], look: Look = Look(), each: Optional[pd.DataFrame] = None) -> Figure:
+    """The picture of a sweep: by its table (`Sweep.table`), or for distributions by each value (`Sweep.long`).
 
-    along          the setting that it goes along; else the first with several values, numbers before words
-    rows, columns  settings with a row or a column of panels for each value; the others are the lines of a panel
-    labels         texts for names, as {"rate": "Link rate (Mbit/s)", "queue:codel": "CoDel", "goodput": "Goodput"}
-    log            which axes are logarithmic, of `x` and `y`
-    """
-    along: Optional[str] = None
-    rows: Optional[str] = None
-    columns: Optional[str] = None
-    labels: names.Labels = field(default_factory=dict)
-    log: Sequence[str] = ()
+    A row of panels for each sender and statistic (and each value of `look.rows`), with a line for each combination of the
+    settings that are left; hollow points have warnings, which are named below. More than eight lines, or 24 panels, are refused
+    by `Faulty`."""
+    # Here, since it builds on this module.
+    from dnlab.plot import distributions
 
-    def check(self, settings: Sequence[str]) -> None:
-        """`Faulty` if a setting isn't one of those that there are, or stands twice."""
-        said = [(word, name) for word, name in (("--along", self.along), ("--rows", self.rows), ("--columns", self.columns))
-                if name is not None]
-        for word, name in said:
-            if name not in settings:
-                raise Faulty(f"{word} {name}: no setting; there are {', '.join(settings) or 'none'}")
-        if len({name for _, name in said}) < len(said):
-            raise Faulty("--along, --rows and --columns: each names another setting")
-        for axis in self.log:
-            if axis not in AXES:
-                raise Faulty(f"--log {axis}: x, y or x,y")
-
-
-def axis_of(table: pd.DataFrame, settings: Sequence[str], look: Look = Look()) -> str:
-    """The setting that the picture goes along."""
-    if look.along is not None:
-        return look.along
-    several = [name for name in settings if table[name].nunique() > 1 and name not in (look.rows, look.columns)]
-    numbers = [name for name in several if is_numeric_dtype(table[name])]
-    return str([*numbers, *several, *settings, "sender"][0])
-
-
-def judge(cases: pd.DataFrame, settings: Sequence[str], panels: Sequence[tuple[str, str]], look: Look = Look()) -> None:
-    """Refuses by `Faulty` a picture of a sweep that couldn't be drawn, before anything is run: by the settings of its
-    experiments, and what is asked of whom."""
-    look.check(settings)
-    if settings:
-        _others(cases, settings, axis_of(cases, settings, look), look)
-    rows = len(panels) * (1 if look.rows is None else cases[look.rows].nunique())
-    _count(rows * (1 if look.columns is None else cases[look.columns].nunique()))
-
-
-def _count(panels: int) -> None:
-    if not 1 <= panels <= _MOST_PANELS:
-        raise Faulty(f"--plot: {panels} panels, where 1 to {_MOST_PANELS} can be drawn: ask for fewer --of and --stat")
-
-
-def _others(table: pd.DataFrame, settings: Sequence[str], along: str, look: Look) -> list[str]:
-    """The settings whose combinations are the lines of a panel; too many are refused."""
-    others = [name for name in settings if name not in (along, look.rows, look.columns) and table[name].nunique() > 1]
-    lines = len(table[others].drop_duplicates()) if others else 1
-    if lines > MOST:
-        raise Faulty(f"--plot: {lines} lines in a panel can't be told apart, {MOST} at most: one for each combination of"
-                     f" {', '.join(others)}; give fewer values, or panels of their own by --rows and --columns")
-    return others
-
-
-def figure_of(table: pd.DataFrame, settings: Sequence[str], look: Look = Look()) -> Figure:
-    """Panels of a sweep's table, a row for each of and stat (and each value of `look.rows`), with a line for each
-    combination of the settings that are left.
-
-    Points are means, bars their intervals; hollow points have a mark, which is named below. More than eight lines, or 24
-    panels, are refused by `Faulty`."""
     look.check(settings)
     along = axis_of(table, settings, look)
-    others = _others(table, settings, along, look)
+    others = others_of(table, settings, along, look)
     panels = list(table[["sender", "stat"]].drop_duplicates().itertuples(index=False, name=None))
-    values = [None] if look.rows is None else list(dict.fromkeys(table[look.rows]))
+    with matplotlib.rc_context(look.rc()):
+        if look.kind == "tradeoff":
+            check_two(panels)
+            return distributions.tradeoff(table, panels, along, others, look)
+        if look.kind == "means":
+            return _grid(table, panels, along, others, look, means)
+        assert each is not None
+        each = each[each["value"].notna()]
+        return _grid(each, panels, along, others, look, distributions.ecdf if look.kind == "ecdf" else distributions.boxes)
+
+
+def _grid(data: pd.DataFrame, panels: Sequence[tuple[str, str]], along: str, others: Sequence[str], look: Look,
+          draw: Callable[..., list[Any]]) -> Figure:
+    """Panels in rows and columns, which `draw` fills; it gives the handles of the legend."""
+    values = [None] if look.rows is None else list(dict.fromkeys(data[look.rows]))
     rows = [(panel, value) for panel in panels for value in values]
-    columns: list[Any] = [None] if look.columns is None else list(dict.fromkeys(table[look.columns]))
-    _count(len(rows) * len(columns))
-    with matplotlib.rc_context(STYLE):
-        width = 5.5 if len(columns) == 1 else 0.7 + 2.6 * len(columns)
-        figure, grid = subplots(len(rows), len(columns), squeeze=False, sharex=True, sharey="row",
-                                figsize=(width, 0.8 + 1.9 * len(rows)))
-        for row, (panel, one) in zip(grid, rows):
-            for axes, value in zip(row, columns):
-                _panel(axes, _part(table, look, panel, one, value), along, others, look)
-                axes.set_title(_title(look, panel if len(panels) > 1 or look.rows is None else None, one, value), loc="left")
-            if "y" not in look.log:
-                row[0].set_ylim(bottom=0)
-            row[0].set_ylabel(_label(table, panel, look))
-        for axes in grid[-1]:
-            axes.set_xlabel(names.of_setting(along, look.labels))
-        if others:
-            grid[0][0].legend(framealpha=0.7, title=", ".join(names.of_setting(name, look.labels) for name in others),
-                              title_fontsize=6)
-        _say_marks(figure, table)
+    columns: list[Any] = [None] if look.columns is None else list(dict.fromkeys(data[look.columns]))
+    check_count(len(rows) * len(columns))
+    width = (4.8 if len(columns) == 1 else 2.8 * len(columns)) + (1.8 if others else 0.6)
+    figure, grid = subplots(len(rows), len(columns), (width, 0.9 + 2.1 * len(rows)), look, squeeze=False,
+                            sharex=look.kind != "ecdf", sharey="row")
+    before = None
+    for line, (panel, one) in zip(grid, rows):
+        whole = data[(data["sender"] == panel[0]) & (data["stat"] == panel[1])]
+        scale = _scale(whole)
+        for axes, value in zip(line, columns):
+            handles = draw(axes, lines_of(_part(whole, look, one, value), others, look), along, look, scale)
+            axes.set_title(_title(look, panel[0] if len({of for of, _ in panels}) > 1 and panel[0] != before else None, one, value))
+        before = panel[0]
+        _name_axes(line, panel[1], scale[0], along, look)
+    for axes in grid[-1] if look.kind != "ecdf" else []:
+        axes.set_xlabel(names.of_setting(along, look.labels))
+    if others:
+        add_legend(grid[0][-1], handles, [line.label for line in lines_of(data, others, look)], look.legend,
+                   "\n".join(names.of_setting(name, look.labels) for name in others))
+    _say(figure, data, panels, along, look)
     return figure
 
 
-def _say_marks(figure: Figure, table: pd.DataFrame) -> None:
-    """Names the marks of hollow points below the panels."""
-    marks = list(dict.fromkeys(mark for words in table["warnings"].fillna("") for mark in words.split()))
-    figure.tight_layout(rect=(0, 0.12 / figure.get_figheight() if marks else 0, 1, 1))
-    if marks:
-        figure.text(0.01, 0.01, f"hollow points: {', '.join(marks)}", size=6)
+def _scale(rows: pd.DataFrame) -> tuple[str, int]:
+    column = "high" if "high" in rows and rows["high"].notna().any() else "mean" if "mean" in rows else "value"
+    greatest = rows[column].dropna().astype(float).max() if len(rows) else 0
+    return names.shown_in(rows["unit"].iloc[0] if len(rows) else "", greatest)
 
 
-def _part(table: pd.DataFrame, look: Look, panel: tuple[str, str], row: Any, column: Any) -> pd.DataFrame:
+def _name_axes(line: Sequence[Any], stat: str, unit: str, along: str, look: Look) -> None:
+    label = names.of_stat(stat, unit, look.labels)
+    if look.kind == "ecdf":
+        for axes in line:
+            axes.set_xlabel(label)
+        label = "Fraction of seeds"
+    if "y" not in look.log:
+        line[0].set_ylim(bottom=0)
+    line[0].set_ylabel(label)
+
+
+def _say(figure: Figure, data: pd.DataFrame, panels: Sequence[tuple[str, str]], along: str, look: Look) -> None:
+    """The title, and below the panels what points, bars and boxes are."""
+    from dnlab.plot import distributions
+
+    of = list(dict.fromkeys(sender for sender, _ in panels))
+    whose = names.of_whom(of[0], look.labels) if len(of) == 1 else "comparison"
+    by = "" if look.kind == "ecdf" else f" by {_lower(names.of_setting(along, look.labels))}"
+    title = look.title if look.title is not None else f"{whose[:1].upper()}{whose[1:]}{by}"
+    if title:
+        figure.suptitle(title, x=0.01, ha="left")
+    marks = list(dict.fromkeys(mark for words in data["warnings"].fillna("") for mark in words.split()))
+    said = intervals_in_words(data) if look.kind == "means" else distributions.WORDS[look.kind]
+    said += f"; hollow points: {', '.join(marks)}" if marks and look.kind == "means" else ""
+    figure.supxlabel(said, x=0.01, ha="left", size="x-small")
+
+
+def intervals_in_words(table: pd.DataFrame) -> str:
+    """What points and bars are."""
+    seeds = int(table["n"].max()) if len(table) else 0
+    if seeds < 2:
+        return "Points: single runs"
+    method = " (bootstrap)" if "bootstrap" in set(table["method"]) else ""
+    return f"Points: means of {seeds} seeds; bars: {table['level'].iloc[0]:g} % intervals{method}"
+
+
+def _lower(label: str) -> str:
+    """A label within a sentence, without its unit; CoDel stays as it is.
+
+    >>> _lower("Queue limit (packets)"), _lower("CoDel target (ms)")
+    ('queue limit', 'CoDel target')
+    """
+    words = label.partition(" (")[0]
+    return words if words[1:2].isupper() or words.startswith("CoDel") else words[:1].lower() + words[1:]
+
+
+def _part(rows: pd.DataFrame, look: Look, row: Any, column: Any) -> pd.DataFrame:
     """The rows of a panel."""
-    is_in = (table["sender"] == panel[0]) & (table["stat"] == panel[1])
-    if look.rows is not None:
-        is_in &= table[look.rows] == row
-    if look.columns is not None:
-        is_in &= table[look.columns] == column
-    return table[is_in]
+    for name, value in ((look.rows, row), (look.columns, column)):
+        if name is not None:
+            rows = rows[rows[name] == value]
+    return rows
 
 
-def _title(look: Look, panel: Optional[tuple[str, str]], row: Any, column: Any) -> str:
-    parts = [] if panel is None else [names.of_whom(panel[0], look.labels)]
-    parts += [f"{names.of_setting(name, look.labels)}: {names.of_value(name, value, look.labels)}"
+def _title(look: Look, sender: Optional[str], row: Any, column: Any) -> str:
+    parts = [] if sender is None else [names.of_whom(sender, look.labels)]
+    parts += [f"{names.of_setting(name, look.labels).partition(' (')[0]}: {names.of_value(name, value, look.labels)}"
               for name, value in ((look.rows, row), (look.columns, column)) if name is not None]
     return "\n".join(parts) if look.rows is not None else ", ".join(parts)
 
 
-def _label(table: pd.DataFrame, panel: tuple[str, str], look: Look) -> str:
-    unit = table["unit"][(table["sender"] == panel[0]) & (table["stat"] == panel[1])].iloc[0]
-    return names.of_stat(panel[1], unit, look.labels)
-
-
-def _panel(axes: Any, rows: pd.DataFrame, along: str, others: Sequence[str], look: Look) -> None:
-    """The lines of one panel; words stand on the axis in their order, numbers where they belong."""
-    is_number = is_numeric_dtype(rows[along])
-    places = {value: place for place, value in enumerate(dict.fromkeys(rows[along]))}
-    # pandas gives a key of one column bare where it is asked for by its name alone.
-    by = others[0] if len(others) == 1 else list(others)
-    groups = rows.groupby(by, sort=False, dropna=False) if others else [((), rows)]
-    for number, (key, group) in enumerate(groups):
-        keys = key if isinstance(key, tuple) else (key,)
-        known = group[group["mean"].notna()]
-        known = known.sort_values(along, kind="stable") if is_number else known
-        at = [float(value) if is_number else places[value] for value in known[along]]
-        label = ", ".join(names.of_value(name, value, look.labels) for name, value in zip(others, keys))
-        _line(axes, known, at, number, label, is_number)
+def means(axes: Any, lines: Sequence[Line], along: str, look: Look, scale: tuple[str, int]) -> list[Any]:
+    """Means with their intervals. Numbers are joined, words are apart."""
+    values = [value for line in lines for value in line.rows[along]]
+    places = places_of(values)
+    is_number = all(number_of(value) is not None for value in places)
+    handles = [_line(axes, line, along, places, scale[1]) for line in lines]
     if "y" in look.log:
         axes.set_yscale("log")
         _plain(axes.yaxis)
-    axes.grid(linewidth=0.3)
     if is_number:
-        _ticks(axes, sorted(float(value) for value in places), "x" in look.log)
+        _ticks(axes, sorted(places.values()), "x" in look.log)
     else:
-        axes.set_xticks(list(places.values()), [names.of_value(along, value, look.labels) for value in places], rotation=20,
-                        ha="right")
+        label_values(axes, places, along, look)
+    return handles
 
 
-def _line(axes: Any, known: pd.DataFrame, at: Sequence[float], number: int, label: str, is_number: bool) -> None:
-    """One line with its intervals; points whose experiments have marks are hollow."""
-    _, scale = FOR_PEOPLE.get(known["unit"].iloc[0] if len(known) else "", ("", 1))
+def label_values(axes: Any, places: dict[Any, float], along: str, look: Look) -> None:
+    """A tick for each value; a thin line between numbers and words."""
+    texts = [names.of_value(along, value, look.labels) for value in places]
+    is_long = max(map(len, texts), default=0) > _LONG
+    axes.set_xticks(list(places.values()), texts, rotation=20 if is_long else 0, ha="right" if is_long else "center")
+    axes.grid(False, axis="x")
+    numbers = sum(number_of(value) is not None for value in places)
+    if 0 < numbers < len(places):
+        axes.axvline(numbers - 0.5, color="#999999", linewidth=0.8)
+
+
+def _line(axes: Any, line: Line, along: str, places: dict[Any, float], scale: int) -> Any:
+    """One line with its intervals; points whose experiments have warnings are hollow."""
+    known = line.rows[line.rows["mean"].notna()]
+    known = known.assign(_at=[places[value] for value in known[along]]).sort_values("_at", kind="stable")
     mean = known["mean"].astype(float) / scale
-    bars = [(mean - known["low"].astype(float) / scale).fillna(0).clip(lower=0),
-            (known["high"].astype(float) / scale - mean).fillna(0).clip(lower=0)]
-    colour, marker = COLOURS[number % len(COLOURS)], MARKERS[number % len(MARKERS)]
-    axes.errorbar(at, mean, yerr=[bar.to_numpy() for bar in bars], capsize=2.5, linewidth=1.0, markersize=3.5, color=colour,
-                  marker=marker, linestyle=LINES[number % len(LINES)] if is_number else "none", label=label)
-    hollow: list[int] = [place for place, words in enumerate(known["warnings"].fillna("")) if words]
-    if not hollow:
-        return
-    axes.plot([at[place] for place in hollow], [mean.iloc[place] for place in hollow], linestyle="none", marker=marker,
-              markersize=3.5, markerfacecolor="white", markeredgecolor=colour, zorder=5)
+    bars = [(mean - known["low"].astype(float) / scale).fillna(0).clip(lower=0).to_numpy(),
+            (known["high"].astype(float) / scale - mean).fillna(0).clip(lower=0).to_numpy()]
+    is_joined = known[along].map(lambda value: number_of(value) is not None).astype(bool)
+    axes.plot(known["_at"][is_joined], mean[is_joined], linestyle=line.dash(), color=line.style()["color"])
+    handle = axes.errorbar(known["_at"], mean, yerr=bars, capsize=2.5, elinewidth=1, linestyle="none", label=line.label, **line.style())
+    hollow = known["warnings"].fillna("") != ""
+    if hollow.any():
+        axes.plot(known["_at"][hollow], mean[hollow], linestyle="none", markerfacecolor="white", zorder=5, **line.style())
+    return handle
 
 
 def _ticks(axes: Any, values: Sequence[float], is_log: bool) -> None:

@@ -97,7 +97,7 @@ const inSegments = (panel) => panel.what === "window" && panel.segment > 0 && at
 const flowOf = (label) => (label.match(/^(?:flow|cwnd|effective|ssthresh|loss|timeout) ([0-9]+)/) || [])[1];
 
 // Lines that belong to no sender: pipes, and all that is under way.
-const isCommon = (label) => /^(at |through |rate of pipe |in the delay line |under way)/.test(label);
+const isCommon = (label) => /^(pipe |through |rate of |limit of |delay line of |in flight)/.test(label);
 
 // As many lines as can be told apart, and what goes with them: acknowledgements are left out first, then the shortest.
 function fewest(panel) {
@@ -133,6 +133,16 @@ function symbolOf(own, place) {
   return MARKS[kind] + FORMS[own.slice(0, place).filter((one) => kindOf(one) === kind).length % FORMS.length];
 }
 
+// Thresholds are dotted and settings of pipes have long dashes, each of several in its own way, as other lines have theirs.
+function dashOf(own, place) {
+  const one = own[place], before = own.slice(0, place), turn = before.filter((other) => kindOf(other) === kindOf(one)).length;
+  if (one.form === "level") return `14px,${5 + 4 * turn}px`;
+  if (one.label.startsWith("effective")) return "solid";
+  if (one.under) return turn ? `2px,${3 + 3 * turn}px` : "dot";
+  const dashes = DASHES.filter((dash) => dash !== "dot");
+  return dashes[before.filter((other) => !other.under && other.form !== "level").length % dashes.length];
+}
+
 function traceOf(panel, own, place, begin, end) {
   const one = own[place];
   const isLevel = one.form === "level", isRate = panel.what === "rate" && !isLevel;
@@ -143,19 +153,21 @@ function traceOf(panel, own, place, begin, end) {
   const size = one.form === "marks" ? 9 : 5;
   return {...found, x: found.x.map((moment) => moment / now.unit[0]), type: "scatter", name: one.label,
     hoverinfo: "text", mode: isLine ? "lines" : "markers", cliponaxis: isLine,
-    line: {shape: isRate ? "linear" : "hv", dash: DASHES[place % DASHES.length], color: colour,
+    line: {shape: isRate ? "linear" : "hv", dash: dashOf(own, place), color: colour,
       width: one.label.startsWith("effective") ? 4 : one.under ? 1 : 1.5},
     marker: {symbol: symbolOf(own, place), size, color: colour}};
 }
 
 function layoutOf(panel, top, begin, end) {
   const scale = now.unit[0], coarse = matchMedia("(pointer: coarse)").matches;
-  return {margin: {l: 62, r: 8, t: 8, b: 40}, showlegend: true, dragmode: coarse ? false : "zoom", hovermode: "closest",
+  const unit = inSegments(panel) ? "segments" : panel.unit;
+  const axis = {gridcolor: "#ddd", linecolor: "#111", zeroline: false, ticks: "outside", ticklen: 4};
+  return {margin: {l: 66, r: 8, t: 8, b: 44}, showlegend: true, dragmode: coarse ? false : "zoom", hovermode: "closest",
     legend: {orientation: "h", x: 0, y: 1.02, yanchor: "bottom", font: {size: 11}}, font: {size: 12, color: "#111"},
     hoverlabel: {align: "left"},
-    xaxis: {range: [begin / scale, end / scale], title: {text: now.unit[1], standoff: 4}, gridcolor: "#ddd"},
-    yaxis: {fixedrange: true, rangemode: panel.what === "sequence" ? "normal" : "tozero",
-      title: {text: inSegments(panel) ? "segments" : panel.unit}, gridcolor: "#ddd", ...(top ? {range: [0, 1.05 * top]} : {})}};
+    xaxis: {...axis, range: [begin / scale, end / scale], title: {text: `Time (${now.unit[1]})`, standoff: 4}},
+    yaxis: {...axis, fixedrange: true, rangemode: panel.what === "sequence" ? "normal" : "tozero",
+      title: {text: panel.quantity + (unit ? ` (${unit})` : "")}, ...(top ? {range: [0, 1.05 * top]} : {})}};
 }
 
 // ---- what is in sight

@@ -13,7 +13,8 @@ from typing import Any, Iterable, NamedTuple, Optional, Sequence
 import numpy as np
 
 from dnlab.analysis.packets import DELIVERED, DROPPED, OUTCOMES, UNKNOWN
-from dnlab.analysis.series import Panel, Series, Values, link_rates, queues, rates, sojourns, windows
+from dnlab.analysis.pipe_series import flights, link_rates, queues
+from dnlab.analysis.series import Panel, Series, Values, rates, sojourns, windows
 from dnlab.analysis.view import View, flows_of
 from dnlab.io.digits import Ints
 from dnlab.io.lines import ACKNOWLEDGES, pipe_name
@@ -76,8 +77,9 @@ class Shown(NamedTuple):
 
 
 class Pane(NamedTuple):
-    """A panel's title, unit and series; `words` stand in place of these."""
+    """A panel's title, the quantity and unit of its vertical axis, and its series; `words` stand in place of these."""
     title: str
+    quantity: str
     unit: str
     shown: list[Shown]
     words: str
@@ -88,7 +90,7 @@ class Pane(NamedTuple):
 def pane_of(panel: Panel) -> Pane:
     """A panel of pictures, whole."""
     shown = [Shown(one) for one in panel.series if len(one.moments)]
-    return Pane(panel.title, panel.unit, shown, panel.words.replace("\n", " "), panel.also[1] if panel.also else 0)
+    return Pane(panel.title, panel.quantity or panel.title, panel.unit, shown, panel.words.replace("\n", " "), panel.segment)
 
 
 def sequences(view: View) -> Pane:
@@ -106,9 +108,9 @@ def sequences(view: View) -> Pane:
         series += [_of(view, flow, "acknowledged", "steps", acks[table.outcome[acks] == DELIVERED], table.ended),
                    _of(view, flow, "dropped", "marks", packets[table.outcome[packets] >= DROPPED], table.ended),
                    _of(view, flow, "acknowledgement dropped", "marks", acks[table.outcome[acks] >= DROPPED], table.ended)]
-    title = "Bytes over time" + ("" if view.is_told else " (when they were sent needs the scenario)")
+    title = "Sequence numbers" + ("" if view.is_told else " (when they were sent needs the scenario)")
     shown = [one for one in series if len(one.series.moments)]
-    return Pane(title, "byte", shown, "" if shown else "no flow sent a segment")
+    return Pane(title, "Sequence number", "bytes", shown, "" if shown else "no flow sent a segment")
 
 
 def _of(view: View, flow: int, what: str, form: str, packets: Ints, moments: Ints) -> Shown:
@@ -131,14 +133,22 @@ def delays(view: View) -> Pane:
 def speeds(view: View) -> Pane:
     """What was delivered, added up: the script makes rates of it, of as long a time as is in sight; and what pipes can carry."""
     pane = pane_of(rates(view, None))
-    links = [Shown(one._replace(form="level")) for one in link_rates(view)] if pane.unit == "bytes" else []
-    return pane._replace(shown=pane.shown + links, title=pane.title.replace("Delivered", "Rate of what was delivered"),
+    links = [Shown(one) for one in link_rates(view)] if pane.unit == "bytes" else []
+    title = "Throughput" if pane.unit == "bytes" else "Delivered packets (throughput needs the scenario)"
+    return pane._replace(shown=pane.shown + links, title=title, quantity="Throughput",
                          unit="Mbit/s" if pane.unit == "bytes" else "packets/s")
+
+
+def occupancy(view: View) -> Pane:
+    """The queues and their limits, and what is in flight."""
+    pane = pane_of(queues(view))
+    return pane._replace(shown=pane.shown + pane_of(flights(view)).shown, title=f"{pane.title}, and packets in flight", quantity="Packets",
+                         unit="") if view.is_told else pane
 
 
 def panes_of(view: View) -> dict[str, Pane]:
     """The panels of a page by their names, whole."""
-    return {"sequence": sequences(view), "window": pane_of(windows(view, None)), "queue": pane_of(queues(view)),
+    return {"sequence": sequences(view), "window": pane_of(windows(view, None)), "queue": occupancy(view),
             "delay": delays(view), "rate": speeds(view)}
 
 
@@ -165,7 +175,7 @@ def _since(before: Ints, moments: Ints) -> Ints:
 def drawn(view: View) -> Drawn:
     """An experiment for a page."""
     blocks = Blocks()
-    panels = [{"what": what, "title": pane.title, "unit": pane.unit, "words": "" if pane.shown else pane.words,
+    panels = [{"what": what, "title": pane.title, "quantity": pane.quantity, "unit": pane.unit, "words": "" if pane.shown else pane.words,
                "segment": pane.segment,
                "series": [{"label": one.label, "form": one.form, "under": one.under, "x": blocks.add(one.moments), "y": blocks.add(one.values),
                            "packets": -1 if packets is None else blocks.add(packets)} for one, packets in pane.shown]}

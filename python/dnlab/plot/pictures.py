@@ -1,42 +1,70 @@
-"""Draws panels with matplotlib (Debian: python3-matplotlib), to be read in black and white."""
-from typing import Any, Sequence
+"""Draws panels over time with matplotlib, a column for each experiment, to be read in black and white too."""
+import re
+from dataclasses import replace
+from typing import Any, Iterable, Mapping, NamedTuple, Sequence
 
 import matplotlib
 import numpy as np
-from matplotlib.backends.backend_agg import FigureCanvasAgg
 from matplotlib.figure import Figure
-from matplotlib.ticker import NullLocator
+from matplotlib.lines import Line2D
+from matplotlib.ticker import MaxNLocator, NullLocator
 
 from dnlab.analysis.series import Panel, Series, panel_of
 from dnlab.analysis.spans import Span
 from dnlab.analysis.view import View
-from dnlab.io.outputs import whole_file
+from dnlab.plot import names
+from dnlab.plot.design import LINES, MARKERS, Design, add_legend, subplots
 
-# Texts stay texts, and nothing in a file hangs on the day or on chance: the same report gives the same bytes.
-STYLE = {"svg.fonttype": "none", "pdf.fonttype": 42, "svg.hashsalt": "dnlab", "font.size": 8, "legend.fontsize": 6, "axes.titlesize": 8}
-LINES: tuple[Any, ...] = ("-", "--", "-.", ":", (0, (5, 1)), (0, (1, 3)), (0, (3, 1, 1, 1, 1, 1)), (0, (8, 3)),
-                          (0, (2, 2)))
-MARKERS = ("o", "s", "^", "D", "v", "P", "*", "<", ">")
-# Dark and light by turns, so that the shades differ where there is no colour.
-COLOURS = ("#000000", "#d55e00", "#0072b2", "#999999", "#009e73", "#555555", "#cc79a7", "#222288", "#b08000")
 Unit = tuple[int, str]
 UNITS: tuple[Unit, ...] = ((10**9, "s"), (10**6, "ms"), (10**3, "us"), (1, "ns"))
+_BYTES: tuple[Unit, ...] = ((10**9, "GB"), (10**6, "MB"), (10**3, "kB"), (1, "bytes"))
 # Shares and boxes are of ns or bit/s, and drawn as ms or Mbit/s.
 _MILLION = 10**6
-# More thresholds and effective windows than this stand in no legend: they have their window's colour.
-_MOST_UNDER = 8
-# So many lines that lie above the frame are named.
-_MOST_NAMED = 3
-METADATA: dict[str, dict[str, Any]] = {"svg": {"Date": None}, "pdf": {"CreationDate": None}, "png": {}}
+# So few points are joined by a thin line.
+_JOINED = 10
+_OF_FLOW = re.compile(r"(.*: )?(cwnd|ssthresh|effective|loss|timeout) ([0-9]+)")
+_KINDS = {"effective": "effective window"}
+_GREY = "#555555"
 
 
-def subplots(rows: int, columns: int, **words: Any) -> tuple[Figure, Any]:
-    """A figure with a grid of axes, as pyplot's, of which nobody keeps a list."""
-    size = words.pop("figsize")
-    with matplotlib.rc_context(STYLE):
-        figure = Figure(figsize=size)
-        FigureCanvasAgg(figure)
-        return figure, figure.subplots(rows, columns, **words)
+class Look(NamedTuple):
+    """How everything of one sender or pipe looks."""
+    colour: str
+    dash: Any
+    marker: str
+
+
+def owner_of(label: str) -> str:
+    """The sender or pipe that a series is of, which has one colour in all panels.
+
+    >>> owner_of("loss 1"), owner_of("deep: cwnd 2"), owner_of("limit of pipe 1"), owner_of("train 9")
+    ('flow 1', 'deep: flow 2', 'pipe 1', 'train 9')
+    """
+    found = _OF_FLOW.fullmatch(label)
+    return f"{found[1] or ''}flow {found[3]}" if found else re.sub(r"(limit of|rate of|through|delay line of) (?=pipe )", "", label)
+
+
+def kind_of(label: str) -> str:
+    """What a series of a flow's window is; '' for others.
+
+    >>> kind_of("ssthresh 1"), kind_of("train 9")
+    ('ssthresh', '')
+    """
+    found = _OF_FLOW.fullmatch(label)
+    return found[2] if found else ""
+
+
+def looks_of(panels: Iterable[Panel], colours: Mapping[str, str] = {}) -> dict[str, Look]:
+    """A look for each sender and pipe of the panels, in the order in which they are drawn; beyond nine, other lines and markers
+    go with the colours. Colours are given if they are those of a larger picture."""
+    owners = list(dict.fromkeys(owner_of(one.label) for panel in panels for one in panel.series))
+    cycle = matplotlib.rcParams["axes.prop_cycle"].by_key()["color"]
+    looks = {}
+    for place, owner in enumerate(owners):
+        turn = place // len(LINES)
+        looks[owner] = Look(colours.get(owner, cycle[place % len(cycle)]), LINES[(place + turn) % len(LINES)],
+                            MARKERS[(place + 2 * turn) % len(MARKERS)])
+    return looks
 
 
 def time_unit(panels: Sequence[Panel]) -> Unit:
@@ -46,124 +74,186 @@ def time_unit(panels: Sequence[Panel]) -> Unit:
     return next((unit for unit in UNITS if last >= 2 * unit[0]), UNITS[-1])
 
 
-def draw_series(axes: Any, one: Series, place: int, scale: int) -> None:
-    """One series on the axes; marks and points have no line, steps a few markers on theirs, but those under another line,
-    which are thin or wide and have its place. Beyond nine colours other lines and markers go with them."""
-    moments = np.asarray(one.moments) / scale
-    colour = COLOURS[place % len(COLOURS)]
-    marker = MARKERS[(place + 2 * (place // len(MARKERS))) % len(MARKERS)]
-    if one.under:
-        is_wide = one.label.lstrip("_").startswith("effective")
-        axes.plot(moments, one.values, drawstyle="steps-post", color=colour, linewidth=2.6 if is_wide else 0.8, label=one.label,
-                  linestyle="-" if is_wide else ":", alpha=0.45 if is_wide else 1)
-    elif one.form in ("steps", "share"):
-        axes.plot(moments, one.values, drawstyle="steps-post", color=colour, linewidth=1.0, label=one.label,
-                  linestyle=LINES[(place + place // len(LINES)) % len(LINES)], marker=marker, markersize=2.5,
-                  markevery=max(1, len(moments) // 12))
-    elif one.form == "points":
-        axes.plot(moments, one.values, linestyle="none", color=colour, marker=marker, markersize=2.5,
-                  markerfacecolor="none" if place % 2 else colour, markeredgewidth=0.6, label=one.label)
-    else:
-        shape = "x" if one.label.startswith("loss") else "v"
-        axes.plot(moments, one.values, linestyle="none", color=colour, marker=shape, markersize=6, label=one.label)
+def style_of(one: Series, look: Look) -> dict[str, Any]:
+    """matplotlib's words for a series."""
+    kind, words = kind_of(one.label), {"color": look.colour, "linestyle": look.dash}
+    if one.form == "marks":
+        return {**words, "linestyle": "none", "marker": "v" if kind == "timeout" else "x", "markersize": 6, "zorder": 4}
+    if one.form == "points":
+        is_few = len(one.moments) <= _JOINED
+        return {**words, "linestyle": "-" if is_few else "none", "linewidth": 0.6, "marker": look.marker,
+                "markersize": 4 if is_few else 2, "markeredgewidth": 0}
+    words["drawstyle"] = "steps-post"
+    if one.form == "level":
+        return {**words, "linestyle": (0, (8, 4)), "linewidth": 0.9}
+    if kind == "ssthresh":
+        return {**words, "linestyle": ":", "linewidth": 1.0}
+    return {**words, "linestyle": "-", "linewidth": 5, "alpha": 0.3} if kind == "effective" else words
 
 
-def draw_panel(axes: Any, panel: Panel, unit: Unit) -> None:
-    """A panel with its title, unit and legend; one without series has its words."""
-    with matplotlib.rc_context(STYLE):
-        axes.set_title(panel.title, loc="left")
-        axes.set_ylabel(panel.unit)
-        if not panel.series:
-            axes.text(0.5, 0.5, panel.words, ha="center", va="center", transform=axes.transAxes)
-            axes.xaxis.set_major_locator(NullLocator())
-            return
-        axes.grid(linewidth=0.3)
-        if panel.series[0].form == "box":
-            draw_boxes(axes, panel.series)
-            return
-        parents = [one.label for one in panel.series if not one.under]
-        is_crowded = sum(bool(one.under) for one in panel.series) > _MOST_UNDER
-        for one in panel.series:
-            place = parents.index(one.under or one.label)
-            # (matplotlib's legend leaves out what begins with an underscore)
-            shown = one._replace(label=f"_{one.label}") if one.under and is_crowded else one
-            draw_series(axes, shown, place, _MILLION if panel.across else unit[0])
-        if panel.also is not None:
-            also, size = panel.also
-            axes.secondary_yaxis("right", functions=(lambda y: y / size, lambda y: y * size)).set_ylabel(also)
-        if panel.across:
-            axes.set_xlabel(panel.across)
-            axes.set_xlim(left=0)
-        # Where a legend hides least is looked for at length; among many points it has its corner.
-        many = sum(len(one.moments) for one in panel.series) > 20000
-        axes.legend(loc="upper right" if many else "best", framealpha=0.7, ncols=1 + len(parents) // 9)
+def draw_series(axes: Any, one: Series, look: Look, scale: int, is_clipped: bool) -> None:
+    """One series on the axes; a distribution begins at 0."""
+    moments, values = np.asarray(one.moments) / scale, np.asarray(one.values)
+    if one.form == "share":
+        moments, values = np.append(moments[:1], moments), np.append(0.0, values)
+    axes.plot(moments, values, label=one.label, clip_on=is_clipped, **style_of(one, look))
 
 
-def draw_boxes(axes: Any, boxes: Sequence[Series]) -> None:
-    """A box for each: its quartiles and median, lines from the 5th to the 95th percentile, the least and the greatest."""
+def draw_panel(axes: Any, panel: Panel, unit: Unit, looks: Mapping[str, Look] = {}, labels: names.Labels = {}) -> None:
+    """A panel with its axes in words; one without series has its words."""
+    axes.set_ylabel(names.quantity(panel.quantity or panel.title, panel.unit))
+    if not panel.series:
+        axes.text(0.5, 0.5, panel.words, ha="center", va="center", transform=axes.transAxes)
+        axes.xaxis.set_major_locator(NullLocator())
+        axes.grid(False)
+        return
+    if panel.across:
+        axes.set_xlabel(panel.across)
+    if panel.series[0].form == "box":
+        draw_boxes(axes, panel.series, labels)
+        return
+    looks = looks or looks_of([panel])
+    for one in panel.series:
+        draw_series(axes, one, looks[owner_of(one.label)], _MILLION if panel.across else unit[0], panel.top is not None)
+    if panel.across:
+        axes.set_xlim(0, max(float(one.moments[-1]) for one in panel.series) / _MILLION or None)
+
+
+def draw_boxes(axes: Any, boxes: Sequence[Series], labels: names.Labels) -> None:
+    """A box for each: its quartiles and median, lines from the 5th to the 95th percentile, the minimum and the maximum."""
     shapes = []
     for one in boxes:
         least, low, first, median, third, high, greatest = (float(value) / _MILLION for value in one.moments)
-        shapes.append({"label": one.label, "whislo": low, "q1": first, "med": median, "q3": third, "whishi": high,
+        shapes.append({"label": text_of(one.label, labels), "whislo": low, "q1": first, "med": median, "q3": third, "whishi": high,
                        "fliers": [least, greatest]})
-    axes.bxp(shapes, medianprops={"color": COLOURS[1]}, flierprops={"marker": "_", "markersize": 4})
-    axes.tick_params(axis="x", labelrotation=20)
+    axes.bxp(shapes, medianprops={"color": "#d55e00"}, flierprops={"marker": "_", "markersize": 4})
+    axes.grid(False, axis="x")
+    if len(boxes) > 4:
+        axes.tick_params(axis="x", labelrotation=30)
+
+
+def text_of(label: str, labels: names.Labels) -> str:
+    """A label with a user's texts for the experiment, the sender or the pipe in it.
+
+    >>> text_of("deep: train 9", {"train 9": "the call"}), text_of("limit of pipe 1", {"pipe 1": "uplink"})
+    ('deep: the call', 'limit of uplink')
+    """
+    if label in labels:
+        return labels[label]
+    found = re.fullmatch(r"(?:([^:]*)(: ))?(limit of |rate of |through |delay line of )?(.*)", label, re.DOTALL)
+    assert found
+    name, colon, prefix, own = (found[place] or "" for place in (1, 2, 3, 4))
+    return labels.get(name, name) + colon + prefix + names.of_whom(own, labels)
+
+
+def entries_of(panels: Sequence[Panel], looks: Mapping[str, Look], labels: names.Labels) -> tuple[str, dict[str, Any]]:
+    """What the legend of a row of panels says: its title, and handles by their texts. Several flows have a line each, and
+    what goes with their windows has one entry in grey. What all lines have in common is the title."""
+    series = [one for panel in panels for one in panel.series if one.form != "box"]
+    owners = list(dict.fromkeys(owner_of(one.label) for one in series if one.form != "level"))
+    windows = {owner_of(one.label) for one in series if kind_of(one.label)}
+    parts = [tuple(text_of(owner, labels).rpartition(": ")[::2]) for owner in owners]
+    is_same = len(owners) > 1 and len({own for _, own in parts}) == 1
+    found: dict[str, Any] = {}
+    for one in sorted(series, key=lambda one: bool(one.under) or one.form == "level"):
+        kind, look = kind_of(one.label), looks[owner_of(one.label)]
+        if kind and (one.under or len(windows) == 1):
+            text, look = _KINDS.get(kind, kind), look if len(windows) == 1 else Look(_GREY, "-", "o")
+        else:
+            text = text_of(one.label if not kind else owner_of(one.label), labels)
+            text = text.rpartition(": ")[0] if is_same and one.form != "level" else text
+        found.setdefault(text, Line2D([], [], **style_of(one, look)))
+    title = parts[0][1] if is_same else text_of(min(windows), labels) if len(windows) == 1 else ""
+    return title[:1].upper() + title[1:], found
+
+
+def in_units(panels: Sequence[Panel]) -> list[Panel]:
+    """A row of panels with values in one unit that suits them: windows in segments, bytes in kB, MB or GB."""
+    drawn = [panel for panel in panels if panel.series]
+    if not drawn or drawn[0].unit != "bytes":
+        return list(panels)
+    if all(panel.segment for panel in drawn):
+        return [_scaled(panel, panel.segment or 1, "segments") for panel in panels]
+    most = max(panel.top or max(float(one.values.max()) for one in panel.series) for panel in drawn)
+    size, unit = next((one for one in _BYTES if most >= 2 * one[0]), _BYTES[-1])
+    return [_scaled(panel, size, unit) for panel in panels]
+
+
+def _scaled(panel: Panel, size: int, unit: str) -> Panel:
+    return replace(panel, unit=unit, series=[one._replace(values=one.values / size) for one in panel.series],
+                   top=None if panel.top is None else panel.top / size)
 
 
 def frame(row: Sequence[Any], panels: Sequence[Panel]) -> None:
-    """One span of values for a row of panels, so that columns compare; what lies above the frame is named."""
-    drawn = [(axes, panel) for axes, panel in zip(row, panels) if panel.series]
+    """One range of values for a row of panels, so that columns compare."""
+    drawn = [panel for panel in panels if panel.series]
     if not drawn:
         row[0].yaxis.set_major_locator(NullLocator())
         return
-    tops = [panel.top for _, panel in drawn]
-    known = [top for top in tops if top is not None]
-    row[0].set_ylim(bottom=0, top=max(known) if len(known) == len(tops) else None)
-    top = row[0].get_ylim()[1]
-    for axes, panel in drawn:
-        above = [one for one in panel.series if one.form != "box" and max(one.values) > top]
-        names = ", ".join(f"{one.label} to {max(one.values)}" for one in above[:_MOST_NAMED])
-        names += f" and {len(above) - _MOST_NAMED} lines more" if len(above) > _MOST_NAMED else ""
-        if above:
-            axes.text(0.02, 0.96, f"above the frame: {names}", va="top", size=6, transform=axes.transAxes)
+    known = [panel.top for panel in drawn if panel.top is not None]
+    row[0].set_ylim(bottom=0, top=max(known) if len(known) == len(drawn) else None)
+    if drawn[0].unit in ("packets", "segments"):
+        row[0].yaxis.set_major_locator(MaxNLocator("auto", integer=True))
 
 
-def figure_of(views: Sequence[View], what: Sequence[str]) -> Figure:
+def figure_of(views: Sequence[View], what: Sequence[str], effective: bool = False, acks: bool = False,
+              design: Design = Design()) -> Figure:
     """A figure with a column for each experiment and a row for each panel."""
-    return figure_of_panels([view.name for view in views], [[panel_of(view, one) for one in what] for view in views])
+    return figure_of_panels([view.name for view in views],
+                            [[panel_of(view, one, effective=effective, acks=acks) for one in what] for view in views], design=design)
 
 
-def figure_of_panels(names: Sequence[str], columns: Sequence[Sequence[Panel]], span: Span = Span()) -> Figure:
-    """A figure of columns of panels; the columns' names stand on top. Time goes over the span, where one is given."""
-    with matplotlib.rc_context(STYLE):
-        rows = len(columns[0])
-        figure, grid = subplots(rows, len(columns), squeeze=False, sharey="row",
-                                figsize=(0.5 + 5.0 * len(columns), 0.6 + 2.0 * rows))
-        for column, (name, panels) in enumerate(zip(names, columns)):
-            unit = time_unit(panels)
-            for row, panel in enumerate(panels):
-                draw_panel(grid[row][column], panel, unit)
-            share_time([grid[row][column] for row, panel in enumerate(panels) if not panel.across], unit, span)
-            grid[0][column].set_title(f"{name}\n{panels[0].title}", loc="left")
-        for axes, drawn in zip(grid, zip(*columns)):
-            frame(axes, drawn)
-        figure.tight_layout()
+def figure_of_panels(experiments: Sequence[str], columns: Sequence[Sequence[Panel]], span: Span = Span(),
+                     design: Design = Design()) -> Figure:
+    """A figure of columns of panels with their experiments' names above. Time goes over the span, if one is given."""
+    with matplotlib.rc_context(design.rc()):
+        rows = [in_units(row) for row in zip(*columns)]
+        colours = {owner: look.colour for owner, look in looks_of(panel for row in rows for panel in row).items()}
+        count = len(columns)
+        size = (2.0 + (4.8 if count == 1 else 3.0 * count), 0.7 + 2.3 * len(rows))
+        figure, grid = subplots(len(rows), count, size, design, squeeze=False, sharey="row")
+        unit = time_unit([panel for row in rows for panel in row])
+        for line, panels in zip(grid, rows):
+            looks = looks_of(panels, colours)
+            for axes, panel in zip(line, panels):
+                draw_panel(axes, panel, unit, looks, design.labels)
+            for axes in line[1:]:
+                axes.set_ylabel("")
+            frame(line, panels)
+            title, entries = entries_of(panels, looks, design.labels)
+            add_legend(line[-1], list(entries.values()), list(entries), design.legend, title)
+        for column in range(count):
+            share_time([line[column] for line, panels in zip(grid, rows) if not panels[column].across], unit, span)
+        _head(figure, grid, [text_of(name, design.labels) for name in experiments], [row[0] for row in rows], design)
+        notes = dict.fromkeys(panel.note for row in rows for panel in row if panel.note)
+        if notes:
+            figure.supxlabel("\n".join(notes), x=0.01, ha="left", size="x-small")
     return figure
 
 
+def _head(figure: Figure, grid: Any, experiments: Sequence[str], panels: Sequence[Panel], design: Design) -> None:
+    """What the picture shows: panels' titles, and the experiments' names above their columns."""
+    if len(experiments) > 1:
+        for axes, name in zip(grid[0], experiments):
+            axes.set_title(name)
+        shown = dict.fromkeys((panel.across or panel.quantity or panel.title).partition(" (")[0] for panel in panels)
+        overall = panels[0].title if len(panels) == 1 else ", ".join([list(shown)[0], *(one.lower() for one in list(shown)[1:])])
+    elif len(panels) > 1:
+        for line, panel in zip(grid, panels):
+            line[0].set_title(panel.title)
+        overall = experiments[0]
+    else:
+        overall = f"{panels[0].title}: {experiments[0]}"
+    if design.title != "":
+        figure.suptitle(design.title or overall, x=0.01, ha="left")
+
+
 def share_time(axes_of_time: Sequence[Any], unit: Unit, span: Span = Span()) -> None:
-    """One span of time for all panels of a column that go along it, named below the last."""
-    drawn = [axes for axes in axes_of_time if axes.get_lines()]
-    if drawn:
-        last = max(axes.get_xlim()[1] for axes in drawn) if span.end is None else span.end / unit[0]
-        for axes in drawn:
-            axes.set_xlim(span.begin / unit[0], last)
+    """One span of time, which ends with the data, for all panels of a column that go along it, named below the last."""
+    ends = [float(line.get_xdata()[-1]) for axes in axes_of_time for line in axes.get_lines() if len(line.get_xdata())]
+    if ends:
+        last = max(ends) if span.end is None else span.end / unit[0]
+        for axes in axes_of_time:
+            axes.set_xlim(span.begin / unit[0], last if last > span.begin / unit[0] else None)
     if axes_of_time:
-        axes_of_time[-1].set_xlabel(f"time ({unit[1]})")
-
-
-def save(figure: Figure, name: str) -> None:
-    """Writes the figure by its file's ending, .svg, .png or .pdf, whole or not at all; `OSError` as it comes."""
-    ending = name.rsplit(".", 1)[-1]
-    with matplotlib.rc_context(STYLE), whole_file(name) as file:
-        figure.savefig(file, format=ending, metadata=METADATA[ending], dpi=150)
+        axes_of_time[-1].set_xlabel(names.quantity("Time", unit[1]))

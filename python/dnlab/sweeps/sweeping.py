@@ -15,6 +15,7 @@ from dnlab.errors import Failed, Faulty
 from dnlab.io.scenario import read
 from dnlab.io.scenario_parts import MOST_BYTES, MOST_EXPERIMENTS, Plan
 from dnlab.io.splitting import lines_in, names_of
+from dnlab.plot import names
 from dnlab.processes import ending
 from dnlab.processes.children import Killed
 from dnlab.processes.crew import Crew
@@ -77,6 +78,9 @@ class Sweep(Swept):
         self.found: dict[str, Found] = {}
         # How many experiments were run, and not found among what was kept.
         self.ran = 0
+
+    def setting_labels(self) -> dict[str, str]:
+        return names.of_template(self.template.text, self.settings)
 
     def text(self, case: Case) -> str:
         """The text of an experiment; one that isn't just this experiment is refused."""

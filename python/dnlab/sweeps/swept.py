@@ -94,9 +94,16 @@ class Swept:
         """The stats that were asked of somebody, in the order in which they were."""
         return list(dict.fromkeys(stat for ask in self.asks if is_named(of, ask.of) for stat in ask.stats))
 
-    def plot(self, level: float = 95, interval: Kind = "t", **look: Any) -> Any:
-        """A matplotlib figure: a panel for each of and stat, over the first setting that has several values. `along`,
-        `rows`, `columns`, `labels` and `log` are those of `dnlab.plot.curves.Look`."""
-        from dnlab.plot import curves
+    def setting_labels(self) -> dict[str, str]:
+        """The settings in words with their units, as far as they are known."""
+        return {}
 
-        return curves.figure_of(self.table(level, interval), self.settings, curves.Look(**look))
+    def plot(self, level: float = 95, interval: Kind = "t", **look: Any) -> Any:
+        """A matplotlib figure: a panel for each sender and statistic, over the first setting that has several values. `along`,
+        `rows`, `columns`, `log`, `kind` and `labels`, and the design of the picture, are those of `dnlab.plot.looks.Look`."""
+        from dnlab.plot import curves, looks
+
+        look["labels"] = {**self.setting_labels(), **look.get("labels", {})}
+        found = looks.Look(**look)
+        each = self.long() if found.kind in ("ecdf", "box") else None
+        return curves.figure_of(self.table(level, interval), self.settings, found, each)
