@@ -40,10 +40,10 @@ def test_four_segments() -> None:
     assert [list(lines_on(axes)) for axes in figure.axes] == [["cwnd 1"], ["pipe 1"], ["flow 1"], ["flow 1", "through pipe 1"], []]
     assert [text.get_text() for text in drops.texts] == ["no packet was dropped"] and not window.texts
     assert [axes.get_ylabel() for axes in figure.axes] + [drops.get_xlabel()] == [
-        "Congestion window (segments)", "Queue length (packets)", "One-way delay (ms)", "Delivered data (kB)", "Dropped (packets)", "Time (ms)"]
+        "Congestion window (segments)", "Queue length (packets)", "One-way delay (ms)", "Delivered data (kB)", "Drops (packets)", "Time (ms)"]
     assert [axes.get_title("left") for axes in figure.axes] == [
         "Congestion window", "Queue length (limit of pipe 1 is 50 packets)", "One-way delay", "Delivered data, cumulative",
-        "Dropped packets by cause, cumulative"]
+        "Drops by cause, cumulative"]
     # The last line of the report is at 42.4 ms, and so is the end of the axes.
     assert {axes.get_xlim() for axes in figure.axes} == {(0, 42.4)}
 
@@ -70,7 +70,7 @@ def test_two_columns() -> None:
     # The first window is 3 segments, and the axis ends a tenth above it; ssthresh falls to 2920 bytes at 1 s.
     assert second.get_ylim() == pytest.approx((0, 3.3)) and lines_on(second)["ssthresh 1"][1:] == [(1, 2), (3, 2)]
     assert np.isnan(lines_on(second)["ssthresh 1"][0][1]) and not second.texts
-    assert one.get_ylim() == five.get_ylim() and figure._suptitle.get_text() == "Congestion window, dropped"
+    assert one.get_ylim() == five.get_ylim() and figure._suptitle.get_text() == "Congestion window, drops"
 
 
 def test_without_the_scenario() -> None:

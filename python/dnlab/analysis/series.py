@@ -263,5 +263,5 @@ def drops(view: View) -> Panel:
     table = view.packets
     series = [steps(view, cause, table.ended[table.outcome == DROPPED + place], 1) for place, cause in enumerate(CAUSES)]
     series = [one for one in series if len(one.moments)]
-    return Panel("Dropped packets by cause, cumulative", "packets", series, "" if series else "no packet was dropped",
-                 quantity="Dropped")
+    return Panel("Drops by cause, cumulative", "packets", series, "" if series else "no packet was dropped",
+                 quantity="Drops")

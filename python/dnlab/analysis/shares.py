@@ -60,7 +60,8 @@ def panel_of(view: View, what: str, span: Span, every: Optional[int]) -> Panel:
     every = every or bin_of(max(until - span.begin, 1), delivered)
     title = quantity + (f" in intervals of {shown_time(every)}" if of == "throughput" else "")
     if kind:
-        title += ": distribution (CDF)" if kind == "cdf" else ": quartiles, 5th to 95th percentile, minimum and maximum"
+        title = (f"CDF of {title[:1].lower()}{title[1:]}" if kind == "cdf"
+                 else f"{title}, quartiles, 5th to 95th percentile, minimum and maximum")
     across = {"cdf": f"{quantity} ({unit})", "box": "Sender"}.get(kind, "")
     # Of a report without sizes, or without the moments at which packets were made, nothing is said for 0.
     if not view.is_told:

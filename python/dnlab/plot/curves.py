@@ -93,7 +93,7 @@ def _say(figure: Figure, data: pd.DataFrame, panels: Sequence[tuple[str, str]], 
 
     of = list(dict.fromkeys(sender for sender, _ in panels))
     whose = names.of_whom(of[0], look.labels) if len(of) == 1 else "comparison"
-    by = "" if look.kind == "ecdf" else f" by {_lower(names.of_setting(along, look.labels))}"
+    by = ": distribution over seeds" if look.kind == "ecdf" else f" by {_lower(names.of_setting(along, look.labels))}"
     title = look.title if look.title is not None else f"{whose[:1].upper()}{whose[1:]}{by}"
     if title:
         figure.suptitle(title, x=0.01, ha="left")
@@ -105,11 +105,11 @@ def _say(figure: Figure, data: pd.DataFrame, panels: Sequence[tuple[str, str]], 
 
 def intervals_in_words(table: pd.DataFrame) -> str:
     """What points and bars are."""
-    seeds = int(table["n"].max()) if len(table) else 0
+    fewest, seeds = (int(table["n"].min()), int(table["n"].max())) if len(table) else (0, 0)
     if seeds < 2:
         return "Points: single runs"
     method = " (bootstrap)" if "bootstrap" in set(table["method"]) else ""
-    return f"Points: means of {seeds} seeds; bars: {table['level'].iloc[0]:g} % intervals{method}"
+    return f"Points: means of {seeds if fewest == seeds else f'{fewest} to {seeds}'} seeds; bars: {table['level'].iloc[0]:g} % intervals{method}"
 
 
 def _lower(label: str) -> str:

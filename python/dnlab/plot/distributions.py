@@ -61,7 +61,7 @@ def tradeoff(table: pd.DataFrame, panels: Sequence[tuple[str, str]], along: str,
         handles.append(axes.errorbar(x, y, xerr=across, yerr=up, capsize=2.5, elinewidth=1, linestyle="none", **line.style()))
         for value, at, height in zip(rows[along], x, y):
             axes.annotate(names.of_value(along, value, look.labels), (at, height), xytext=(7, 4), textcoords="offset points",
-                          size="small", color=line.style()["color"])
+                          size="small", color=line.style()["color"], bbox={"facecolor": "white", "edgecolor": "none", "alpha": 0.7, "pad": 0.5})
     for (of, stat), scale, name in zip(panels, scales, (axes.set_xlabel, axes.set_ylabel)):
         words = look.labels.get(stat, names.of_stat(stat, ""))
         name(names.quantity(f"{words}, {names.of_whom(of, look.labels)}", scale[0]))

@@ -137,7 +137,7 @@ function symbolOf(own, place) {
 function dashOf(own, place) {
   const one = own[place], before = own.slice(0, place), turn = before.filter((other) => kindOf(other) === kindOf(one)).length;
   if (one.form === "level") return `14px,${5 + 4 * turn}px`;
-  if (one.label.startsWith("effective")) return "solid";
+  if (one.label.startsWith("effective")) return "20px,2px";
   if (one.under) return turn ? `2px,${3 + 3 * turn}px` : "dot";
   const dashes = DASHES.filter((dash) => dash !== "dot");
   return dashes[before.filter((other) => !other.under && other.form !== "level").length % dashes.length];

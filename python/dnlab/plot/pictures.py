@@ -20,8 +20,8 @@ UNITS: tuple[Unit, ...] = ((10**9, "s"), (10**6, "ms"), (10**3, "us"), (1, "ns")
 _BYTES: tuple[Unit, ...] = ((10**9, "GB"), (10**6, "MB"), (10**3, "kB"), (1, "bytes"))
 # Shares and boxes are of ns or bit/s, and drawn as ms or Mbit/s.
 _MILLION = 10**6
-# So few points are joined by a thin line.
-_JOINED = 10
+# So few points of each sender are joined by thin lines; more than the second number are small.
+_JOINED, _SMALL = 10, 100
 _OF_FLOW = re.compile(r"(.*: )?(cwnd|ssthresh|effective|loss|timeout) ([0-9]+)")
 _KINDS = {"effective": "effective window"}
 _GREY = "#555555"
@@ -74,15 +74,19 @@ def time_unit(panels: Sequence[Panel]) -> Unit:
     return next((unit for unit in UNITS if last >= 2 * unit[0]), UNITS[-1])
 
 
-def style_of(one: Series, look: Look) -> dict[str, Any]:
+def is_sparse(series: Sequence[Series]) -> bool:
+    """Whether points are so few that a thin line may join them."""
+    return all(len(one.moments) <= _JOINED for one in series if one.form == "points")
+
+
+def style_of(one: Series, look: Look, is_joined: bool = False) -> dict[str, Any]:
     """matplotlib's words for a series."""
     kind, words = kind_of(one.label), {"color": look.colour, "linestyle": look.dash}
     if one.form == "marks":
         return {**words, "linestyle": "none", "marker": "v" if kind == "timeout" else "x", "markersize": 6, "zorder": 4}
     if one.form == "points":
-        is_few = len(one.moments) <= _JOINED
-        return {**words, "linestyle": "-" if is_few else "none", "linewidth": 0.6, "marker": look.marker,
-                "markersize": 4 if is_few else 2, "markeredgewidth": 0}
+        return {**words, "linestyle": "-" if is_joined else "none", "linewidth": 0.6, "marker": look.marker,
+                "markersize": 2 if len(one.moments) > _SMALL else 4, "markeredgewidth": 0}
     words["drawstyle"] = "steps-post"
     if one.form == "level":
         return {**words, "linestyle": (0, (8, 4)), "linewidth": 0.9}
@@ -91,12 +95,12 @@ def style_of(one: Series, look: Look) -> dict[str, Any]:
     return {**words, "linestyle": "-", "linewidth": 5, "alpha": 0.3} if kind == "effective" else words
 
 
-def draw_series(axes: Any, one: Series, look: Look, scale: int, is_clipped: bool) -> None:
+def draw_series(axes: Any, one: Series, style: Mapping[str, Any], scale: int, is_clipped: bool) -> None:
     """One series on the axes; a distribution begins at 0."""
     moments, values = np.asarray(one.moments) / scale, np.asarray(one.values)
     if one.form == "share":
         moments, values = np.append(moments[:1], moments), np.append(0.0, values)
-    axes.plot(moments, values, label=one.label, clip_on=is_clipped, **style_of(one, look))
+    axes.plot(moments, values, label=one.label, clip_on=is_clipped, **style)
 
 
 def draw_panel(axes: Any, panel: Panel, unit: Unit, looks: Mapping[str, Look] = {}, labels: names.Labels = {}) -> None:
@@ -113,8 +117,9 @@ def draw_panel(axes: Any, panel: Panel, unit: Unit, looks: Mapping[str, Look] = 
         draw_boxes(axes, panel.series, labels)
         return
     looks = looks or looks_of([panel])
+    is_joined = is_sparse(panel.series)
     for one in panel.series:
-        draw_series(axes, one, looks[owner_of(one.label)], _MILLION if panel.across else unit[0], panel.top is not None)
+        draw_series(axes, one, style_of(one, looks[owner_of(one.label)], is_joined), _MILLION if panel.across else unit[0], panel.top is not None)
     if panel.across:
         axes.set_xlim(0, max(float(one.moments[-1]) for one in panel.series) / _MILLION or None)
 
@@ -162,7 +167,7 @@ def entries_of(panels: Sequence[Panel], looks: Mapping[str, Look], labels: names
         else:
             text = text_of(one.label if not kind else owner_of(one.label), labels)
             text = text.rpartition(": ")[0] if is_same and one.form != "level" else text
-        found.setdefault(text, Line2D([], [], **style_of(one, look)))
+        found.setdefault(text, Line2D([], [], **style_of(one, look, is_sparse(series))))
     title = parts[0][1] if is_same else text_of(min(windows), labels) if len(windows) == 1 else ""
     return title[:1].upper() + title[1:], found
 
