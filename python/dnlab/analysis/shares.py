@@ -52,7 +52,7 @@ def shown_time(time: int) -> str:
 
 
 def panel_of(view: View, what: str, span: Span, every: Optional[int]) -> Panel:
-    """A panel by its name in `series.MORE`."""
+    """A panel by its name in `panels.MORE`."""
     kind, _, of = what.rpartition(":")
     quantity, unit = _NAMES[of]
     until = view.last if span.end is None else min(span.end, view.last)
