@@ -67,4 +67,6 @@ class Programs:
         names = set(re.findall(r"^(?:import|from) (\w+)", text, re.MULTILINE))
         modules = [folder / f"{name}.py" for folder in (program.parent, ROOT / "tools/common") for name in names]
         found = {*COMMON, *OPTION.findall("".join([text, *(it.read_text(encoding="utf-8") for it in modules if it.exists())]))}
-        return found | self.of_package if "dnlab" in names else found
+        # A script that hands its own arguments to a tool takes the tool's options.
+        hands_on = re.search(r'\btools/[\w-]+ [^\n]*(?:\\\n[^\n]*)*"\$@"', text)
+        return found | self.of_package if "dnlab" in names or hands_on else found
