@@ -3,7 +3,7 @@ import os
 import shutil
 from pathlib import Path
 
-from setuptools import setup
+from setuptools import Distribution, setup
 from wheel.bdist_wheel import bdist_wheel
 
 # tools/release puts the program there. A wheel without it is pure Python.
@@ -29,12 +29,15 @@ def has_program() -> bool:
     return found is not None and b"dnlab.programs" not in Path(found).read_bytes()[:4096]
 
 
+class Carrying(Distribution):  # type: ignore[misc]  # setuptools has no types here
+    """A package that may carry a program: then it is for one platform, as if it had extension modules."""
+
+    def has_ext_modules(self) -> bool:
+        return CARRIED.is_file()
+
+
 class Wheel(bdist_wheel):  # type: ignore[misc]  # wheel has no types here
     """A wheel that may carry a program, and no extension module."""
-
-    def finalize_options(self) -> None:
-        super().finalize_options()
-        self.root_is_pure = not CARRIED.is_file()
 
     def run(self) -> None:
         if not has_program():
@@ -45,4 +48,4 @@ class Wheel(bdist_wheel):  # type: ignore[misc]  # wheel has no types here
         return ("py3", "none", PLATFORM) if CARRIED.is_file() else ("py3", "none", "any")
 
 
-setup(cmdclass={"bdist_wheel": Wheel})
+setup(cmdclass={"bdist_wheel": Wheel}, distclass=Carrying)

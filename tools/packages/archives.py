@@ -17,7 +17,9 @@ def run(words: Sequence[str | os.PathLike[str]], date: int, folder: pathlib.Path
     """Runs a program of packaging, with the date for what it writes (seconds since 1970); gives what it says."""
     if shutil.which(words[0]) is None:
         raise Lacking(f"{words[0]} is not there")
-    names = {**os.environ, "SOURCE_DATE_EPOCH": str(date), "LC_ALL": "C.UTF-8", "TZ": "UTC", "PYTHONDONTWRITEBYTECODE": "1"}
+    # Debian's packaging needs Debian's own Python, whichever comes first on the caller's PATH.
+    path = os.pathsep.join(["/usr/bin", os.environ.get("PATH", os.defpath)])
+    names = {**os.environ, "PATH": path, "SOURCE_DATE_EPOCH": str(date), "LC_ALL": "C.UTF-8", "TZ": "UTC", "PYTHONDONTWRITEBYTECODE": "1"}
     done = subprocess.run(words, cwd=folder, env=names, stdin=subprocess.DEVNULL, stdout=subprocess.PIPE, stderr=subprocess.STDOUT, text=True, check=False)
     if done.returncode:
         raise Lacking(f"{words[0]} ended with {done.returncode}: {done.stdout.strip()[-2000:]}")
