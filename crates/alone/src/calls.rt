@@ -62,12 +62,12 @@ pub fn run_alone<R: Inlet, W: Outlet>(
         (R.failed reader.new) (W.failed writer.old) (W.failed writer.new) writer.old writer.new }
     ensures own { IfErr result IsOwnFault }
 {
-    run_alone_told(alloc, reader, writer, &Silent)
+    run_alone_with_progress(alloc, reader, writer, &Silent)
 }
 
 /// `run_alone`, with somebody who is told how far it is.
 #[tactic(auto, using(crate::proofs::Stopping::unlimited_calls, crate::proofs::Stopping::calls_same, crate::proofs::Stopping::own_same))]
-pub fn run_alone_told<R: Inlet, W: Outlet, P: Progress>(
+pub fn run_alone_with_progress<R: Inlet, W: Outlet, P: Progress>(
     alloc: Global,
     reader: &mut R,
     writer: &mut W,

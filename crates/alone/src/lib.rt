@@ -18,7 +18,7 @@ mod talk;
 mod whole;
 mod within;
 
-pub use calls::{check, check_kept, run_alone, run_alone_told, unlimited_outcome};
+pub use calls::{check, check_kept, run_alone, run_alone_with_progress, unlimited_outcome};
 pub use device::Device;
 pub use ends::{Inlet, Outlet, Trouble};
 pub use fault::RunFault;

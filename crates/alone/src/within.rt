@@ -80,7 +80,7 @@ pub fn write_reports<W: Outlet>(
     Ok(())
 }
 
-/// `run_alone_told` within limits. `Steps` comes before the first step and `Output` before the first byte, exactly if the
+/// `run_alone_with_progress` within limits. `Steps` comes before the first step and `Output` before the first byte, exactly if the
 /// scenario exceeds that limit. Its faults are those of `run_alone`. `text` becomes the text that was read, unless the reader
 /// failed or memory ran out. `on_text` and `made` speak of this text, and `given` of the bytes that the calls of the reader
 /// gave, for every reader, whether or not a contract can name the bytes that it has. Returns what it made and wrote.

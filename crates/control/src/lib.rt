@@ -22,7 +22,7 @@ pub use expected::{
 pub use fault::{Cause, Fault, ParseError};
 pub use form::{Form, Keyword};
 pub use names::ExperimentName;
-pub use reading::{MOST_EXPERIMENTS, parse_scenario};
+pub use reading::{MAX_EXPERIMENTS, parse_scenario};
 pub use scenario::{CommandList, Experiment, Scenario};
 pub use text_laws::{texts_join, texts_part, texts_spell_one};
 pub use value::{Value, value_at};

@@ -19,7 +19,7 @@ use std::alloc::Global;
 const MAX_BYTES: usize = 16_777_216;
 
 /// How many experiments a scenario has at most.
-pub const MOST_EXPERIMENTS: usize = 256;
+pub const MAX_EXPERIMENTS: usize = 256;
 
 /// The experiments so far: those that have their end, and the one that hasn't, with the moment of
 /// its last command.
@@ -66,7 +66,7 @@ impl Builder {
         if self.running.is_some() {
             return Err(LineError::Cause(Cause::NoEnd));
         }
-        if self.done.len() >= MOST_EXPERIMENTS {
+        if self.done.len() >= MAX_EXPERIMENTS {
             return Err(LineError::Cause(Cause::TooMany));
         }
         if is_named(&self.done, name) {

@@ -14,7 +14,7 @@ use Rattle.emu_model.specs.RunLaws.{same_source, DuesDiffer}
 use Rattle.emu_model.specs.Step.{State, next_event}
 use Rattle.emu_model.specs.Alone.{alone}
 use Rattle.emu_laws.specs.LeastDue.{all_dues}
-use Rattle.emu_laws.specs.Strangers.{MomentsAreTheirOwn}
+use Rattle.emu_laws.specs.Isolation.{MomentsAreTheirOwn}
 use Rattle.emu_laws.proofs.EachOf.{each_front, each_back, each_found}
 use Rattle.emu_laws.proofs.EachChange.{found-passes}
 use Rattle.emu_laws.proofs.EventWalks.{IsReadyAt}

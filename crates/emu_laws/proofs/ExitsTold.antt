@@ -19,8 +19,8 @@ behind now r n m a = (a.more, a.records)
 nothing-yet : (now : ℕ) (n : Net) → Adds now n n
 nothing-yet now n = record { more = []; records = sym (append-nil n.records); moments = tt }
 
-pub exits_are_told : ExitsAreTold
-exits_are_told at pipe k n p q e =
+pub exits_are_recorded : ExitsAreTold
+exits_are_recorded at pipe k n p q e =
     subst (λ o. IsExtendedBy (n.records ++ exit_line at.now pipe k n.one_pass q ∷ [])
     (leave_pipe_some at pipe k o (put_pipe pipe (pipe_exit k p) n)).records) (sym e) (go n.one_pass)
   where

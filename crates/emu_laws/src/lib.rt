@@ -16,7 +16,7 @@ mod runs;
 mod searches;
 mod senders;
 mod single_states;
-mod strangers;
+mod isolation;
 mod work;
 
 pub use links::{delay_is_kept, idle_takes_its_time, rate_is_kept, service_is_on_time};
@@ -37,8 +37,8 @@ pub use single_states::{
     bounds_are_met, dropping_ends_in_time, least_due_is_least, missing_is_least,
     numbers_count_identifiers, search_goes_all_ways,
 };
-pub use strangers::{
-    exits_are_told, instances_are_strangers, runs_are_histories, same_happenings_change_alike,
-    steps_are_histories, strangers_change_nothing,
+pub use isolation::{
+    exits_are_recorded, instances_are_isolated, runs_are_histories, same_events_same_state,
+    steps_are_histories, others_do_not_interfere,
 };
 pub use work::{held_within_budget, records_are_bounded};

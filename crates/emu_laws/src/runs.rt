@@ -2,7 +2,7 @@
 
 ghost use Rattle.emu_laws.specs.DeliveryDelay.{DeliveriesWait};
 ghost use Rattle.emu_laws.specs.RecordOrder.{RecordsAreInOrder};
-ghost use Rattle.emu_laws.specs.Strangers.{MomentsAreTheirOwn};
+ghost use Rattle.emu_laws.specs.Isolation.{MomentsAreTheirOwn};
 
 use emu_model::{dues_differ, dues_stay_ahead, each_packet_once};
 

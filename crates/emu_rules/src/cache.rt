@@ -116,7 +116,7 @@ impl RuleCache {
         ensures same { (cs : List Counted) → settled self.new cs ≡ settled self.old cs }
         ensures made { OnOk result (4 < rules → 0 < vec_len self.new.held) }
     {
-        if rules <= MOST_WALKED || !self.held.is_empty() {
+        if rules <= MAX_WALKED || !self.held.is_empty() {
             return Ok(());
         }
         self.held.reserve_exact(PLACES)?;
@@ -327,7 +327,7 @@ fn walk_path(rules: &mut [CountedRule], jumps: &[usize], path: &CachedSearch)
 }
 
 /// So few rules are walked in no more time than a cached search takes.
-pub(crate) const MOST_WALKED: usize = 4;
+pub(crate) const MAX_WALKED: usize = 4;
 
 /// How many cached searches are remembered at most.
 const PLACES: usize = 1024;

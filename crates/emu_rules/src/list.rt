@@ -106,7 +106,7 @@ impl RuleList {
         {
             return Some(Refusal::BadSkip);
         }
-        if self.len() > MOST_RULES || self.added == u64::MAX {
+        if self.len() > MAX_RULES || self.added == u64::MAX {
             return Some(Refusal::RulesFull);
         }
         None
@@ -231,7 +231,7 @@ impl RuleList {
 const DEFAULT: u32 = 65535;
 
 /// How many rules there may be besides the default.
-const MOST_RULES: usize = 256;
+const MAX_RULES: usize = 256;
 
 /// Whether a rule may be added or deleted under a number.
 fn is_rule_number(number: RuleNumber) -> bool

@@ -6,7 +6,7 @@ ghost use Rattle.emu_model.specs.Rules.{Counted, the_rules, least_match, place_o
 ghost use Rattle.emu_rules.specs.Walk.{IsOrdered, AreJumps, CountsAlone, IsFound, IsRecounted, counted_more, decision};
 ghost use Rattle.emu_rules.specs.RuleCache.{settled, AreTrueOf};
 
-use crate::cache::{MOST_WALKED, RuleCache};
+use crate::cache::{MAX_WALKED, RuleCache};
 use crate::counted::{Amount, CountedRule, target_of};
 use emu_model::{Packet, Place, Verdict};
 
@@ -50,7 +50,7 @@ fn near_match(rules: &[CountedRule], from: usize, packet: &Packet) -> Option<usi
 fn first_match(rules: &[CountedRule], from: usize, packet: &Packet) -> Option<usize>
     ensures { result ≡ least_match packet.now (the_rules rules.now) from }
 {
-    if rules.len().saturating_sub(from) <= MOST_WALKED {
+    if rules.len().saturating_sub(from) <= MAX_WALKED {
         return near_match(rules, from, packet);
     }
     next_match(rules, from, packet)
@@ -87,7 +87,7 @@ fn search(rules: &[CountedRule], jumps: &[usize], start: usize, packet: &Packet)
 /// Whether a walk takes no more time than a cached search: few rules are left, or the first ends the search.
 #[inline(always)]
 fn is_short(rules: &[CountedRule], start: usize, packet: &Packet) -> bool {
-    if rules.len().saturating_sub(start) <= MOST_WALKED {
+    if rules.len().saturating_sub(start) <= MAX_WALKED {
         return true;
     }
     let first = &rules[start];

@@ -19,7 +19,7 @@ ghost use Rattle.explain.specs.Past.{IsBefore, IsPastOf, line_for};
 use crate::past::{Earlier, Past, name_in, past_of};
 use crate::span::{Span, line_at, part, span_of_word};
 use control::{Cause, Check, Fault, blame};
-use explain_line::{byte_hint, hint, range_hint, wanted_at};
+use explain_line::{byte_hint, hint, range_hint, expected_at};
 
 /// What is found in a line: where the first word at fault stands, what was expected there, an example, and what to
 /// write instead.
@@ -99,7 +99,7 @@ fn bad_word(line: &[u8], check: Check) -> Inside
     };
     let place = span_of_word(line, blamed.index);
     let word = part(line, place);
-    let wanted = wanted_at(blamed.expected, word);
+    let wanted = expected_at(blamed.expected, word);
     let hint = if word.is_empty() {
         Some("the line ends before it")
     } else {

@@ -12,7 +12,7 @@ use control_words::first_line;
 use std::alloc::{AllocError, Global};
 
 /// So many faults are told behind the first at most.
-const MOST_BEHIND: usize = 9;
+const MAX_BEHIND: usize = 9;
 
 fn put_text(out: &mut Vec<u8>, text: &str) -> Result<(), AllocError>
     ensures { OnOk result (out.new.items ≡ out.old.items ++ text.now) }
@@ -139,7 +139,7 @@ pub fn faults_behind(alloc: Global, text: &[u8], first: &Fault) -> Result<Vec<Fa
 {
     let mut out = Vec::new(alloc);
     let mut last = *first;
-    for _count in 0..MOST_BEHIND {
+    for _count in 0..MAX_BEHIND {
         let Some(fault) = fault_after(alloc, text, last)? else {
             break;
         };

@@ -2,7 +2,7 @@
 
 use crate::slips::{
     ACTIONS, FIRSTS, FOR_NUMBERS, FOR_STEPS, LINK, MOMENT, OPTIONS, OWN_ACTIONS, OWN_FIRSTS,
-    OWN_FLOW_OPTIONS, OWN_OPTIONS, OWN_SEEDS, OWN_VERBS, VERBS, meant_by, said_of,
+    OWN_FLOW_OPTIONS, OWN_OPTIONS, OWN_SEEDS, OWN_VERBS, VERBS, hint_for, said_of,
 };
 use control::{
     Expected, FlowWord, Form, Keyword, PipeWord, RuleWord, TrainWord, stood_before, value_at,
@@ -209,7 +209,7 @@ fn moment_hint(word: &[u8]) -> Option<&'static str> {
             } else if has_capital(word) {
                 Some(LOWER)
             } else {
-                meant_by(&OWN_FIRSTS, word).or(Some(
+                hint_for(&OWN_FIRSTS, word).or(Some(
                     "a command has its moment in front of it: @0 pipe 1 config bw 10Mbit/s",
                 ))
             }
@@ -488,11 +488,11 @@ fn verb_hint(word: &[u8]) -> Option<&'static str> {
     if word.first() == Some(&b'$') {
         return Some("leave `ipfw` out: @0 pipe 1 config bw 10Mbit/s");
     }
-    said_of(&VERBS, word).or(meant_by(&OWN_VERBS, word))
+    said_of(&VERBS, word).or(hint_for(&OWN_VERBS, word))
 }
 
 fn action_hint(word: &[u8]) -> Option<&'static str> {
-    said_of(&ACTIONS, word).or(meant_by(&OWN_ACTIONS, word))
+    said_of(&ACTIONS, word).or(hint_for(&OWN_ACTIONS, word))
 }
 
 fn is_unit(word: &[u8]) -> bool {
@@ -519,7 +519,7 @@ fn option_hint(word: &[u8]) -> Option<&'static str> {
     } else if begins_with_digit(word) {
         Some("an option is a word and one value: bw 10Mbit/s delay 20; there is no jitter")
     } else {
-        said_of(&OPTIONS, word).or(meant_by(&OWN_OPTIONS, word))
+        said_of(&OPTIONS, word).or(hint_for(&OWN_OPTIONS, word))
     }
 }
 
@@ -539,7 +539,7 @@ fn flow_option_hint(word: &[u8]) -> Option<&'static str> {
     } else if is(word, "ms") || is(word, "s") {
         Some("`rto` is in milliseconds without a unit: rto 200")
     } else {
-        meant_by(&OWN_FLOW_OPTIONS, word)
+        hint_for(&OWN_FLOW_OPTIONS, word)
     }
 }
 
@@ -608,7 +608,7 @@ fn seed_hint(word: &[u8]) -> Option<&'static str> {
     } else if has_capital(word) {
         Some(LOWER)
     } else {
-        meant_by(&OWN_SEEDS, word).or(Some(
+        hint_for(&OWN_SEEDS, word).or(Some(
             "a name has no space in it, and `seed` follows: experiment drop-tail seed 1 budget 1000",
         ))
     }

@@ -6,4 +6,4 @@ mod slips;
 mod tables;
 
 pub use hints::{byte_hint, hint, range_hint};
-pub use tables::{Wanted, wanted_at};
+pub use tables::{Wanted, expected_at};

@@ -320,7 +320,7 @@ pub fn said_of(table: &[Says], word: &[u8]) -> Option<&'static str> {
 
 /// What is said of a word that is one of these but for a slip: a letter wrong, missing or too much, two turned round, or
 /// another ending behind the first three letters.
-pub fn meant_by(table: &[Says], word: &[u8]) -> Option<&'static str> {
+pub fn hint_for(table: &[Says], word: &[u8]) -> Option<&'static str> {
     if word.len() < 2 {
         return None;
     }

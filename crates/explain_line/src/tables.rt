@@ -388,7 +388,7 @@ fn pipe_wanted(place: PipeWord) -> Wanted {
 }
 
 /// What is wanted where a word is at fault, or is lacking. Own.
-pub fn wanted_at(expected: Expected, word: &[u8]) -> Wanted {
+pub fn expected_at(expected: Expected, word: &[u8]) -> Wanted {
     if stood_before(expected, word) {
         return if is_discipline(word) {
             ONE_DISCIPLINE

@@ -55,7 +55,7 @@ pub struct Doubtful {
 }
 
 /// The most warnings of a kind that are given for an experiment.
-const MOST_OF_A_KIND: usize = 10;
+const MAX_OF_A_KIND: usize = 10;
 
 /// Returns the first ten of each kind.
 pub fn first_of_each(alloc: Global, doubts: &[Doubtful]) -> Result<Vec<Doubtful>, AllocError> {
@@ -63,7 +63,7 @@ pub fn first_of_each(alloc: Global, doubts: &[Doubtful]) -> Result<Vec<Doubtful>
     for doubtful in doubts {
         let kind = kind_word(&doubtful.doubt);
         let before = out.iter().filter(|told| kind_word(&told.doubt) == kind);
-        if before.count() < MOST_OF_A_KIND {
+        if before.count() < MAX_OF_A_KIND {
             out.push(*doubtful)?;
         }
     }

@@ -2,11 +2,11 @@
 
 use control::{Behind, Blamed, Cause, Check, Fault, blame, blame_behind};
 use explain::{faults_behind, find, line_at, put_row, show_finding, show_found, span_of_word};
-use explain_line::wanted_at;
+use explain_line::expected_at;
 use std::alloc::{AllocError, Global};
 
 /// A line with more words at fault than these has its words in another order, and only the first is told.
-const MOST_WORDS: usize = 5;
+const MAX_WORDS: usize = 5;
 
 // The word at fault that is told first, if the fault is one of a word.
 fn told_word(line: &[u8], cause: Cause) -> Option<usize> {
@@ -23,7 +23,7 @@ fn put_word(out: &mut Vec<u8>, line: &[u8], blamed: &Blamed) -> Result<bool, All
     let word = &line[place.start..place.start + place.width];
     out.extend_from_slice(b"  also: `")?;
     out.extend_from_slice(word)?;
-    let wanted = wanted_at(blamed.expected, word);
+    let wanted = expected_at(blamed.expected, word);
     put_row(out, "`, expected: ", wanted.expected.as_bytes())?;
     Ok(!word.is_empty())
 }
@@ -32,7 +32,7 @@ fn put_word(out: &mut Vec<u8>, line: &[u8], blamed: &Blamed) -> Result<bool, All
 fn others_in(alloc: Global, line: &[u8], told: usize) -> Result<Vec<u8>, AllocError> {
     let mut out = Vec::new(alloc);
     let mut next = blame(line, Check::Ranges);
-    for _ in 0..MOST_WORDS {
+    for _ in 0..MAX_WORDS {
         let Some(blamed) = next else {
             return Ok(out);
         };

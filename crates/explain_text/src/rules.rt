@@ -44,7 +44,7 @@ pub fn apply(rules: &mut RuleList, command: &Command) -> Result<(), AllocError>
 }
 
 /// Takes commands from this number on, up to a moment and with those of it, and says how many were taken then.
-pub fn go_behind(
+pub fn apply_until(
     rules: &mut RuleList,
     commands: &[Timed],
     taken: usize,

@@ -8,7 +8,7 @@ ghost use Rattle.explain_text.specs.Shared.{is_two_way, is_serving, serves, serv
 use crate::doubt::{Doubt, Doubtful};
 use crate::ends::{Ends, packet_of, reverse_of, segment_ends};
 use crate::likely::put_doubt;
-use crate::rules::go_behind;
+use crate::rules::apply_until;
 use due_index::NumberTable;
 use emu_model::{Command, Mask, PipeConfig, PipeNumber, Timed, Verdict};
 use emu_rules::RuleList;
@@ -94,7 +94,7 @@ pub fn shared(alloc: Global, commands: &[Timed]) -> Result<Vec<Doubtful>, AllocE
     let mut ahead = RuleList::new(alloc)?;
     let mut taken = 0;
     for (number, timed) in commands.iter().enumerate() {
-        taken = go_behind(&mut ahead, commands, taken, timed.moment)?;
+        taken = apply_until(&mut ahead, commands, taken, timed.moment)?;
         put_doubt(
             &mut out,
             number as u64,

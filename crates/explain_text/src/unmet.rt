@@ -8,9 +8,9 @@ use emu_rules::{AddError, RuleList};
 use std::alloc::{AllocError, Global};
 
 /// Above this many senders, or searches for their packets, there is no warning.
-const MOST_SENDERS: usize = 512;
+const MAX_SENDERS: usize = 512;
 
-const MOST_SEARCHES: usize = 1 << 17;
+const MAX_SEARCHES: usize = 1 << 17;
 
 // The rules, and for each that was added, in that order, its command and whether a packet met it.
 #[derive(Drop)]
@@ -50,7 +50,7 @@ fn senders(alloc: Global, commands: &[Timed]) -> Result<Option<Vec<Ends>>, Alloc
         if found.iter().any(|known| *known == ends) {
             continue;
         }
-        if found.len() == MOST_SENDERS {
+        if found.len() == MAX_SENDERS {
             return Ok(None);
         }
         found.push(ends)?;
@@ -165,7 +165,7 @@ fn walked(alloc: Global, commands: &[Timed], senders: &[Ends]) -> Result<Option<
             walk.send_all(senders)?;
             is_changed = false;
         }
-        if walk.searches > MOST_SEARCHES {
+        if walk.searches > MAX_SEARCHES {
             return Ok(None);
         }
         moment = timed.moment;

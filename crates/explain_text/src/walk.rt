@@ -4,7 +4,7 @@ ghost use Rattle.std.specs.Prelude.{◌≡◌, ◌++◌, OnOk, IfOk};
 ghost use Rattle.explain_text.specs.Walk.{denied, denied_flow, denials_at, denials};
 
 use crate::ends::{Ends, reverse_of, segment_ends, sent_ends};
-use crate::rules::{apply, go_behind, is_denied};
+use crate::rules::{apply, apply_until, is_denied};
 use crate::warning::{Concern, Sent, Warning};
 use emu_model::{Command, Timed};
 use emu_rules::RuleList;
@@ -86,7 +86,7 @@ pub fn denials(alloc: Global, flows: bool, commands: &[Timed]) -> Result<Vec<War
     let mut ahead = RuleList::new(alloc)?;
     let mut taken = 0;
     for (number, timed) in commands.iter().enumerate() {
-        taken = go_behind(&mut ahead, commands, taken, timed.moment)?;
+        taken = apply_until(&mut ahead, commands, taken, timed.moment)?;
         note_command(
             &mut out,
             flows,

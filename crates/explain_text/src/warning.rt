@@ -4,7 +4,7 @@ ghost use Rattle.std.specs.Prelude.{◌≡◌, ◌++◌, ◌∷◌, [], take, If
 ghost use Rattle.explain_text.specs.Warnings.{way_of, no_way_of, flow_denied, of_subject, of_notes, of_seed, of_commands, warnings_of};
 
 use crate::ends::{Ends, reverse_of, segment_ends};
-use crate::rules::{go_behind, is_denied};
+use crate::rules::{apply_until, is_denied};
 use crate::survey::{flow_place, has_loss, last_moment, pipes_missing};
 use crate::walk::denials;
 use emu_model::{Command, PipeNumber, Timed};
@@ -13,7 +13,7 @@ use explain::{Note, Subject};
 use std::alloc::{AllocError, Global};
 
 /// So many rules without a pipe are told of an experiment at most, and so many whose packets the rules deny.
-const MOST_OF_A_KIND: usize = 10;
+const MAX_OF_A_KIND: usize = 10;
 
 /// What of a command is denied: the packets of a train or of a single one, a flow's segments, or its acknowledgements.
 #[derive(Clone, Copy, PartialEq)]
@@ -136,7 +136,7 @@ fn put_flow(
         return Ok(());
     };
     let mut rules = RuleList::new(alloc)?;
-    go_behind(&mut rules, commands, 0, timed.moment)?;
+    apply_until(&mut rules, commands, 0, timed.moment)?;
     put_no_way(out, &rules, place as u64, sent, count, &timed.command)
 }
 
@@ -199,7 +199,7 @@ fn put_seed(out: &mut Vec<Warning>, seed: u64, commands: &[Timed]) -> Result<(),
 fn put_first(out: &mut Vec<Warning>, warnings: &[Warning]) -> Result<(), AllocError>
     ensures { OnOk result (out.new.items ≡ out.old.items ++ take 10 warnings.now) }
 {
-    let most = warnings.len().min(MOST_OF_A_KIND);
+    let most = warnings.len().min(MAX_OF_A_KIND);
     out.extend_from_slice(&warnings[..most])
 }
 

@@ -28,12 +28,12 @@ pub fn run<H: Threads + Wait + Sync, R: Inlet, W: Outlet, G: Gate>(
         (R.failed reader.new) (W.failed writer.old) (W.failed writer.new) writer.old writer.new }
     ensures gate { result ≡ Err RunFault.Gate → G.may_refuse ≡ true }
 {
-    run_told(rt, alloc, reader, writer, plan, gate, &Silent)
+    run_with_progress(rt, alloc, reader, writer, plan, gate, &Silent)
 }
 
 /// `run`, with somebody who is told how many experiments have ended.
 #[tactic(auto, using(alone::proofs::Stopping::unlimited_calls, alone::proofs::Stopping::calls_same, crate::proofs::Stopping::gate_same))]
-pub fn run_told<H: Threads + Wait + Sync, R: Inlet, W: Outlet, G: Gate, P: Progress + Sync>(
+pub fn run_with_progress<H: Threads + Wait + Sync, R: Inlet, W: Outlet, G: Gate, P: Progress + Sync>(
     rt: &H,
     alloc: Global,
     reader: &mut R,

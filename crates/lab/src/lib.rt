@@ -11,6 +11,6 @@ mod together;
 mod within;
 mod worker;
 
-pub use calls::{run, run_told};
+pub use calls::{run, run_with_progress};
 pub use plan::{Gate, OpenGate, Plan};
 pub use within::run_within;

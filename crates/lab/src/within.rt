@@ -53,7 +53,7 @@ fn made_together<H: Threads + Wait + Sync, G: Gate, P: Progress + Sync>(
     Ok(Made { scenario, reports })
 }
 
-/// `run_told` within limits: it stops exactly if `run_alone_within` does, and returns the same. Its faults are those of
+/// `run_with_progress` within limits: it stops exactly if `run_alone_within` does, and returns the same. Its faults are those of
 /// `run`. `on_text` and `made` speak of the text that was read, for every reader.
 #[tactic(auto, using(alone::proofs::Stopping::read_calls, alone::proofs::Stopping::stop_calls, alone::proofs::Stopping::out_calls, alone::proofs::Stopping::stop_calls_read, alone::proofs::Stopping::out_calls_read, crate::proofs::Stopping::out_not_gate, crate::proofs::Stopping::input_not_gate))]
 pub fn run_within<H: Threads + Wait + Sync, R: Inlet, W: Outlet, G: Gate, P: Progress + Sync>(

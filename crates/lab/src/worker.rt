@@ -8,7 +8,7 @@ ghost use Rattle.lab.specs.Plans.{IsWorkFault, IsMemory, is_honest};
 use crate::plan::{Gate, Plan};
 use alone::{Progress, RunFault};
 use bench::{AdoptError, Bench, Closing, OfferError, Peer, RetakeError, RingMail};
-use shard::{Dossier, MOST_RESIDENTS, Parcel, Polled, TakeInError, Turned, Watch};
+use shard::{Dossier, MAX_RESIDENTS, Parcel, Polled, TakeInError, Turned, Watch};
 use std::alloc::Global;
 use std::marker::PhantomData;
 use std::sync::Wait;
@@ -19,7 +19,7 @@ use std::thread;
 const AT_ONCE: u32 = 1024;
 
 /// With so many residents a bench admits no other, so that few shelves take memory at a time.
-const AT_HAND: usize = 2;
+const MAX_ACTIVE: usize = 2;
 
 /// What the workers share: how many experiments have ended, and whether there is a fault. Nothing is claimed of
 /// either.
@@ -222,12 +222,12 @@ impl Desk {
         ensures err { IfErr result IsMemory }
     {
         let mut left = self.bench.residents();
-        for _ in 0..MOST_RESIDENTS {
+        for _ in 0..MAX_RESIDENTS {
             if left == 0 {
                 return Ok(false);
             }
             let slot = self.cursor;
-            self.cursor = slot.wrapping_add(1) % MOST_RESIDENTS;
+            self.cursor = slot.wrapping_add(1) % MAX_RESIDENTS;
             match self.bench.poll(slot) {
                 Polled::NoMemory(_) => return Err(RunFault::Memory),
                 Polled::Vacant => {}
@@ -244,7 +244,7 @@ impl Desk {
         ensures ok { OnOk result (LosesNone self.old self.new) }
         ensures err { IfErr result IsMemory }
     {
-        if self.bench.residents() >= AT_HAND {
+        if self.bench.residents() >= MAX_ACTIVE {
             return Ok(false);
         }
         let Some(parcel) = self.waiting.pop() else {

@@ -15,7 +15,7 @@ use crate::answer::{Answer, put_answer_with};
 use crate::fates::Stop;
 use crate::open::Open;
 use crate::request::{Request, asked_in, read_request};
-use control::{Cause, MOST_EXPERIMENTS};
+use control::{Cause, MAX_EXPERIMENTS};
 use control_lines::{LineEntry, LineFault, lines_say_one, read_line};
 use emu_model::{Spec, Timed};
 use std::alloc::{AllocError, Global};
@@ -121,7 +121,7 @@ impl Session {
             × (out.new.items ≡ out.old.items ++ bytes)
             × IsBegun name.now spec bytes a self.old self.new) }
     {
-        if self.open.len() >= MOST_EXPERIMENTS {
+        if self.open.len() >= MAX_EXPERIMENTS {
             return Ok(Answer::Fault(Cause::TooMany));
         }
         if self.place_of(name).is_some() {

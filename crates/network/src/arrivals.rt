@@ -465,14 +465,14 @@ impl Network {
     {
         match known {
             Some(route) => self.pass_by_route(shelf, owner, at, route, packet),
-            None => self.search_behind(shelf, owner, at, *packet),
+            None => self.search_after(shelf, owner, at, *packet),
         }
     }
 
     // The same by a search.
     #[tactic(auto, using(crate::proofs::RouteFacts::known_searched))]
     #[inline(never)]
-    fn search_behind<S: Shelf>(
+    fn search_after<S: Shelf>(
         &mut self,
         shelf: &mut S,
         owner: Owner,

@@ -32,7 +32,7 @@ use traffic::Sending;
 
 /// How many records an event makes at most, besides a line for each thing that is listed or dropped
 /// with others, and one that tells of the last step.
-pub(crate) const MOST_RECORDS: usize = 6;
+pub(crate) const MAX_RECORDS: usize = 6;
 
 // Records that packets were dropped, in order.
 pub(crate) fn note_drops(log: &mut RecordLog, now: u64, packets: &[Packet], cause: DropCause)
@@ -74,7 +74,7 @@ impl Network {
         ensures frame { Frame result owner (S.pocket shelf.old) (S.pocket shelf.new)
             self.old self.new }
     {
-        self.reserve(MOST_RECORDS)?;
+        self.reserve(MAX_RECORDS)?;
         let source = due.source;
         match source.class {
             Class::NextCommand => Ok(()),

@@ -6,7 +6,7 @@ ghost use Rattle.packet_store.specs.Pocket.{Pocket};
 ghost use Rattle.network.specs.Kept.{net_of, net_keys};
 ghost use Rattle.network.specs.Changes.{IsStill, Notes};
 
-use crate::events::MOST_RECORDS;
+use crate::events::MAX_RECORDS;
 use crate::flow_cache::FlowCache;
 use emu_model::{Packet, Record};
 use emu_rules::RuleList;
@@ -116,7 +116,7 @@ impl Network {
         ensures forgot { OnOk result (self.new.flow_cache ≡ []) }
         ensures succeeds { 6 ≤ self.old.log.spare → IsOk result }
     {
-        self.reserve(MOST_RECORDS)?;
+        self.reserve(MAX_RECORDS)?;
         self.flow_cache.clear();
         Ok(())
     }

@@ -388,7 +388,7 @@ impl PipeTable {
         ensures keys { pipe_keys self.new.pipes ≡ pipe_keys self.old.pipes }
         ensures err { OnErr result (self.new ≡ self.old) }
     {
-        if MOST_PIPES <= self.pipes.len() {
+        if MAX_PIPES <= self.pipes.len() {
             return Err(ConfigureError::Refused(Refusal::TooManyPipes));
         }
         let Ok(()) = self.pipes.reserve(1) else {
@@ -472,4 +472,4 @@ impl PipeTable {
 }
 
 /// How many pipes there may be.
-const MOST_PIPES: usize = 64;
+const MAX_PIPES: usize = 64;

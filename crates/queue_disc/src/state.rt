@@ -12,7 +12,7 @@ use emu_model::CodelTime;
 use std::marker::Model;
 
 /// The greatest packet, in bytes: no more than that left behind is a short queue (our choice).
-const GREATEST_PACKET: u64 = 1500;
+const MAX_PACKET: u64 = 1500;
 
 /// Dropping began a short while ago within so many intervals.
 const RECENT_INTERVALS: u64 = 16;
@@ -39,7 +39,7 @@ impl Times {
     pub(crate) fn is_short(self, now: u64, stamp: u64, left: u64) -> bool
         ensures { result ≡ (nat_lt (now - stamp) self.target || nat_le left 1500) }
     {
-        now.saturating_sub(stamp) < self.target.get() || left <= GREATEST_PACKET
+        now.saturating_sub(stamp) < self.target.get() || left <= MAX_PACKET
     }
 }
 

@@ -11,7 +11,7 @@ use std::collections::VecDeque;
 use std::marker::Model;
 
 /// How many segments a receiver takes, far above what a flow sends: then no position wraps (our choice).
-const MOST_SEGMENTS: u64 = 4_294_967_296;
+const MAX_SEGMENTS: u64 = 4_294_967_296;
 
 /// Keeps which segments came: how many in order, and beside them only those past the first gap. A
 /// contract sees the first bytes of all of them, and how many more can come without memory.
@@ -113,7 +113,7 @@ fn is_full(in_order: u64, others: &VecDeque<u64>) -> bool
     requires { in_order ≤ most_segments }
     ensures { IsTrue result ↔ (most_segments ≤ in_order + length others.now.items) }
 {
-    in_order + others.len() as u64 >= MOST_SEGMENTS
+    in_order + others.len() as u64 >= MAX_SEGMENTS
 }
 
 // Takes out of `others` what follows in order on the first `count` segments, and answers how many

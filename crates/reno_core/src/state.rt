@@ -6,11 +6,11 @@ ghost use Rattle.emu_model.specs.Reno.{initial_sender, total_bytes, has_room, ha
 ghost use Rattle.reno_core.specs.States.{sender_of, sample_of};
 ghost use Rattle.reno_core.specs.Sound.{IsSound, IsFlow, IsEstimate};
 
-use crate::times::{Estimate, FIRST_RTO, MOST_RTO, Sample, nanoseconds};
+use crate::times::{Estimate, FIRST_RTO, MAX_RTO, Sample, nanoseconds};
 use emu_model::{FlowSpec, Timing};
 
 /// Where cwnd and duplicates stay (our choice).
-const GREATEST_WORD: u64 = 4_294_967_295;
+const MAX_WORD: u64 = 4_294_967_295;
 
 /// The least segment size for which a sender begins with three segments and not four (RFC 5681,
 /// section 3.1).
@@ -115,9 +115,9 @@ impl State {
         }
         let smss = segment_bytes(flow);
         if self.cwnd < self.ssthresh {
-            return (self.cwnd + count.min(smss)).min(GREATEST_WORD);
+            return (self.cwnd + count.min(smss)).min(MAX_WORD);
         }
-        (self.cwnd + (smss * smss / self.cwnd).max(1)).min(GREATEST_WORD)
+        (self.cwnd + (smss * smss / self.cwnd).max(1)).min(MAX_WORD)
     }
 
     /// The round trip that an acknowledgement of all bytes below `upto` completes.
@@ -184,7 +184,7 @@ impl State {
         ensures { sender_of self.new ≡ enter_recovery flow.now (sender_of self.old) }
     {
         self.ssthresh = self.halved_ssthresh(flow);
-        self.cwnd = (self.ssthresh + 3 * segment_bytes(flow)).min(GREATEST_WORD);
+        self.cwnd = (self.ssthresh + 3 * segment_bytes(flow)).min(MAX_WORD);
         self.resend = true;
         self.recovery = true;
         self.sample = None;
@@ -195,9 +195,9 @@ impl State {
         requires sound { IsSound flow.now (sender_of self.old) }
         ensures { sender_of self.new ≡ ack_duplicate flow.now (sender_of self.old) }
     {
-        self.duplicates = (self.duplicates + 1).min(GREATEST_WORD);
+        self.duplicates = (self.duplicates + 1).min(MAX_WORD);
         if self.recovery {
-            self.cwnd = (self.cwnd + segment_bytes(flow)).min(GREATEST_WORD);
+            self.cwnd = (self.cwnd + segment_bytes(flow)).min(MAX_WORD);
         } else if self.duplicates == 3 {
             self.enter_recovery(flow);
         }
@@ -247,7 +247,7 @@ impl State {
         self.recovery = false;
         self.resend = false;
         self.backed_off = true;
-        self.rto = (2 * self.rto).min(MOST_RTO);
+        self.rto = (2 * self.rto).min(MAX_RTO);
         self.timer = Some(now + self.rto);
         self.sample = None; // its segment may be sent again
     }

@@ -17,7 +17,7 @@ pub(crate) const FIRST_RTO: u64 = 1_000_000_000;
 pub(crate) const LEAST_RTO: u64 = 1_000_000_000;
 
 /// The longest retransmission time, in nanoseconds (RFC 6298, section 2.5).
-pub(crate) const MOST_RTO: u64 = 60_000_000_000;
+pub(crate) const MAX_RTO: u64 = 60_000_000_000;
 
 /// A segment whose acknowledgement is timed: its end, and the moment (ns) at which it was sent.
 #[derive(Clone, Copy)]
@@ -59,7 +59,7 @@ impl Estimate {
         ensures { result ≡ estimated_timeout (estimate_of self) }
     {
         let time = self.srtt + (4 * self.rttvar).max(1);
-        time.max(LEAST_RTO).min(MOST_RTO)
+        time.max(LEAST_RTO).min(MAX_RTO)
     }
 }
 

@@ -19,5 +19,5 @@ pub use mail::Mail;
 pub use many_turns::many_turns_are_turns;
 pub use parcel::{Parcel, Unopened};
 pub use posts::{PostError, Vacant};
-pub use shard::{MOST_RESIDENTS, PackError, Polled, Shard, TakeInError, Turned};
+pub use shard::{MAX_RESIDENTS, PackError, Polled, Shard, TakeInError, Turned};
 pub use watch::{Unwatched, Watch};

@@ -22,7 +22,7 @@ use std::mem;
 use timer_wheel::Agenda;
 
 /// How many residents a shard may have.
-pub const MOST_RESIDENTS: usize = 256;
+pub const MAX_RESIDENTS: usize = 256;
 
 /// The agenda's time begins anew once its clock is this far (ns), so that it stays below 2^63.
 const LATEST_CLOCK: u64 = 1 << 62;
@@ -112,8 +112,8 @@ impl<A: Agenda, M: Mail> Shard<A, M> {
         ensures clock { IfOk result (λ s. s.clock ≡ clock) }
     {
         let mut slots = Vec::new(alloc);
-        slots.reserve(MOST_RESIDENTS)?;
-        for _ in 0..MOST_RESIDENTS {
+        slots.reserve(MAX_RESIDENTS)?;
+        for _ in 0..MAX_RESIDENTS {
             slots.push_reserved(None);
         }
         Ok(Shard {
@@ -373,7 +373,7 @@ fn begin_all_anew<A: Agenda, M: Mail>(slots: &mut Vec<Option<Resident<M>>>, agen
         → HasBegun M.seen pockets (A.entries agenda.new) clock slots.old.items slots.new.items 256 }
     ensures time { A.time agenda.new ≡ 0 }
 {
-    for slot in 0..MOST_RESIDENTS {
+    for slot in 0..MAX_RESIDENTS {
         let Some(resident) = &mut slots[slot] else {
             continue;
         };

@@ -11,7 +11,7 @@ use std::alloc::Global;
 use world::{Did, Place, Step};
 
 /// More rounds than any scenario takes to its end.
-const MOST_ROUNDS: u32 = 100_000_000;
+const MAX_ROUNDS: u32 = 100_000_000;
 
 /// How many commands may wait at once.
 const MAIL: u32 = 64;
@@ -282,7 +282,7 @@ fn finish<W: Stage>(
     list: u32,
     tally: &mut Tally,
 ) -> Result<(), Fault> {
-    for _ in 0..MOST_ROUNDS {
+    for _ in 0..MAX_ROUNDS {
         let mut left = false;
         for index in 0..guests.len() {
             if help(world, guests, name_of(index), tally)? {

@@ -26,7 +26,7 @@ use std::alloc::{AllocError, Global};
 use std::marker::Model;
 
 /// How many flows and trains there may be.
-const MOST_SOURCES: usize = 256;
+const MAX_SOURCES: usize = 256;
 
 /// Where a source stands among the flows or among the trains.
 #[derive(Clone, Copy)]
@@ -86,7 +86,7 @@ impl Traffic {
         if self.is_in_use(number) {
             return Some(Refusal::FlowThere);
         }
-        if self.flows.len() + self.trains.len() < MOST_SOURCES {
+        if self.flows.len() + self.trains.len() < MAX_SOURCES {
             return None;
         }
         Some(Refusal::TooManyFlows)

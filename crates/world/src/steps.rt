@@ -11,7 +11,7 @@ use shard::{ListMail, Parcel, Polled, Turned};
 use timer_wheel::Agenda;
 
 /// How many names may be made.
-const MOST_NAMES: usize = 1_000_000;
+const MAX_NAMES: usize = 1_000_000;
 
 /// A step of the workers: the next name is registered; a command is posted to a name; a name that is handed out is
 /// admitted to a shard; a shard makes a turn; a slot's resident is polled, or offered to its shard's deque; the front
@@ -103,7 +103,7 @@ impl<A: Agenda> World<A> {
         ensures { IsRegistered spec result self.old self.new }
     {
         let name = self.desks.len();
-        if name >= MOST_NAMES {
+        if name >= MAX_NAMES {
             return Did::Still;
         }
         let Ok(()) = self.desks.reserve(1) else {

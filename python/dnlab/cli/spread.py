@@ -13,7 +13,7 @@ from dnlab.io.origin import Origin, origin_of, write_beside
 from dnlab.io.outputs import with_name
 from dnlab.io.packed import unpacked
 from dnlab.io.scenario import Judged, read
-from dnlab.io.scenario_parts import MOST_BYTES, MOST_EXPERIMENTS, Plan
+from dnlab.io.scenario_parts import MOST_BYTES, MAX_EXPERIMENTS, Plan
 from dnlab.io.splitting import Fault, Part, experiments_in, heading_fault, lines_in, repeated, shares, texts_of
 from dnlab.processes import children, ending
 from dnlab.processes.crew import Crew
@@ -127,7 +127,7 @@ def counted(program: str, text: bytes) -> "Fault | tuple[int, int]":
 def judged(program: str, text: bytes, parts: Sequence[Part], names: set[str]) -> "Fault | tuple[int, int]":
     """The same of a text of any length: it is checked in as many texts as the program takes. A name that another text
     has is a fault too."""
-    if len(text) <= MOST_BYTES and len(parts) <= MOST_EXPERIMENTS:
+    if len(text) <= MOST_BYTES and len(parts) <= MAX_EXPERIMENTS:
         found = counted(program, text)
         return first_of(found, repeated(parts, names))
     head = Judged(text[:next(lines_in(text), (len(text), b"", 0))[0]], limited=False).fault

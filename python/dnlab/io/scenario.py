@@ -8,10 +8,10 @@ from contextlib import suppress
 from typing import Iterator, Optional, Union
 
 from dnlab.errors import Refused
-from dnlab.io.scenario_parts import MOST_BYTES, MOST_EXPERIMENTS, MOST_LINE, Command, Commands, Plan, Run, Sends
+from dnlab.io.scenario_parts import MOST_BYTES, MAX_EXPERIMENTS, MOST_LINE, Command, Commands, Plan, Run, Sends
 from dnlab.io.scenario_words import BadWord, Told, Words, command, experiment
 
-__all__ = ["Command", "Judged", "MOST_BYTES", "MOST_EXPERIMENTS", "MOST_LINE", "Plan", "Sends", "read"]
+__all__ = ["Command", "Judged", "MOST_BYTES", "MAX_EXPERIMENTS", "MOST_LINE", "Plan", "Sends", "read"]
 
 # Reading fewer injected packets than this by NumPy costs more than it saves, as NumPy itself must be loaded.
 MANY = 1000
@@ -85,7 +85,7 @@ class Judged:
     def begun(self, line: int, name: str, seed: int, budget: int, steps: int) -> Optional[str]:
         if self.is_open:
             return "noend"
-        if self.limited and len(self.experiments) == MOST_EXPERIMENTS:
+        if self.limited and len(self.experiments) == MAX_EXPERIMENTS:
             return "toomany"
         if name in self.names:
             return "samename"

@@ -8,7 +8,7 @@ if TYPE_CHECKING:
 
 MOST_BYTES = 16777216
 MOST_LINE = 512
-MOST_EXPERIMENTS = 256
+MAX_EXPERIMENTS = 256
 CAUSES = ("toobig", "cut", "toolong", "badbyte", "badword", "outofrange", "noend", "toomany", "samename",
           "noexperiment", "afterend", "backwards")
 NUMBER = r"(?:0|[1-9][0-9]{0,19})"

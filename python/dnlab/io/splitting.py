@@ -2,7 +2,7 @@
 from typing import Iterable, Iterator, NamedTuple, Optional, Sequence
 
 from dnlab.io.scenario import Judged
-from dnlab.io.scenario_parts import MOST_BYTES, MOST_EXPERIMENTS
+from dnlab.io.scenario_parts import MOST_BYTES, MAX_EXPERIMENTS
 
 
 class Part(NamedTuple):
@@ -62,7 +62,7 @@ def texts_of(parts: Sequence[Part]) -> list[list[Part]]:
     found: list[list[Part]] = []
     size = 0
     for part in parts:
-        if not found or len(found[-1]) == MOST_EXPERIMENTS or size + len(part.text) > MOST_BYTES:
+        if not found or len(found[-1]) == MAX_EXPERIMENTS or size + len(part.text) > MOST_BYTES:
             found.append([])
             size = 0
         found[-1].append(part)

@@ -14,7 +14,7 @@ from dnlab.io.packed import unpacked
 from dnlab.io.pieces import pieces
 from dnlab.io.report_bound import most_report
 from dnlab.io.scenario import read
-from dnlab.io.scenario_parts import MOST_BYTES, MOST_EXPERIMENTS
+from dnlab.io.scenario_parts import MOST_BYTES, MAX_EXPERIMENTS
 from dnlab.io.splitting import experiments_in, texts_of
 from dnlab.processes import children
 from dnlab.processes.rooms import Room
@@ -143,7 +143,7 @@ def _origin(data: bytes, report: BinaryIO, runner: _Runner) -> Origin:
 
 def _parts(data: bytes) -> Iterator[tuple[int, bytes]]:
     """The texts that the program takes one at a time, with the number of lines before each."""
-    if len(data) <= MOST_BYTES and data.count(b"\nexperiment ") < MOST_EXPERIMENTS:
+    if len(data) <= MOST_BYTES and data.count(b"\nexperiment ") < MAX_EXPERIMENTS:
         yield 0, data
         return
     for one in texts_of(experiments_in([data])):

@@ -13,7 +13,7 @@ from dnlab.analysis.stats import USUAL, Ask, merged, stats_given
 from dnlab.analysis.work import cores
 from dnlab.errors import Failed, Faulty
 from dnlab.io.scenario import read
-from dnlab.io.scenario_parts import MOST_BYTES, MOST_EXPERIMENTS, Plan
+from dnlab.io.scenario_parts import MOST_BYTES, MAX_EXPERIMENTS, Plan
 from dnlab.io.splitting import lines_in, names_of
 from dnlab.plot import names
 from dnlab.processes import ending
@@ -142,7 +142,7 @@ class Sweep(Swept):
             if found is not None:
                 self.found[case.name] = found
                 continue
-            if len(texts) == MOST_EXPERIMENTS or size + len(text) > MOST_BYTES:
+            if len(texts) == MAX_EXPERIMENTS or size + len(text) > MOST_BYTES:
                 self.check_texts(texts, program)
                 texts, size = [], 0
             texts.append((case, text))

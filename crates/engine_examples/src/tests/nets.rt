@@ -9,7 +9,7 @@ ghost use Rattle.packet_store.specs.Own.{own_pocket};
 
 mod traces;
 
-use crate::tests::wants::{assert_records, assert_same, assert_told};
+use crate::tests::wants::{assert_records, assert_same, assert_with_message};
 use emu_model::{
     Action, Amount, Bandwidth, Class, Command, Delay, Discipline, DropCause, Due, EventContext,
     FlowNumber, FlowSpec, Gap, Load, LossRate, Mask, PacketBudget, PipeConfig, PipeNumber, Prefix,
@@ -605,7 +605,7 @@ fn steps_are_spent(rt: HostRuntime) {
         Record::StepsSpent { moment: 0 },
     ];
     let Some(mut net) = opens(rt.alloc()) else {
-        return assert_told(&rt, false, "memory");
+        return assert_with_message(&rt, false, "memory");
     };
     let mut shelf = OwnShelf::new(rt.alloc(), room);
     assert!(rt; obeys(&mut net, &mut shelf, room, 0, 0, &Command::Show));

@@ -2,13 +2,13 @@
 
 use super::workers::run_by_workers;
 use super::*;
-use shard::MOST_RESIDENTS;
+use shard::MAX_RESIDENTS;
 use std::alloc::AllocError;
 
 // An experiment for each number, which ends at that moment.
 fn scenario(alloc: Global) -> Result<String, AllocError> {
     let mut text = String::new(alloc);
-    for k in 0..MOST_RESIDENTS {
+    for k in 0..MAX_RESIDENTS {
         let lines = format!(in alloc; "experiment e{k} seed 0 budget 1\n@{k} end\n")?;
         text.push_str(lines.as_str())?;
     }
@@ -18,7 +18,7 @@ fn scenario(alloc: Global) -> Result<String, AllocError> {
 // Their reports.
 fn reports(alloc: Global) -> Result<String, AllocError> {
     let mut text = String::new(alloc);
-    for k in 0..MOST_RESIDENTS {
+    for k in 0..MAX_RESIDENTS {
         let lines = format!(in alloc;
             "experiment e{k}\n{k} ok 0\ncounters 0 0 0 0 0 0 0 0 0 0 0\n"
         )?;

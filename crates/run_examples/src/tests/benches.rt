@@ -185,7 +185,7 @@ fn strange_dossier_of<K: Kit>(rt: &(impl Abort + AllocGlobal)) {
     ends::<K>(rt, &mut one, 7, None);
     let of_zero = end_resident::<K>(rt, &mut bench, 0, 0);
     let of_one = end_resident::<K>(rt, &mut bench, 1, 1);
-    let (zero, of_one) = strangers::<K>(rt, zero, of_one);
+    let (zero, of_one) = isolation::<K>(rt, zero, of_one);
     assert_same(rt, K::name(&zero), 0);
     assert_same(rt, K::posted_len(&zero), 1);
     assert_same(rt, K::ended_name(&of_one), 1);

@@ -9,18 +9,18 @@ mod desk;
 mod refusals;
 mod turns;
 
-use crate::tests::wants::{assert_same, assert_told};
+use crate::tests::wants::{assert_same, assert_with_message};
 use agendas::{Anew, GivesUp};
 use calls::{
     Desk, Host, advance, arrive, counts_of, is_crowded, pack, packs_nobody, poll, put, seen_back,
     seen_in, slot_of, take_in,
 };
 use desk::{
-    Guest, MOST_TURNS, Move, attend, host, invite, invite_all, parcel, post, settle, settle_all,
+    Guest, MAX_TURNS, Move, attend, host, invite, invite_all, parcel, post, settle, settle_all,
     turn,
 };
 use emu_model::Command;
-use shard::{ListMail, MOST_RESIDENTS, Polled, Shard, Turned};
+use shard::{ListMail, MAX_RESIDENTS, Polled, Shard, Turned};
 use std::alloc::{AllocError, Global};
 use std::mem;
 use std::process::Abort;
@@ -35,11 +35,11 @@ fn answers(
     guests: &[Guest],
 ) -> Result<(), AllocError> {
     let Some(guest) = guests.first() else {
-        assert_told(rt, false, "no guest");
+        assert_with_message(rt, false, "no guest");
         return Ok(());
     };
     let Some(config) = guest.commands().first() else {
-        assert_told(rt, false, "no command");
+        assert_with_message(rt, false, "no command");
         return Ok(());
     };
     assert_same(rt, config.moment, 0);
@@ -129,7 +129,7 @@ fn moves<A: Agenda, B: Agenda>(
     name: u32,
 ) -> Result<(), AllocError> {
     let Some(slot) = slot_of(here, name) else {
-        assert_told(rt, false, "nobody to be moved");
+        assert_with_message(rt, false, "nobody to be moved");
         return Ok(());
     };
     let found = hand_over(here, there, slot).ok_or(AllocError)?;
@@ -176,7 +176,7 @@ fn goes<A: Agenda>(
     let mut moved = 0u64;
     let mut refused = 0u64;
     let mut ended = 0u64;
-    for _ in 0..MOST_TURNS {
+    for _ in 0..MAX_TURNS {
         if ended == 3 {
             return Ok(Way { moved, refused });
         }
@@ -196,7 +196,7 @@ fn goes<A: Agenda>(
             Move::Idle => mem::swap(here, there),
         }
     }
-    assert_told(rt, false, "not ended");
+    assert_with_message(rt, false, "not ended");
     Ok(Way { moved, refused })
 }
 
@@ -332,7 +332,7 @@ fn seats(
 
 // Fills a shard, and has one guest more before its door.
 fn crowds(rt: &(impl Abort + AllocGlobal), shard: &mut Desk) -> Result<(), AllocError> {
-    for slot in 0..MOST_RESIDENTS {
+    for slot in 0..MAX_RESIDENTS {
         let name = u32::try_from(slot).unwrap_or(0);
         assert_same(rt, seats(rt, shard, name)?, slot);
     }
@@ -378,7 +378,7 @@ fn left_by(turned: &Turned<ListMail>) -> Option<(usize, u64)> {
 fn ends_unread(rt: &(impl Abort + AllocGlobal), shard: &mut Desk) -> Result<(), AllocError> {
     let mut guests = invite_all(rt, 0, &[(LONG, "")])?;
     settle_all(rt.alloc(), shard, guests.as_slice())?;
-    for _ in 0..MOST_TURNS {
+    for _ in 0..MAX_TURNS {
         attend(rt, shard, guests.as_mut_slice(), false);
         let turned = advance(shard);
         let left = left_by(&turned);
@@ -389,7 +389,7 @@ fn ends_unread(rt: &(impl Abort + AllocGlobal), shard: &mut Desk) -> Result<(), 
             return Ok(());
         }
     }
-    assert_told(rt, false, "not ended");
+    assert_with_message(rt, false, "not ended");
     Ok(())
 }
 
@@ -417,14 +417,14 @@ fn flood_shard(
     neighbour: &mut [Guest],
 ) -> Result<(), AllocError> {
     settle_all(rt.alloc(), shard, neighbour)?;
-    for _ in 0..MOST_TURNS {
+    for _ in 0..MAX_TURNS {
         if record_count(shard, 0) == HELD {
             return Ok(());
         }
         attend(rt, shard, neighbour, false);
         assert_same(rt, turn(rt, shard, neighbour)?, Move::Ran(1));
     }
-    assert_told(rt, false, "not flooded");
+    assert_with_message(rt, false, "not flooded");
     Ok(())
 }
 

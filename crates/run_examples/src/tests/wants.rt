@@ -8,6 +8,6 @@ pub fn assert_same<T: Debug + Drop + PartialEq>(rt: &impl Abort, given: T, wante
 }
 
 /// What holds is told where it doesn't.
-pub fn assert_told(rt: &impl Abort, holds: bool, what: &str) {
+pub fn assert_with_message(rt: &impl Abort, holds: bool, what: &str) {
     assert!(rt; holds, "{what}");
 }

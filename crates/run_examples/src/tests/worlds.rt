@@ -7,7 +7,7 @@ mod refusals;
 use crate::tests::wants::assert_same;
 use calls::{Stage, counts_of, run, step};
 use desk::{
-    Guest, MOST_ROUNDS, finish, invite, invite_all, next_post, post_all, register, reports_of_ended,
+    Guest, MAX_ROUNDS, finish, invite, invite_all, next_post, post_all, register, reports_of_ended,
 };
 use emu_model::Spec;
 use rand_chacha::ChaCha20Rng;
@@ -188,7 +188,7 @@ fn goes_on<W: Stage>(world: &mut W, shard: usize, slot: usize) -> Result<(), All
 // often it moved.
 fn travels_in<W: Stage>(world: &mut W) -> Result<u64, AllocError> {
     let mut moved = 0u64;
-    for _ in 0..MOST_ROUNDS {
+    for _ in 0..MAX_ROUNDS {
         attend(world, 1)?;
         attend(world, 2)?;
         let Some(Place::Resident { shard, slot }) = world.place_of(0) else {
@@ -256,7 +256,7 @@ fn floods<W: Stage>(world: &mut W) -> Result<(), AllocError> {
         step(world, Step::Turn { shard: 0 })?;
     }
     let many = [Step::Turn { shard: 0 }; 100];
-    for _ in 0..MOST_ROUNDS {
+    for _ in 0..MAX_ROUNDS {
         let (records, _) = counts_of(world, 0);
         if records >= HELD {
             return Ok(());
@@ -273,7 +273,7 @@ fn floods<W: Stage>(world: &mut W) -> Result<(), AllocError> {
 // Turns a shard of two residents until the second one has ended.
 fn turns_beside<W: Stage>(world: &mut W) -> Result<(), AllocError> {
     let round = [Step::Poll { shard: 0, slot: 1 }, Step::Turn { shard: 0 }];
-    for _ in 0..MOST_ROUNDS {
+    for _ in 0..MAX_ROUNDS {
         if world.place_of(1) == Some(Place::Ended) {
             break;
         }

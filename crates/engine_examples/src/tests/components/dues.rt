@@ -1,4 +1,4 @@
-use crate::tests::wants::{assert_same, assert_told};
+use crate::tests::wants::{assert_same, assert_with_message};
 use due_index::{DueIndex, DueNumber};
 use emu_model::{Class, Due, Source};
 use std::process::Abort;
@@ -14,7 +14,7 @@ fn due(moment: u64, class: Class, number: u32) -> Option<Due> {
 fn pushes(rt: &impl Abort, index: &mut DueIndex, due: Option<Due>) {
     let before = index.len();
     if index.push_ready().is_err() {
-        assert_told(rt, index.len() == before, "it has changed");
+        assert_with_message(rt, index.len() == before, "it has changed");
         index.push_ready().expect(rt, "memory");
     }
     index.push(DueNumber::of(due));

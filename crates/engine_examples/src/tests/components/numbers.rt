@@ -1,4 +1,4 @@
-use crate::tests::wants::{assert_same, assert_told};
+use crate::tests::wants::{assert_same, assert_with_message};
 use due_index::NumberTable;
 use std::process::Abort;
 
@@ -7,7 +7,7 @@ use std::process::Abort;
 fn leads(rt: &impl Abort, table: &mut NumberTable, number: u16, place: u16) {
     let before = around(table, number);
     if table.make_room(number).is_err() {
-        assert_told(rt, around(table, number) == before, "it has changed");
+        assert_with_message(rt, around(table, number) == before, "it has changed");
         table.make_room(number).expect(rt, "memory");
     }
     table.set(number, usize::from(place));

@@ -259,7 +259,7 @@ fn codel_begins_again_after_it_ended(rt: HostRuntime) {
 /// such end.
 fn fill(alloc: Global, blocks: &mut Vec<Vec<u64>>) -> bool {
     let mut words: usize = 1 << 43;
-    for _ in 0..MOST_BLOCKS {
+    for _ in 0..MAX_BLOCKS {
         match Vec::with_capacity(alloc, words) {
             Ok(block) => {
                 if blocks.push(block).is_err() {
@@ -273,7 +273,7 @@ fn fill(alloc: Global, blocks: &mut Vec<Vec<u64>>) -> bool {
     false
 }
 
-const MOST_BLOCKS: usize = 60_000;
+const MAX_BLOCKS: usize = 60_000;
 
 /// A queue of each kind: `dropping` is above its target since 0, and drops at 300 ms.
 fn queues_refuse(
@@ -314,7 +314,7 @@ fn memory_that_runs_out_changes_nothing(rt: HostRuntime) {
     let mut dropping = codel(&rt);
     come(&rt, &mut dropping, 0, 4, 0);
     assert_holds!(&rt; dropping.dequeue(100 * MILLISECOND).is_ok());
-    let mut blocks = Vec::with_capacity(rt.alloc(), MOST_BLOCKS).expect(&rt, "memory");
+    let mut blocks = Vec::with_capacity(rt.alloc(), MAX_BLOCKS).expect(&rt, "memory");
     let filled = fill(rt.alloc(), &mut blocks);
     if filled {
         queues_refuse(&rt, &mut tail, &mut fresh, &mut dropping);

@@ -1,7 +1,7 @@
 ghost use Rattle.std.specs.Prelude.{◌*◌, ◌<◌};
 ghost use Rattle.emu_model.specs.Moments.{IsMoment};
 
-use crate::tests::wants::{assert_same, assert_told};
+use crate::tests::wants::{assert_same, assert_with_message};
 use emu_model::{Amount, FlowSpec, SegmentSize, Threshold, Timeout, Timing, Window};
 use reno_core::{Receiver, Sender};
 use std::process::Abort;
@@ -45,7 +45,7 @@ fn sends(rt: &impl Abort, sender: &mut Sender, now: u64, firsts: &[u64])
     for first in firsts {
         assert_same(rt, sent(sender, now), Some(*first));
     }
-    assert_told(rt, !sender.may_emit(), "no more");
+    assert_with_message(rt, !sender.may_emit(), "no more");
 }
 
 /// What an acknowledgement leaves as cwnd and ssthresh.
@@ -159,7 +159,7 @@ fn second_expiry_holds_the_threshold(rt: HostRuntime) {
 
 /// A segment that was made ready is acknowledged up to here.
 fn takes(rt: &impl Abort, receiver: &mut Receiver, first: u64, wanted: u64) {
-    assert_told(rt, receiver.take_ready(first).is_ok(), "memory");
+    assert_with_message(rt, receiver.take_ready(first).is_ok(), "memory");
     assert_same(rt, (first, receiver.take(first)), (first, Ok(wanted)));
 }
 

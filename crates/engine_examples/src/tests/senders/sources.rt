@@ -2,7 +2,7 @@ ghost use Rattle.std.specs.Prelude.{◌≡◌, ◌*◌, ◌<◌};
 ghost use Rattle.emu_model.specs.Moments.{IsMoment};
 ghost use Rattle.emu_model.specs.Dues.{due};
 
-use crate::tests::wants::{assert_same, assert_told};
+use crate::tests::wants::{assert_same, assert_with_message};
 use emu_model::{
     Amount, Class, Due, FlowNumber, FlowSpec, Gap, Load, Protocol, Refusal, SegmentSize, SendSpec,
     Size, Source, Threshold, Timing, TrainSpec, Window as Offered,
@@ -195,14 +195,14 @@ fn train_begins(rt: &impl Abort, traffic: &mut Traffic, now: u64, n: u16)
 /// A timer is due next, before a command, with this number and at this moment.
 fn timer_is_next(rt: &impl Abort, traffic: &Traffic, now: u64, end: u64, wanted: (u32, u64)) {
     let due = traffic.earliest(now, command(end));
-    assert_told(rt, due.source.class == Class::Expiry, "a timer");
+    assert_with_message(rt, due.source.class == Class::Expiry, "a timer");
     assert_same(rt, (due.source.number, due.moment), wanted);
 }
 
 /// Nothing is due before a command.
 fn command_is_next(rt: &impl Abort, traffic: &Traffic, now: u64, end: u64) {
     let due = traffic.earliest(now, command(end));
-    assert_told(rt, due.source.class == Class::NextCommand, "no timer runs");
+    assert_with_message(rt, due.source.class == Class::NextCommand, "no timer runs");
 }
 
 // The example of four segments over 10 ms each way, by its report.
@@ -235,14 +235,14 @@ fn stopped_flow_answers_and_sends_nothing(rt: HostRuntime) {
     windows(&rt, traffic.take_ack(21_200_000, one, 1460), (5840, 65535));
     traffic.stop(one);
     sends_segments(&rt, &mut traffic, 21_300_000, &[]);
-    assert_told(
+    assert_with_message(
         &rt,
         traffic.take_ack(22_400_000, one, 2920).is_none(),
         "it is stopped",
     );
     answers_upto(&rt, &mut traffic, 0, 1460);
-    assert_told(&rt, traffic.has_flow(one), "it is there");
-    assert_told(
+    assert_with_message(&rt, traffic.has_flow(one), "it is there");
+    assert_with_message(
         &rt,
         traffic.refusal(one) == Some(Refusal::FlowThere),
         "its number is in use",
@@ -345,10 +345,10 @@ fn train_sends_its_packets(rt: HostRuntime) {
     for now in [0, 5, 10] {
         thousand_is_sent(&rt, &mut traffic, now, one);
     }
-    assert_told(&rt, sends(&mut traffic, 10, 20).is_none(), "three are all");
+    assert_with_message(&rt, sends(&mut traffic, 10, 20).is_none(), "three are all");
     traffic.stop(one);
-    assert_told(&rt, !traffic.has_flow(one), "it is no flow");
-    assert_told(&rt, traffic.reply(one).is_none(), "it has no receiver");
+    assert_with_message(&rt, !traffic.has_flow(one), "it is no flow");
+    assert_with_message(&rt, traffic.reply(one).is_none(), "it has no receiver");
     drop(traffic);
 }
 
@@ -378,10 +378,10 @@ fn dues_stand_in_order(rt: HostRuntime) {
     flow_begins(&rt, &mut traffic, 1);
     train_begins(&rt, &mut traffic, 7, 2);
     let sent = sends(&mut traffic, 3, 4);
-    assert_told(&rt, sent.is_some(), "a segment");
+    assert_with_message(&rt, sent.is_some(), "a segment");
     let mut dues = Vec::new(rt.alloc());
     let added = traffic.add_dues(9, &mut dues).is_ok();
-    assert_told(&rt, added, "memory");
+    assert_with_message(&rt, added, "memory");
     let wanted = [
         due_of(Class::Expiry, 1, 3 + 1000 * MS),
         due_of(Class::Emission, 1, 9),
@@ -427,7 +427,7 @@ fn adds_dues(rt: &impl Abort, traffic: &Traffic, dues: &mut Vec<Due>) {
     let before = dues.len();
     if traffic.add_dues(0, dues).is_err() {
         assert_same(rt, dues.len(), before);
-        assert_told(rt, traffic.add_dues(0, dues).is_ok(), "at the second try");
+        assert_with_message(rt, traffic.add_dues(0, dues).is_ok(), "at the second try");
     }
 }
 

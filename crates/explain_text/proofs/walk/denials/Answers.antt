@@ -11,7 +11,7 @@ loop-number-preserved c =
     let next = c.index-commands-number.result in
     let here = at_next cs k next c.loop-number-test.true c.index-commands-number.is in
     let from : Stand = record { book = c.loop-number.ahead; left = drop c.loop-number.taken cs } in
-    let to : Stand = record { book = c.go_behind.new.rules; left = drop c.in_ok-taken.taken cs } in
+    let to : Stand = record { book = c.apply_until.new.rules; left = drop c.in_ok-taken.taken cs } in
     record {
       within = c.in_ok-taken.ensures.within;
       same = rw (c.in_ok-note_command.ensures, c.in_ok-apply.ensures) (denials_next c.args.flows k c.loop-number.rules from to (drop k cs) (drop (k + 1) cs) next c.loop-number.out.items here c.in_ok-taken.ensures.behind ∙ c.loop-number.invariant.same);

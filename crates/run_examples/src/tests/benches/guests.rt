@@ -103,7 +103,7 @@ pub fn settle<K: Kit>(
 }
 
 /// No outcome here has as many records.
-const MOST_RECORDS: usize = 100_000;
+const MAX_RECORDS: usize = 100_000;
 
 /// The report of an outcome.
 pub fn text_of<K: Kit>(
@@ -113,7 +113,7 @@ pub fn text_of<K: Kit>(
     let name = settled.plan.name.as_bytes();
     let counters = K::last(&settled.outcome).counters;
     let mut records = Vec::new(alloc);
-    for place in 0..MOST_RECORDS {
+    for place in 0..MAX_RECORDS {
         let Some(record) = K::record(&settled.outcome, place) else {
             break;
         };

@@ -17,7 +17,7 @@ use text_examples as texts;
 const GUESTS: u32 = 6;
 
 /// More rounds than it takes.
-const MOST_ROUNDS: u32 = 1000;
+const MAX_ROUNDS: u32 = 1000;
 
 // A parcel has the shape that it had before.
 fn has_shape(rt: &impl Abort, now: &Shape, shape: &Shape) {
@@ -312,7 +312,7 @@ fn refused_of<K: Kit>(rt: &(impl Abort + AllocGlobal)) {
     let (mut here, mut mine) = bench_and_peer::<K>(rt);
     let (mut there, mut theirs) = bench_and_peer::<K>(rt);
     let mut guests = seat_all::<K>(rt, &mut registry, &mut here).expect(rt, "memory");
-    for _ in 0..MOST_ROUNDS {
+    for _ in 0..MAX_ROUNDS {
         serve::<K>(rt, &mut here, guests.as_mut_slice());
         serve::<K>(rt, &mut there, guests.as_mut_slice());
         read_letters::<K>(rt, guests.as_mut_slice());

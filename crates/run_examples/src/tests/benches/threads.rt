@@ -18,7 +18,7 @@ const EXCHANGES: u64 = 100_000;
 const PACE: u64 = 40;
 
 /// More rounds than the threads take.
-const MOST_ROUNDS: u64 = 1_000_000_000;
+const MAX_ROUNDS: u64 = 1_000_000_000;
 
 /// A thread's bench, the thief's end of the other one's deque, and what it has done.
 #[derive(Drop)]
@@ -106,7 +106,7 @@ fn work<K: Kit>(
         events: 0,
         exchanges: 0,
     };
-    for round in 0..MOST_ROUNDS {
+    for round in 0..MAX_ROUNDS {
         if ended.load(Ordering::SeqCst) >= GUESTS as u64 {
             break;
         }

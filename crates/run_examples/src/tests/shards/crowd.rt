@@ -2,7 +2,7 @@
 
 use super::turns::{Lists, Was, consumed_count, parcel, put, turn_once};
 use crate::tests::wants::assert_same;
-use shard::{MOST_RESIDENTS, PackError, Polled};
+use shard::{MAX_RESIDENTS, PackError, Polled};
 use std::alloc::Global;
 use std::process::Abort;
 use std::test::Fail;
@@ -17,7 +17,7 @@ fn name_at(slot: usize) -> u32 {
 
 // Fills a shard; None where memory was refused.
 fn fill(rt: &impl Abort, alloc: Global, shard: &mut Lists) -> Option<()> {
-    for slot in 0..MOST_RESIDENTS {
+    for slot in 0..MAX_RESIDENTS {
         let parcel = parcel(alloc, name_at(slot))?;
         assert_same(rt, shard.take_in(parcel).ok()?, slot);
     }
@@ -26,14 +26,14 @@ fn fill(rt: &impl Abort, alloc: Global, shard: &mut Lists) -> Option<()> {
 
 // Gives each resident one command, of which the last slot's comes first.
 fn posts_to_each(rt: &impl Abort, shard: &mut Lists) {
-    for slot in 0..MOST_RESIDENTS {
+    for slot in 0..MAX_RESIDENTS {
         assert_same(rt, shard.slot_of(name_at(slot)), Some(slot));
         assert_same(rt, consumed_count(shard, slot), Some(0));
         assert_same(rt, shard.poll(slot), Polled::Empty(name_at(slot)));
-        let moment = u16::try_from(MOST_RESIDENTS - slot).unwrap_or(0);
+        let moment = u16::try_from(MAX_RESIDENTS - slot).unwrap_or(0);
         assert_holds!(rt; put(shard, slot, moment).is_ok());
     }
-    for slot in 0..MOST_RESIDENTS {
+    for slot in 0..MAX_RESIDENTS {
         assert_same(rt, shard.poll(slot), Polled::Took(name_at(slot)));
         assert_same(rt, shard.poll(slot), Polled::Held(name_at(slot)));
         assert_same(rt, consumed_count(shard, slot), Some(1));
@@ -47,8 +47,8 @@ fn record_count(shard: &Lists, slot: usize) -> usize {
 
 // Each turn is of the slot whose command comes next, and of no other.
 fn turns_each(rt: &impl Abort, shard: &mut Lists) {
-    for before in 0..MOST_RESIDENTS {
-        let slot = MOST_RESIDENTS - 1 - before;
+    for before in 0..MAX_RESIDENTS {
+        let slot = MAX_RESIDENTS - 1 - before;
         assert_same(rt, record_count(shard, slot), 0);
         assert_same(rt, turn_once(shard), Was::Ran(name_at(slot)));
         assert_same(rt, record_count(shard, slot), 1);
@@ -60,7 +60,7 @@ fn turns_each(rt: &impl Abort, shard: &mut Lists) {
 
 // Each resident is packed by its own slot, and comes back to it: it alone is vacant.
 fn moves_each(rt: &impl Abort, shard: &mut Lists) {
-    for slot in 0..MOST_RESIDENTS {
+    for slot in 0..MAX_RESIDENTS {
         let Ok(parcel) = shard.pack(slot) else {
             // One allocation was refused, and no more.
             continue;

@@ -1,7 +1,7 @@
 //! What the examples share: guests of a shard, whose commands are posted to it in their order.
 
 use super::calls::{Host, advance, poll, put, read, slot_of, take_in};
-use crate::tests::wants::{assert_same, assert_told};
+use crate::tests::wants::{assert_same, assert_with_message};
 use control::{Experiment as Plan, ParseError, parse_scenario};
 use emu_model::Timed;
 use report::report_text;
@@ -14,7 +14,7 @@ use timer_wheel::Agenda;
 const LETTERS: usize = 64;
 
 /// More turns than any of the examples takes.
-pub const MOST_TURNS: u32 = 1_000_000;
+pub const MAX_TURNS: u32 = 1_000_000;
 
 /// An experiment of a text, the name that it has on the shards, how many of its commands were posted, and the report
 /// that is wanted of it.
@@ -208,7 +208,7 @@ pub fn host<A: Agenda>(
     reads: bool,
 ) -> Result<(), AllocError> {
     let mut ended = 0usize;
-    for _ in 0..MOST_TURNS {
+    for _ in 0..MAX_TURNS {
         if ended == guests.len() {
             return Ok(());
         }
@@ -217,7 +217,7 @@ pub fn host<A: Agenda>(
             ended = ended.saturating_add(1);
         }
     }
-    assert_told(rt, false, "not ended");
+    assert_with_message(rt, false, "not ended");
     Ok(())
 }
 

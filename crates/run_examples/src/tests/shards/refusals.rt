@@ -5,9 +5,9 @@ use super::calls::{
     take_in_again,
 };
 use super::desk::{
-    Guest, MOST_TURNS, Move, has_lines, has_report, invite_all, parcel, post, read_all,
+    Guest, MAX_TURNS, Move, has_lines, has_report, invite_all, parcel, post, read_all,
 };
-use crate::tests::wants::{assert_same, assert_told};
+use crate::tests::wants::{assert_same, assert_with_message};
 use emu_model::Ending;
 use shard::{Dossier, ListMail, PackError, Parcel, Polled, Turned};
 use std::alloc::AllocError;
@@ -35,13 +35,13 @@ fn takes_in(rt: &impl Abort, shard: &mut Desk, parcel: Parcel<ListMail>, road: &
     let before = seen_in(&parcel);
     let name = parcel.name();
     let answer = arrive(shard, parcel);
-    assert_told(rt, !is_crowded(&answer), "crowded");
+    assert_with_message(rt, !is_crowded(&answer), "crowded");
     if answer.is_err() {
         road.refuses();
-        assert_told(rt, seen_back(&answer) == Some(before), "another parcel");
+        assert_with_message(rt, seen_back(&answer) == Some(before), "another parcel");
         assert_holds!(rt; slot_of(shard, name).is_none());
     }
-    assert_told(rt, take_in_again(shard, answer).is_some(), "refused again");
+    assert_with_message(rt, take_in_again(shard, answer).is_some(), "refused again");
 }
 
 // Packs the first guest. Refused memory, it stays as it was, and is packed then.
@@ -66,11 +66,11 @@ fn packs(
 // Has the first guest go from one shard to the other.
 fn moves(rt: &impl Abort, here: &mut Desk, there: &mut Desk, road: &mut Road) {
     let Some(slot) = slot_of(here, 0) else {
-        assert_told(rt, false, "nobody to be moved");
+        assert_with_message(rt, false, "nobody to be moved");
         return;
     };
     let Some(parcel) = packs(rt, here, slot, road) else {
-        assert_told(rt, false, "refused again");
+        assert_with_message(rt, false, "refused again");
         return;
     };
     takes_in(rt, there, parcel, road);
@@ -90,7 +90,7 @@ fn attends(rt: &impl Abort, shard: &mut Desk, guests: &mut [Guest], road: &mut R
             Polled::NoMemory(_) => {
                 road.refuses();
                 assert_holds!(rt; counts_of(shard, slot) == before);
-                assert_told(
+                assert_with_message(
                     rt,
                     !matches!(poll(shard, slot), Polled::NoMemory(_)),
                     "refused again",
@@ -179,7 +179,7 @@ fn go(
         ended: 0,
     };
     opens(rt, here, there, guests, &mut road)?;
-    for turn in 0..MOST_TURNS {
+    for turn in 0..MAX_TURNS {
         if road.ended == 3 {
             return Ok(road.refused);
         }
@@ -196,7 +196,7 @@ fn go(
             Move::Idle => mem::swap(here, there),
         }
     }
-    assert_told(rt, false, "not ended");
+    assert_with_message(rt, false, "not ended");
     Ok(road.refused)
 }
 

@@ -1,7 +1,7 @@
 //! What the examples share: guests of a world, whose commands are posted in their order.
 
 use super::calls::{Stage, step};
-use crate::tests::wants::assert_told;
+use crate::tests::wants::assert_with_message;
 use control::{Experiment as Plan, ParseError, parse_scenario};
 use emu_model::Spec;
 use std::alloc::AllocError;
@@ -9,7 +9,7 @@ use std::process::Abort;
 use world::{Place, Step};
 
 /// More rounds than any of the examples takes.
-pub const MOST_ROUNDS: u32 = 1_000_000;
+pub const MAX_ROUNDS: u32 = 1_000_000;
 
 /// An experiment of a text, how many of its commands were posted, and its report.
 #[derive(Drop)]
@@ -128,7 +128,7 @@ pub fn finish<W: Stage>(
     world: &mut W,
     guests: &mut [Guest],
 ) -> Result<(), AllocError> {
-    for _ in 0..MOST_ROUNDS {
+    for _ in 0..MAX_ROUNDS {
         let mut left = false;
         for index in 0..guests.len() {
             if help(world, guests, name_of(index))? {
@@ -139,7 +139,7 @@ pub fn finish<W: Stage>(
             return Ok(());
         }
     }
-    assert_told(rt, false, "not ended");
+    assert_with_message(rt, false, "not ended");
     Ok(())
 }
 

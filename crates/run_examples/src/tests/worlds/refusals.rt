@@ -1,7 +1,7 @@
 //! Four guests on their way, of whom one allocation may be refused.
 
 use super::calls::{Sight, Stage, counted_run};
-use super::desk::{Guest, MOST_ROUNDS, invite_all, name_of, next_post, reports_of_ended};
+use super::desk::{Guest, MAX_ROUNDS, invite_all, name_of, next_post, reports_of_ended};
 use crate::tests::wants::assert_same;
 use std::alloc::AllocError;
 use std::process::Abort;
@@ -13,7 +13,7 @@ use world::{Place, Step, World};
 const GUESTS: u32 = 4;
 
 /// More commands than any of them has.
-const MOST_POSTS: u32 = 64;
+const MAX_POSTS: u32 = 64;
 
 // Four guests.
 fn four_guests(rt: &(impl Abort + AllocGlobal)) -> Result<Vec<Guest>, AllocError> {
@@ -85,7 +85,7 @@ fn settle<W: Stage>(rt: &impl Abort, world: &mut W, guests: &mut [Guest]) -> u64
     }
     for name in 0..GUESTS {
         met = met.saturating_add(insists(rt, world, &Step::Admit { name, shard: 0 }));
-        for _ in 0..MOST_POSTS {
+        for _ in 0..MAX_POSTS {
             let Some(post) = next_post(guests, name) else {
                 break;
             };
@@ -133,7 +133,7 @@ fn have_ended<W: Stage>(world: &W) -> bool {
 // All rounds that it takes.
 fn rounds<W: Stage>(rt: &impl Abort, world: &mut W) -> u64 {
     let mut met = 0u64;
-    for turn in 0..MOST_ROUNDS {
+    for turn in 0..MAX_ROUNDS {
         if have_ended(world) {
             return met;
         }

@@ -1,7 +1,7 @@
 //! Words at fault, by their numbers in the line, and what is said of them.
 
 use control::{Behind, Check, Expected, FlowSeen, FlowWord, RuleWord, blame, blame_behind};
-use explain_line::{byte_hint, hint, range_hint, wanted_at};
+use explain_line::{byte_hint, hint, range_hint, expected_at};
 use std::process::Abort;
 use std::test::*;
 
@@ -89,7 +89,7 @@ fn hints(rt: HostRuntime) {
         timing: false,
     };
     let option = Expected::Flow(FlowWord::Setting(seen));
-    assert!(rt; wanted_at(option, b"ssthresh").expected == "each option at most once");
+    assert!(rt; expected_at(option, b"ssthresh").expected == "each option at most once");
     assert!(rt; hint(option, b"ssthresh").is_none());
     let ports = Expected::Rule(RuleWord::LastPorts);
     assert!(rt;

@@ -20,7 +20,7 @@ invariant_of-self-3 c = (
   sound-by c.self.inside.seed (sym (c.in-Ok-insert.ensures.items ∙ (λ z. insert (c.reserve.ensures.items z) ((c.place_behind-place.ensures ∙ ap (position_or_len (is_above c.args.number)) c.reserve.ensures.items) z) c.new-pipe.result)))
       (sound-insert c.self.inside.seed c.args.number c.new-pipe.result c.self.inside.pipes.items
       (ap (λ (p : KeyedPipe). p.seed) c.new-pipe.ensures) (ap (λ (p : KeyedPipe). p.number) c.new-pipe.ensures) (rw (← c.self.view_is) at c.requires) c.self.invariant.0
-      (omega (arith, c.if-len-ge-MOST_PIPES.false, c.len.ensures, c.self.inside.pipes.ok.0))),
+      (omega (arith, c.if-len-ge-MAX_PIPES.false, c.len.ensures, c.self.inside.pipes.ok.0))),
   subst (λ ps. AreIndexed ps c.index_all.new.dues) c.deref.ensures.value c.index_all.ensures,
   subst (λ ps. AreLed ps c.lead_all.new.places) c.deref-2.ensures.value c.lead_all.ensures,
 )
@@ -56,7 +56,7 @@ lead_all-requires-clause-few c =
       ap (λ l. length l) (c.deref-2.ensures.value ∙ (c.in-Ok-insert.ensures.items ∙ (λ z. insert (c.reserve.ensures.items z) ((c.place_behind-place.ensures ∙ ap (position_or_len (is_above c.args.number)) c.reserve.ensures.items) z) c.new-pipe.result))),
       (sound-insert c.self.inside.seed c.args.number c.new-pipe.result c.self.inside.pipes.items
           (ap (λ (p : KeyedPipe). p.seed) c.new-pipe.ensures) (ap (λ (p : KeyedPipe). p.number) c.new-pipe.ensures) (rw (← c.self.view_is) at c.requires) c.self.invariant.0
-          (omega (arith, c.if-len-ge-MOST_PIPES.false, c.len.ensures, c.self.inside.pipes.ok.0))).1,
+          (omega (arith, c.if-len-ge-MAX_PIPES.false, c.len.ensures, c.self.inside.pipes.ok.0))).1,
     )
 
 pub lead_all-requires-clause-sorted : goal.lead_all-requires-clause-sorted
@@ -65,7 +65,7 @@ lead_all-requires-clause-sorted c = (
   subst (IsTable c.self.inside.seed 0) (sym (c.deref-2.ensures.value ∙ (c.in-Ok-insert.ensures.items ∙ (λ z. insert (c.reserve.ensures.items z) ((c.place_behind-place.ensures ∙ ap (position_or_len (is_above c.args.number)) c.reserve.ensures.items) z) c.new-pipe.result))))
       (sound-insert c.self.inside.seed c.args.number c.new-pipe.result c.self.inside.pipes.items
       (ap (λ (p : KeyedPipe). p.seed) c.new-pipe.ensures) (ap (λ (p : KeyedPipe). p.number) c.new-pipe.ensures) (rw (← c.self.view_is) at c.requires) c.self.invariant.0
-      (omega (arith, c.if-len-ge-MOST_PIPES.false, c.len.ensures, c.self.inside.pipes.ok.0))).0,
+      (omega (arith, c.if-len-ge-MAX_PIPES.false, c.len.ensures, c.self.inside.pipes.ok.0))).0,
 )
 
 pub lead_all-requires-clause-entries : goal.lead_all-requires-clause-entries

@@ -25,20 +25,20 @@ few_by t fs ts n is =
     let b = ap (λ (t : KeptTraffic). length t.trains) is in
     omega (arith, a, b, length-map t.flows (λ (f : KeptFlow). f.state))
 
-pub returns-then-len-lt-MOST_SOURCES-clause-refusal : goal.returns-then-len-lt-MOST_SOURCES-clause-refusal
-returns-then-len-lt-MOST_SOURCES-clause-refusal c = λ n.
+pub returns-then-len-lt-MAX_SOURCES-clause-refusal : goal.returns-then-len-lt-MAX_SOURCES-clause-refusal
+returns-then-len-lt-MAX_SOURCES-clause-refusal c = λ n.
     let used = sym (c.is_in_use.ensures n) ∙ c.if-is_in_use.false in
     let few = few_by c.args.self.now c.self.inside.flows.items c.self.inside.trains.items n c.self.view_is in
     let small : length (with_traffic c.args.self.now n).flows + length (with_traffic c.args.self.now n).trains < 256 =
-    omega (arith, few, c.len.ensures, c.len-2.ensures, c.self.inside.flows.ok.0, c.self.inside.trains.ok.0, c.if-len-lt-MOST_SOURCES.true) in
+    omega (arith, few, c.len.ensures, c.len-2.ensures, c.self.inside.flows.ok.0, c.self.inside.trains.ok.0, c.if-len-lt-MAX_SOURCES.true) in
     sym (ap (λ b. cond b (Some FlowThere) (rest_of c.args.self.now n)) used ∙ ap (λ b. cond b None (Some TooManyFlows)) (lt-ltb _ 256 small))
 
-pub returns-then-len-lt-MOST_SOURCES-clause-free : goal.returns-then-len-lt-MOST_SOURCES-clause-free
-returns-then-len-lt-MOST_SOURCES-clause-free c = λ n.
+pub returns-then-len-lt-MAX_SOURCES-clause-free : goal.returns-then-len-lt-MAX_SOURCES-clause-free
+returns-then-len-lt-MAX_SOURCES-clause-free c = λ n.
     let used = sym (c.is_in_use.ensures n) ∙ c.if-is_in_use.false in
     let few = few_by c.args.self.now c.self.inside.flows.items c.self.inside.trains.items n c.self.view_is in
     let small : length (with_traffic c.args.self.now n).flows + length (with_traffic c.args.self.now n).trains < 256 =
-    omega (arith, few, c.len.ensures, c.len-2.ensures, c.self.inside.flows.ok.0, c.self.inside.trains.ok.0, c.if-len-lt-MOST_SOURCES.true) in
+    omega (arith, few, c.len.ensures, c.len-2.ensures, c.self.inside.flows.ok.0, c.self.inside.trains.ok.0, c.if-len-lt-MAX_SOURCES.true) in
     ap (λ b. cond b (Some FlowThere) (rest_of c.args.self.now n)) used ∙ ap (λ b. cond b None (Some TooManyFlows)) (lt-ltb _ 256 small)
 
 pub returns-clause-refusal : goal.returns-clause-refusal
@@ -46,5 +46,5 @@ returns-clause-refusal c = λ n.
     let used = sym (c.is_in_use.ensures n) ∙ c.if-is_in_use.false in
     let few = few_by c.args.self.now c.self.inside.flows.items c.self.inside.trains.items n c.self.view_is in
     let large : 256 ≤ length (with_traffic c.args.self.now n).flows + length (with_traffic c.args.self.now n).trains =
-    omega (arith, few, c.len.ensures, c.len-2.ensures, c.self.inside.flows.ok.0, c.self.inside.trains.ok.0, c.if-len-lt-MOST_SOURCES.false) in
+    omega (arith, few, c.len.ensures, c.len-2.ensures, c.self.inside.flows.ok.0, c.self.inside.trains.ok.0, c.if-len-lt-MAX_SOURCES.false) in
     sym (ap (λ b. cond b (Some FlowThere) (rest_of c.args.self.now n)) used ∙ ap (λ b. cond b None (Some TooManyFlows)) (le-ltb _ 256 large))

@@ -2,7 +2,7 @@ use Rattle.std.proofs.Common.{◌≡◌, ◌+◌, ◌≤◌, length, get_or, dro
 use Rattle.std.proofs.lemmas.List.{length-drop}
 use Rattle.emu_model.specs.declared.commands.Timed.{Timed}
 use Rattle.explain_text.proofs.Behind.{at_read, behind_next, behind_stays, behind_ends}
-use Rattle.explain_text.proofs.rules.go_behind.Goals as goal
+use Rattle.explain_text.proofs.rules.apply_until.Goals as goal
 
 pub loop-next-preserved : goal.loop-next-preserved
 loop-next-preserved c =

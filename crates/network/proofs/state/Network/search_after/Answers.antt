@@ -2,7 +2,7 @@ use Rattle.std.proofs.Common.{sym, subst}
 use Rattle.emu_model.specs.Rules.{RuleBook, start_behind}
 use Rattle.network.specs.FlowCache.{AreKnown}
 use Rattle.network.proofs.RouteFacts.{known_searched}
-use Rattle.network.proofs.state.Network.search_behind.Goals as goal
+use Rattle.network.proofs.state.Network.search_after.Goals as goal
 
 pub invariant_of-self : goal.invariant_of-self
 invariant_of-self g c =

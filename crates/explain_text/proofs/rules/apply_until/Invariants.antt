@@ -1,6 +1,6 @@
 use Rattle.std.proofs.Common.{◌≡◌, ◌≤◌, ◌-◌, length, drop}
 use Rattle.explain_text.specs.Walk.{behind_of}
-use Rattle.explain_text.proofs.rules.go_behind.Given as goal
+use Rattle.explain_text.proofs.rules.apply_until.Given as goal
 
 -- what is left to be taken, from the rules so far, ends as all that was left
 abbrev pub invariant-loop-next : goal.invariant-loop-next
