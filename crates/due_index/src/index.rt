@@ -4,19 +4,19 @@ ghost use Rattle.std.specs.Prelude.{◌≡◌, ◌+◌, ◌-◌, ◌<◌, ◌≤
 ghost use Rattle.due_index.specs.Least.{least_of, dues_in};
 
 use crate::number::DueNumber;
-use crate::tree::{is_same, put};
+use crate::tree::{Path, is_same, put};
 use std::alloc::{AllocError, Global};
 use std::marker::Model;
 
-/// At each place a due or none, and the least of all. A contract sees the dues by place, and how many
-/// more places there can be without memory.
+/// A due or none at each place, and the first of all dues. Contracts see the dues by place, and how
+/// many places can be added without an allocation.
 #[derive(Drop)]
 pub struct DueIndex {
     alloc: Global,
     nodes: Vec<DueNumber>,
     half: usize,
     places: usize,
-    // The first node.
+    // The due of the root, node 1.
     least: DueNumber,
 }
 
@@ -37,7 +37,7 @@ impl Model for DueIndex {
 }
 
 impl DueIndex {
-    /// No places. Takes no memory.
+    /// Creates an index without places. Does not allocate.
     pub fn new(alloc: Global) -> Self
         ensures { result.leaves ≡ [] }
     {
@@ -50,7 +50,7 @@ impl DueIndex {
         }
     }
 
-    // No places, and room for so many.
+    // Creates an index without places that has room for `room` places.
     fn with_room(alloc: Global, room: usize) -> Result<Self, AllocError>
         ensures { IfOk result (λ d. d ≡ record { leaves = []; spare = room }) }
     {
@@ -68,14 +68,15 @@ impl DueIndex {
         })
     }
 
-    /// How many places there are.
+    /// Returns the number of places.
     pub fn len(&self) -> usize
         ensures { result ≡ length self.now.leaves }
     {
         self.places
     }
 
-    /// Makes the growth of one `push`. Only room grows; refused, nothing has changed.
+    /// Reserves memory for one `push`. Only spare capacity changes; if allocation fails, nothing
+    /// changes.
     pub fn push_ready(&mut self) -> Result<(), AllocError>
         ensures leaves { self.new.leaves ≡ self.old.leaves }
         ensures grows { self.old.spare ≤ self.new.spare }
@@ -94,7 +95,7 @@ impl DueIndex {
         Ok(())
     }
 
-    /// One place more, behind all others, where there is room for it.
+    /// Adds a place after all others. Requires spare capacity.
     #[inline(always)]
     pub fn push(&mut self, due: DueNumber)
         requires { 0 < self.old.spare }
@@ -106,26 +107,47 @@ impl DueIndex {
         self.set(place, due);
     }
 
-    /// What is due at a place from now on. Takes no memory.
+    // Sets the due of a place.
     #[inline(always)]
-    pub fn set(&mut self, place: usize, due: DueNumber)
+    fn put_at(&mut self, place: usize, due: DueNumber, path: Path)
         requires { place < length self.old.leaves }
         ensures { self.new ≡ record self.old { leaves = slice_set self.old.leaves place due } }
     {
-        // The only leaf is the first node.
+        // The root is the only leaf.
         if self.half == 1 {
             self.nodes[1] = due;
             self.least = due;
             return;
         }
         let leaf = self.half + place;
-        if is_same(self.nodes[leaf], due) {
-            return;
+        if let Path::UpToKept = path {
+            if is_same(self.nodes[leaf], due) {
+                return;
+            }
         }
-        self.least = put(self.nodes.as_mut_slice(), leaf, due);
+        self.least = put(self.nodes.as_mut_slice(), leaf, due, path);
     }
 
-    /// What is due at a place.
+    /// Sets the due of a place. Does not allocate.
+    #[inline(always)]
+    pub fn set(&mut self, place: usize, due: DueNumber)
+        requires { place < length self.old.leaves }
+        ensures { self.new ≡ record self.old { leaves = slice_set self.old.leaves place due } }
+    {
+        self.put_at(place, due, Path::UpToKept);
+    }
+
+    /// Sets the due of a place, like `set`. It is faster than `set` if the place had the first of all
+    /// dues, because then every ancestor changes. Does not allocate.
+    #[inline(always)]
+    pub fn set_least(&mut self, place: usize, due: DueNumber)
+        requires { place < length self.old.leaves }
+        ensures { self.new ≡ record self.old { leaves = slice_set self.old.leaves place due } }
+    {
+        self.put_at(place, due, Path::ToRoot);
+    }
+
+    /// Returns the due of a place.
     #[inline(always)]
     pub fn at(&self, place: usize) -> DueNumber
         requires { place < length self.now.leaves }
@@ -134,7 +156,7 @@ impl DueIndex {
         self.nodes[self.half + place]
     }
 
-    /// No places any more; their room stays.
+    /// Removes all places. Keeps the allocation.
     pub fn clear(&mut self)
         ensures leaves { self.new.leaves ≡ [] }
         ensures spare { self.new.spare ≡ self.old.spare + length self.old.leaves }
@@ -148,7 +170,7 @@ impl DueIndex {
         self.least = DueNumber::none();
     }
 
-    /// The least of all dues, by moment, class and number; None where nothing is due.
+    /// Returns the first of all dues, by time, class and number, or none if nothing is due.
     #[inline(always)]
     pub fn least(&self) -> DueNumber
         ensures { result ≡ least_of (dues_in self.now.leaves) }

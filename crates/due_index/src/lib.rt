@@ -1,5 +1,5 @@
-//! Which of many places is due first: the least of dues that are set place by place; and from a number straight to its
-//! place (our choice).
+//! An index that finds the first of many dues, each of which is set by its place, and a table that
+//! maps a number to its place (our choice).
 #![tactic(auto)]
 
 mod index;

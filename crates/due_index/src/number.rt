@@ -1,4 +1,4 @@
-//! A due as one number, so that two are compared at once.
+//! A due as one number, so that one comparison orders two dues.
 
 ghost use Rattle.std.specs.Prelude.{◌≡◌, ◌<◌, ◌≤◌, ◌==◌, ◌-◌, ◌/◌, ◌%◌, ◌^◌, if◌then◌else◌, SomeIff, Option, Some, None, IsSome, IfSome, is_none, option_map, false};
 ghost use Rattle.std.specs.Option.{option_map_or};
@@ -9,17 +9,17 @@ ghost use Rattle.due_index.specs.Numbers.{class_at, due_at, due_in};
 use emu_model::{Class, Due, FlowNumber, Source};
 use std::marker::Model;
 
-/// How far apart the moments stand: past each class and number.
+/// The weight of the time in a due's number, which exceeds every class and number.
 const MOMENT: u128 = 18_446_744_073_709_551_616;
 
-/// How far apart the classes stand: past each number.
+/// The weight of the class in a due's number, which exceeds every number.
 const CLASS: u128 = 4_294_967_296;
 
-/// No due: past every one.
+/// The number that means no due, which is after every due.
 const NO_DUE: u128 = 340_282_366_920_938_463_463_374_607_431_768_211_455;
 
-/// A due by moment, class and number as one number, or none, which is past every due. A contract sees
-/// the due, where there is one.
+/// A due as one number, ordered by time, class and number, or none, which is after every due.
+/// Contracts see an optional due.
 #[derive(Clone, Copy, PartialEq)]
 pub struct DueNumber {
     bits: u128,
@@ -78,7 +78,7 @@ fn due_at(bits: u128) -> Due
 }
 
 impl DueNumber {
-    /// Nothing is due.
+    /// Returns no due.
     #[inline(always)]
     pub fn none() -> Self
         ensures { result ≡ None }
@@ -86,7 +86,7 @@ impl DueNumber {
         DueNumber { bits: NO_DUE }
     }
 
-    /// A source is due at a moment (ns).
+    /// Returns the due of a source at a time (ns).
     #[inline(always)]
     pub fn at(moment: u64, source: Source) -> Self
         ensures { result ≡ Some (due_of source.class source.number moment) }
@@ -96,7 +96,7 @@ impl DueNumber {
         DueNumber { bits }
     }
 
-    /// A source is due at a moment (ns), where there is one.
+    /// Returns the due of a source at a time (ns), or none if there is no time.
     #[inline(always)]
     pub fn at_some(moment: Option<u64>, source: Source) -> Self
         ensures { result ≡ option_map (due_of source.class source.number) moment }
@@ -107,7 +107,7 @@ impl DueNumber {
         }
     }
 
-    /// This due, or none.
+    /// Converts an optional due.
     #[inline(always)]
     pub fn of(due: Option<Due>) -> Self
         ensures { result ≡ due }
@@ -118,7 +118,7 @@ impl DueNumber {
         }
     }
 
-    /// The due, where there is one.
+    /// Returns the due, or None if there is none.
     #[inline(always)]
     pub fn due(self) -> Option<Due>
         ensures { result ≡ self }
@@ -129,7 +129,7 @@ impl DueNumber {
         Some(due_at(self.bits))
     }
 
-    /// Nothing is due.
+    /// Returns true if nothing is due.
     #[inline(always)]
     pub fn is_none(self) -> bool
         ensures { result ≡ is_none self }
@@ -137,7 +137,7 @@ impl DueNumber {
         self.bits == NO_DUE
     }
 
-    /// The due that is there.
+    /// Returns the due, which must exist.
     #[inline(always)]
     pub fn some(self) -> Due
         requires { IsSome self }
@@ -146,7 +146,7 @@ impl DueNumber {
         due_at(self.bits)
     }
 
-    // The rank of its class.
+    // Returns the rank of the due's class.
     #[inline(always)]
     fn class_place(self) -> u64
         ensures there { IfSome self (λ d. result ≡ rank d.source.class) }
@@ -155,7 +155,7 @@ impl DueNumber {
         (self.bits / CLASS % CLASS) as u64
     }
 
-    /// What is due is a timer.
+    /// Returns true if the due is that of a timer.
     #[inline(always)]
     pub fn is_expiry(self) -> bool
         ensures { result ≡ option_map_or (λ d. rank d.source.class == 3) self false }
@@ -163,7 +163,7 @@ impl DueNumber {
         self.class_place() == 3
     }
 
-    /// The flow of a timer, or the flow or train of an emission.
+    /// Returns the flow of a timer, or the flow or train of an emission.
     #[inline(always)]
     pub fn flow(self) -> Option<FlowNumber>
         ensures { IfSome self (λ d. let k = d.source.number in k < 2 ^ 16 →
@@ -172,7 +172,7 @@ impl DueNumber {
         FlowNumber::new((self.bits % 65_536) as u16)
     }
 
-    /// Whether it comes before another; none comes before no due.
+    /// Returns true if this due is before another one. An absent due is never before another one.
     #[inline(always)]
     pub fn is_before(self, other: DueNumber) -> bool
         ensures { (if result then self else other) ≡ lesser other self }
@@ -180,7 +180,7 @@ impl DueNumber {
         self.bits < other.bits
     }
 
-    /// The lesser of two that may be there, by moment, class and number.
+    /// Returns the earlier of two optional dues, by time, class and number.
     #[inline(always)]
     pub fn or_earlier(self, other: DueNumber) -> DueNumber
         ensures { result ≡ lesser self other }

@@ -6,8 +6,8 @@ ghost use Rattle.due_index.specs.Table.{place_in};
 use std::alloc::{AllocError, Global};
 use std::marker::Model;
 
-/// For each number the place that it leads to, or none. A contract sees the entries by number; a number
-/// past their end leads nowhere.
+/// The place of each number, or none. Contracts see the entries by number; a number beyond the last
+/// entry has no place.
 #[derive(Drop)]
 pub struct NumberTable {
     places: Vec<Option<u16>>,
@@ -22,7 +22,7 @@ impl Model for NumberTable {
 }
 
 impl NumberTable {
-    /// No number leads anywhere. Takes no memory.
+    /// Creates a table in which no number has a place. Does not allocate.
     pub fn new(alloc: Global) -> Self
         ensures { result ≡ [] }
     {
@@ -31,7 +31,7 @@ impl NumberTable {
         }
     }
 
-    /// The place that a number leads to.
+    /// Returns the place of a number.
     pub fn get(&self, number: u16) -> Option<usize>
         ensures { result ≡ place_in self.now number }
     {
@@ -41,8 +41,8 @@ impl NumberTable {
         }
     }
 
-    /// Makes an entry for a number and for all below it. No number leads elsewhere than before; refused, nothing has
-    /// changed.
+    /// Makes an entry for a number and for all smaller ones. No number's place changes; if
+    /// allocation fails, nothing changes.
     pub fn make_room(&mut self, number: u16) -> Result<(), AllocError>
         ensures same { (k : ℕ) → place_in self.new k ≡ place_in self.old k }
         ensures grows { length self.old ≤ length self.new }
@@ -57,7 +57,7 @@ impl NumberTable {
         self.places.resize(entries, None)
     }
 
-    /// A number that has an entry leads to this place from now on. Takes no memory.
+    /// Sets the place of a number that has an entry. Does not allocate.
     pub fn set(&mut self, number: u16, place: usize)
         requires entry { number < length self.old }
         requires fits { place < 2 ^ 16 }
