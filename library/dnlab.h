@@ -23,6 +23,8 @@ enum dnlab_status {
   DNLAB_FAULT = 1,  /* the text is no scenario: `line` and `cause` */
   DNLAB_CLOSED = 2, /* there is no session */
   DNLAB_MEMORY = 3, /* an allocation was refused */
+  DNLAB_STEPS = 4,  /* the experiments may take more steps than the limit: `line` is the number of the first that
+                       exceeds it, from 0, and `length` the steps of all */
   DNLAB_ROOM = 5    /* the room is too small: it takes `length` bytes; what stands in it is no answer */
 };
 enum dnlab_cause {
@@ -43,12 +45,17 @@ enum dnlab_cause {
 typedef struct {
   uint32_t status; /* enum dnlab_status */
   uint32_t cause;  /* enum dnlab_cause */
-  uint64_t line;   /* of the fault, from 1; 0 where there is none */
+  uint64_t line;   /* of the fault, from 1; 0 if there is none */
   uint64_t length; /* bytes */
 } dnlab_answer;
 
 /* Runs the scenario: what `dnlab alone` writes. */
 void dnlab_alone(const uint8_t *text, size_t text_length, uint8_t *room, size_t room_length, dnlab_answer *answer);
+/* Runs the scenario like `dnlab_alone` if its experiments may take at most `most_steps` steps together, as
+ * `dnlab alone --max-steps` does. Otherwise nothing runs: DNLAB_STEPS. Use it for texts that you did not write. The room
+ * bounds the report. */
+void dnlab_alone_within(const uint8_t *text, size_t text_length, uint64_t most_steps, uint8_t *room, size_t room_length,
+                        dnlab_answer *answer);
 /* Says whether a text is a scenario: what `dnlab check` writes. */
 void dnlab_check(const uint8_t *text, size_t text_length, uint8_t *room, size_t room_length, dnlab_answer *answer);
 /* What `--explain` says of a text, behind the line of its fault; with `runs` also of its run, which is made for that. */

@@ -2,7 +2,7 @@
  *
  *   library_calls examples FOLDER..       each worked example, in a room that just fits, and in one that is a byte too small
  *   library_calls sessions FOLDER..       each as a session, line by line, in rooms that are large enough, and that are too small
- *   library_calls threads TIMES FOLDER..  a thread for each, at once, so many calls, and so many sessions
+ *   library_calls threads TIMES FOLDER..  a thread for each, concurrently, TIMES calls and TIMES sessions
  *   library_calls refused FOLDER..        each allocation refused in its turn (linked with --wrap=malloc, realloc, free), of a
  *                                         call and of a session
  *   library_calls time TIMES FOLDER       microseconds of a call */
@@ -99,6 +99,30 @@ static int is_untouched(const uint8_t *from) {
   return 1;
 }
 
+/* Whether a limit of steps that no text of the examples exceeds changes nothing. */
+static int is_same_within(const struct example *one, uint8_t *room, size_t length) {
+  dnlab_answer answer;
+  memset(&answer, SEEN, sizeof answer);
+  if (one->is_check) return 1;
+  dnlab_alone_within(one->text.at, one->text.length, UINT64_MAX, room, length, &answer);
+  return is_right(one, room, answer);
+}
+
+/* Two experiments, which may take 5 and 6 steps, within limits around their sum. */
+static void try_steps(void) {
+  static const char text[] = "experiment a seed 0 budget 1 steps 5\n@0 end\nexperiment b seed 0 budget 1 steps 6\n@0 end\n";
+  static const struct { uint64_t most, status, line; } cases[] = {{11, DNLAB_DONE, 0}, {10, DNLAB_STEPS, 1}, {5, DNLAB_STEPS, 1}, {4, DNLAB_STEPS, 0}, {0, DNLAB_STEPS, 0}};
+  uint8_t room[512];
+  for (size_t k = 0; k < sizeof cases / sizeof *cases; k++) {
+    dnlab_answer answer;
+    memset(room, SEEN, sizeof room), memset(&answer, SEEN, sizeof answer);
+    dnlab_alone_within((const uint8_t *)text, sizeof text - 1, cases[k].most, room, sizeof room, &answer);
+    int is_well = answer.status == cases[k].status && answer.line == cases[k].line && !answer.cause;
+    if (answer.status == DNLAB_STEPS) is_well = is_well && answer.length == 11 && room[0] == SEEN;
+    count(is_well, "steps", "another answer within a limit of steps than was worked out");
+  }
+}
+
 static void try_example(const char *folder) {
   struct example one = read_example(folder);
   size_t length = one.report.length;
@@ -106,6 +130,7 @@ static void try_example(const char *folder) {
   memset(room, SEEN, length + GUARD);
   dnlab_answer answer = call(&one, room, length);
   count(is_right(&one, room, answer) && is_untouched(room + length), folder, "another answer than was worked out, or bytes past the room");
+  count(is_same_within(&one, room, length), folder, "another answer within a limit of steps that it does not exceed");
   if (one.status == 0 && length > 0) {
     memset(room, SEEN, length + GUARD);
     answer = call(&one, room, length - 1);
@@ -114,7 +139,7 @@ static void try_example(const char *folder) {
   free(room), leave(&one);
 }
 
-/* What a session has said, one answer behind the other, in a room of so many bytes; its last status, and its first fault. */
+/* The replies of a session, one after the other, in a buffer of a given size; its last status, and its first fault. */
 struct said { uint8_t *at; size_t length, size; uint32_t status; char fault[64]; };
 
 static struct said said_nothing(size_t size) {
@@ -122,7 +147,7 @@ static struct said said_nothing(size_t size) {
   return said;
 }
 
-/* Has a session hear a line, in a room of so many bytes at first; whether the header is kept. */
+/* Passes a line to a session, with a buffer of a given initial size; returns whether the header is kept. */
 static int hear(dnlab_session *session, struct said *said, const uint8_t *line, size_t length, size_t room) {
   for (;;) {
     uint8_t *at = said->at + said->length;
@@ -267,7 +292,7 @@ static void try_refused(const char *folder) {
   free(room), leave(&one);
 }
 
-/* One session, of whose allocations one is refused; whether it is told, what was said before is whole, and no memory is lost. */
+/* One session with one refused allocation; returns whether it is reported, earlier replies are complete, and no memory leaks. */
 static int is_told(const struct bytes *text, struct said *said, const struct said *whole) {
   dnlab_session session = {NULL};
   dnlab_answer answer;
@@ -323,6 +348,7 @@ static void show_time(long times, const char *folder) {
 int main(int many, char **words) {
   const char *what = many > 1 ? words[1] : "";
   if (!strcmp(what, "examples")) {
+    try_steps();
     for (int k = 2; k < many; k++) try_example(words[k]);
   } else if (!strcmp(what, "sessions")) {
     for (int k = 2; k < many; k++) try_session(words[k]);

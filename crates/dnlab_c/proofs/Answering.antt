@@ -1,19 +1,22 @@
 -- What becomes of a text in an answer.
 use Rattle.std.specs.Prelude.{◌↔◌, IsTrue, All, not}
-use Rattle.std.proofs.Common.{◌≡◌, ℕ, Bool, true, false, ◌<◌, ◌≤◌, ◌⊎◌, inl, inr, List, ◌++◌, length, take, drop, refl, sym, ap, subst, ◌∙◌, arith}
+use Rattle.std.proofs.Common.{◌≡◌, ℕ, Bool, true, false, Some, None, ◌<◌, ◌≤◌, ◌⊎◌, inl, inr, List, ◌++◌, length, take, drop, refl, sym, ap, subst, ◌∙◌, arith}
 use Rattle.control.specs.declared.scenario.Experiment.{Experiment}
 use Rattle.control.specs.declared.fault.Fault.{Fault}
 use Rattle.control.specs.Scenario.{Spells, HasFault}
 use Rattle.std.proofs.lemmas.List.{take-append-drop}
 use Rattle.alone.specs.declared.fault.RunFault.{RunFault}
 use Rattle.alone.specs.declared.fault.RunFault.TheVariants.{Scenario}
-use Rattle.alone.specs.Reports.{IsTextFault}
+use Rattle.alone.specs.Reports.{IsTextFault, reports}
+use Rattle.alone.specs.declared.limits.Limits.{Limits}
+use Rattle.alone.specs.Within.{MakesWithin, StopsUnwritten}
+use Rattle.alone.specs.declared.limits.Stop.TheVariants.{Steps, Fault as Failed}
 use Rattle.experiment.specs.Rooms.{IsPutAt}
 use Rattle.control.specs.declared.fault.Cause.TheVariants.{NoEnd}
 use Rattle.live.specs.Opens.{KeptOpen}
 use Rattle.dnlab_c.specs.declared.answer.Answer.{Answer}
 use Rattle.dnlab_c.specs.Guests.{KeptGuest, Ends, next_line}
-use Rattle.dnlab_c.specs.Answers.{Answers, IsPut, faulty, no_memory, plain}
+use Rattle.dnlab_c.specs.Answers.{Answers, AnswersWithin, IsPut, faulty, no_memory, plain, too_many_steps}
 
 -- all of a text was put from the beginning of a room on
 whole : (text before room : List ℕ) (end : ℕ) → IsPutAt text 0 before room end → length text ≤ length before → room ≡ text ++ drop (length text) before
@@ -47,6 +50,27 @@ pub answers_put_all : (says : List Experiment → List ℕ) (text before room sa
 answers_put_all says text before room said all a (es, spells, is) are (inl refused) = inl refused
 answers_put_all says text before room said all a (es, spells, is) are (inr put) =
     answers_put says text before room all a (es, spells, are ∙ is) put
+
+-- a limit of steps alone
+abbrev limited : ℕ → Limits
+limited most = record { steps = Some most; output = None }
+
+pub within_memory : (most : ℕ) (text before room : List ℕ) (a : Answer) → a ≡ no_memory → AnswersWithin most text before room a
+within_memory most text before room a is = inl is
+
+pub within_put_all : (most : ℕ) (text before room all : List ℕ) (a : Answer) → MakesWithin (limited most) (Some text) all →
+    ((a ≡ no_memory) ⊎ IsPut all before room a) → AnswersWithin most text before room a
+within_put_all most text before room all a made (inl refused) = inl refused
+within_put_all most text before room all a (es, spells, fits, is) (inr put) =
+    inr (inl (es, spells, fits.steps, subst (λ (l : List ℕ). IsPut l before room a) is put))
+
+pub within_fault : (most : ℕ) (text before : List ℕ) (a : Answer) (f : Fault) → StopsUnwritten (limited most) (Some text) (Failed (Scenario f)) → a ≡ faulty f →
+    AnswersWithin most text before before a
+within_fault most text before a f fault is = inr (inr (inl (f, fault, is, refl)))
+
+pub within_steps : (most : ℕ) (text before : List ℕ) (a : Answer) (number total : ℕ) → StopsUnwritten (limited most) (Some text) (Steps number total) →
+    a ≡ too_many_steps number total → AnswersWithin most text before before a
+within_steps most text before a number total (es, spells, passes) is = inr (inr (inr (es, number, total, spells, passes, is, refl)))
 
 -- an experiment of a session has no end
 pub end_open : (g : KeptGuest) (whole : Bool) (line : ℕ) (a : Answer) → g.is_lost ≡ false → not whole ≡ true →

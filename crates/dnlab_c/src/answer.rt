@@ -1,4 +1,4 @@
-//! What a call answers to a caller that is not Rattle.
+//! The answer of a call to a caller that is not Rattle.
 
 ghost use Rattle.std.specs.Prelude.{◌≡◌, ◌<◌, ◌⊎◌, flat_map, length};
 ghost use Rattle.control.specs.declared.fault.Cause.TheVariants.{NoEnd};
@@ -11,21 +11,24 @@ use std::alloc::Global;
 
 /// The text was written to the room.
 pub const DONE: u32 = 0;
-/// The scenario has a fault: `line` and `cause` say which.
+/// The scenario has the fault in `line` and `cause`.
 pub const FAULT: u32 = 1;
-/// There is no session: it isn't open.
+/// No session is open.
 pub const CLOSED: u32 = 2;
-/// Memory was refused.
+/// An allocation failed.
 pub const MEMORY: u32 = 3;
-/// The room is too small: `length` says how many bytes are wanted.
+/// The experiments may take more steps than the limit: `line` is the number of the first one that
+/// exceeds it, from 0, and `length` is the number of steps that all may take.
+pub const STEPS: u32 = 4;
+/// The room is too small; `length` is the number of bytes required.
 pub const ROOM: u32 = 5;
 
-/// What a call answers.
+/// The answer of a call.
 #[repr(C)]
 #[derive(Clone, Copy)]
 pub struct Answer {
     pub status: u32,
-    /// 1 to 12, in the order of `control::Cause`; 0 where there is no fault.
+    /// The cause of a fault, 1 to 12 in the order of `control::Cause`, or 0 if there is no fault.
     pub cause: u32,
     pub line: u64,
     pub length: u64,
@@ -50,7 +53,7 @@ fn cause_number(cause: Cause) -> u32
     }
 }
 
-// Returns the answer of a text that has no fault.
+// Returns the answer for a text that has no fault.
 fn answer_of(status: u32, length: usize) -> Answer
     ensures { result ≡ plain status length }
 {
@@ -62,7 +65,7 @@ fn answer_of(status: u32, length: usize) -> Answer
     }
 }
 
-/// Returns the answer after a refused allocation.
+/// Returns the answer after a failed allocation.
 pub fn no_memory() -> Answer
     ensures { result ≡ specs.no_memory }
 {
@@ -76,7 +79,7 @@ pub fn no_session() -> Answer
     answer_of(CLOSED, 0)
 }
 
-/// Returns the answer of a call that succeeds and puts nothing into a room.
+/// Returns the answer of a call that succeeds and writes nothing to a room.
 pub fn all_well() -> Answer
     ensures { result ≡ plain 0 0 }
 {
@@ -105,7 +108,18 @@ pub fn fault_answer(fault: &Fault) -> Answer
     }
 }
 
-/// Puts a text at the beginning of the room if all of it fits, else nothing.
+/// Returns the answer if the experiments may take more steps than the limit, with the number of the
+/// first one that exceeds it and the steps of all.
+pub fn too_many_steps(number: u64, total: u64) -> Answer
+    ensures { result ≡ specs.too_many_steps number total }
+{
+    let mut answer = answer_of(STEPS, 0);
+    answer.line = number;
+    answer.length = total;
+    answer
+}
+
+/// Writes a text to the beginning of the room if the whole text fits, and nothing otherwise.
 pub fn put(text: &[u8], room: &mut [u8]) -> Answer
     ensures is { IsPut text.now room.old room.new result }
     ensures stays { length room.old < length text.now → room.new ≡ room.old }
@@ -118,7 +132,8 @@ pub fn put(text: &[u8], room: &mut [u8]) -> Answer
     answer_of(DONE, length)
 }
 
-/// Puts reports into the room, one after the other, if all of them fit; else those that do.
+/// Writes reports to the room, one after the other, if all of them fit, and otherwise those that
+/// fit.
 #[tactic(auto, using(crate::proofs::Answering::put_whole))]
 pub fn put_all(alloc: Global, reports: &[Report], room: &mut [u8]) -> Answer
     ensures { (result ≡ specs.no_memory)

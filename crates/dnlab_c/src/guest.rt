@@ -1,4 +1,4 @@
-//! A session of a caller that is not Rattle, and what it has said that isn't handed over yet.
+//! A session of a caller that is not Rattle, and the answers that the caller hasn't received yet.
 
 ghost use Rattle.std.specs.Prelude.{◌≡◌, ◌++◌, ℕ, List, false, OnOk};
 ghost use Rattle.dnlab_c.specs.Guests.{IsSaidTo, HandsOver, Hears, Ends, fresh, next_line};
@@ -8,7 +8,8 @@ use live::{Answer as Said, Session, put_answer};
 use std::alloc::{AllocError, Global};
 use std::marker::Model;
 
-/// A session, what it has said that isn't handed over yet, how many lines it heard, and whether memory was refused to it.
+/// A session, the answers that the caller hasn't received yet, the number of lines it has
+/// processed, and whether an allocation has failed.
 #[derive(Drop)]
 pub struct Guest {
     session: Session,
@@ -31,7 +32,7 @@ impl Model for Guest {
 }
 
 impl Guest {
-    /// A session without experiments. Takes no memory.
+    /// Creates a session without experiments. Does not allocate.
     pub fn new(alloc: Global) -> Self
         ensures { result ≡ fresh }
     {
@@ -43,7 +44,8 @@ impl Guest {
         }
     }
 
-    // The session hears a line, and what it says comes behind what it said before. `AllocError` leaves the beginning of it.
+    // Passes a line to the session, and appends the answer to the earlier ones. `AllocError` leaves
+    // a prefix of the answer.
     fn hear(&mut self, line: &[u8]) -> Result<(), AllocError>
         ensures hears { OnOk result ((said : List ℕ) × (self.new.out ≡ self.old.out ++ said)
             × IsSaidTo line.now said self.old.session self.new.session) }
@@ -57,7 +59,7 @@ impl Guest {
         put_answer(&mut self.out, Said::Fault(cause))
     }
 
-    // Hands over what was said, where the room holds all of it; else it stays.
+    // Writes the answers to the room if it holds all of them, and otherwise keeps them.
     fn hand_over(&mut self, room: &mut [u8]) -> Answer
         ensures hands { HandsOver self.old.out room.old room.new self.new.out result }
         ensures same { self.new ≡ record self.old { out = self.new.out } }
@@ -69,8 +71,9 @@ impl Guest {
         answer
     }
 
-    /// Hears a line, without its line feed, and hands over what is said to it, behind what a smaller room before left.
-    /// Where the room is too small all of it stays for the next call. Once memory was refused each call says so.
+    /// Processes a line, without its line feed, and writes the answer, after the answers that an
+    /// earlier room was too small for. If this room is too small, all of it is kept for the next
+    /// call. Once an allocation has failed, every later call reports it.
     pub fn take(&mut self, line: &[u8], room: &mut [u8]) -> Answer
         ensures { Hears line.now room.old room.new self.old self.new result }
     {
@@ -84,7 +87,7 @@ impl Guest {
         self.hand_over(room)
     }
 
-    /// Returns how it ends if no more comes: whether each experiment has its end.
+    /// Returns the result of a session whose input ends here: a fault if an experiment has no end.
     #[tactic(auto, using(crate::proofs::Answering::end_open))]
     pub fn end(&self) -> Answer
         ensures { Ends self.now result }

@@ -1,6 +1,6 @@
-//! The calls of the program for callers that are not Rattle: the bytes of a scenario go in, the bytes of its reports
-//! come out, in memory of the caller's. Nothing is kept but an open session, of which the caller has the place.
-//! `library/dnlab.h` has them for C. Own.
+//! The calls of the program for callers that are not Rattle: they turn the bytes of a scenario into
+//! the bytes of its reports, in the caller's memory. Only an open session keeps state, and the
+//! caller has its place. `library/dnlab.h` declares the calls for C. Our choice.
 #![tactic(auto)]
 
 mod answer;
@@ -13,12 +13,12 @@ ghost use Rattle.std.specs.Prelude.{◌≡◌, List, IfOk, IfErr};
 ghost use Rattle.control.specs.Scenario.{Spells};
 ghost use Rattle.control.specs.declared.scenario.Experiment.{Experiment as Script};
 ghost use Rattle.alone.specs.Reports.{reports, tally, IsTextFault};
-ghost use Rattle.dnlab_c.specs.Answers.{Answers, IsPut, PutsSome};
+ghost use Rattle.dnlab_c.specs.Answers.{Answers, AnswersWithin, IsPut, PutsSome};
 ghost use Rattle.dnlab_c.specs.Guests.{Opens, TakesAt, ClosesAt};
 
-use alone::{RunFault, check_of, reports_of};
+use alone::{Limits, RunFault, Silent, Stop, check_of, made_of, reports_of};
 pub use answer::Answer;
-use answer::{all_well, fault_answer, no_memory, no_session, put, put_all};
+use answer::{all_well, fault_answer, no_memory, no_session, put, put_all, too_many_steps};
 use explain_text::{explanation, faults_text};
 use guest::Guest;
 use loose::Loose;
@@ -27,8 +27,9 @@ use std::alloc::{AllocError, Global};
 use std::mem;
 use version::VERSION;
 
-/// Runs the experiments of a scenario, each by itself. Status 0: their reports are the first `length` bytes of the room.
-/// 1: `line` and `cause` of the text's fault. 3: an allocation was refused. 5: the room is too small, it takes `length` bytes.
+/// Runs the experiments of a scenario, each by itself. Status 0: the reports are the first `length`
+/// bytes of the room. 1: `line` and `cause` have the fault of the text. 3: an allocation failed. 5:
+/// the room is too small, and `length` bytes are required.
 #[tactic(auto, using(crate::proofs::Answering::answers_put_all, crate::proofs::Answering::answers_fault, crate::proofs::Answering::answers_memory))]
 #[unsafe(no_mangle)]
 pub extern "C" fn dnlab_alone(alloc: Global, text: &[u8], room: &mut [u8], answer: &mut Answer)
@@ -41,7 +42,33 @@ pub extern "C" fn dnlab_alone(alloc: Global, text: &[u8], room: &mut [u8], answe
     };
 }
 
-// Returns what `check` writes of a text.
+/// Runs the experiments of a scenario, like `dnlab_alone`, if they may take at most `most_steps`
+/// steps together. Status 4 if they may take more: nothing runs, `line` is the number of the first
+/// experiment that exceeds the limit, from 0, and `length` is the number of steps that all may take.
+#[tactic(auto, using(crate::proofs::Answering::within_put_all, crate::proofs::Answering::within_fault, crate::proofs::Answering::within_steps, crate::proofs::Answering::within_memory))]
+#[unsafe(no_mangle)]
+pub extern "C" fn dnlab_alone_within(
+    alloc: Global,
+    text: &[u8],
+    most_steps: u64,
+    room: &mut [u8],
+    answer: &mut Answer,
+)
+    ensures { AnswersWithin most_steps text.now room.old room.new answer.new }
+{
+    let limits = Limits {
+        steps: Some(most_steps),
+        output: None,
+    };
+    *answer = match made_of(alloc, text, &limits, &Silent) {
+        Ok(made) => put_all(alloc, made.reports.as_slice(), room),
+        Err(Stop::Fault(RunFault::Scenario(fault))) => fault_answer(&fault),
+        Err(Stop::Steps { number, total }) => too_many_steps(number, total),
+        Err(_) => no_memory(),
+    };
+}
+
+// Returns the line that `check` writes for a text.
 fn tally_of(alloc: Global, text: &[u8]) -> Result<Vec<u8>, RunFault>
     ensures ok { IfOk result
         (λ line. (es : List Script) × Spells text.now es × (line.items ≡ tally es)) }
@@ -54,7 +81,7 @@ fn tally_of(alloc: Global, text: &[u8]) -> Result<Vec<u8>, RunFault>
     }
 }
 
-/// Says whether a text is a scenario, and how many experiments and commands it has.
+/// Checks that a text is a scenario, and writes the numbers of its experiments and commands.
 #[tactic(auto, using(crate::proofs::Answering::answers_put, crate::proofs::Answering::answers_fault, crate::proofs::Answering::answers_memory))]
 #[unsafe(no_mangle)]
 pub extern "C" fn dnlab_check(alloc: Global, text: &[u8], room: &mut [u8], answer: &mut Answer)
@@ -67,8 +94,8 @@ pub extern "C" fn dnlab_check(alloc: Global, text: &[u8], room: &mut [u8], answe
     };
 }
 
-// What is said of a text, and of its run, if that is asked for.
-fn said_of(alloc: Global, text: &[u8], runs: bool) -> Result<Vec<u8>, AllocError> {
+// Returns the explanation of a text and, if `runs` is true, of its run.
+fn explanation_of(alloc: Global, text: &[u8], runs: bool) -> Result<Vec<u8>, AllocError> {
     if !runs {
         return explanation(alloc, text, None);
     }
@@ -79,8 +106,9 @@ fn said_of(alloc: Global, text: &[u8], runs: bool) -> Result<Vec<u8>, AllocError
     }
 }
 
-/// What `--explain` says on standard error of a text, behind the line of its fault; where `runs` is true of its run too,
-/// which is made for that. The statuses are those of `dnlab_alone`, but for a fault: what is said of one is put.
+/// Writes what `--explain` prints about a text on standard error, after the line of its fault. If
+/// `runs` is true, it runs the scenario and explains the run too. The statuses are those of
+/// `dnlab_alone`, except that a fault is explained instead of returned.
 #[unsafe(no_mangle)]
 pub extern "C" fn dnlab_explain(
     alloc: Global,
@@ -91,13 +119,13 @@ pub extern "C" fn dnlab_explain(
 )
     ensures { PutsSome room.old room.new answer.new }
 {
-    *answer = match said_of(alloc, text, runs) {
+    *answer = match explanation_of(alloc, text, runs) {
         Ok(said) => put(said.as_slice(), room),
         Err(_) => no_memory(),
     };
 }
 
-/// What the library says of itself: its version, the commit of its sources, and by which kit it is proved.
+/// Writes the version of the library, the commit of its sources, and the kit that proved it.
 #[unsafe(no_mangle)]
 pub extern "C" fn dnlab_version(room: &mut [u8], answer: &mut Answer)
     ensures { IsPut VERSION.now room.old room.new answer.new }
@@ -112,8 +140,8 @@ fn free(alloc: Global, place: Place) {
     }
 }
 
-/// Opens a session at a place; one that is open there is closed before. Status 0: it is open. 3: an allocation was refused,
-/// and there is none.
+/// Opens a session at a place, and first closes one that is open there. Status 0: the session is
+/// open. 3: an allocation failed, and there is no session.
 #[unsafe(no_mangle)]
 pub extern "C" fn dnlab_open(alloc: Global, session: &mut Place, answer: &mut Answer)
     ensures { Opens session.new.guest answer.new }
@@ -127,9 +155,11 @@ pub extern "C" fn dnlab_open(alloc: Global, session: &mut Place, answer: &mut An
     *answer = all_well();
 }
 
-/// Has the session at a place hear a line, without its line feed. Status 0: what it says is the first `length` bytes of the
-/// room, behind what a smaller room before left. 5: the room is too small, and all of it stays for the next call, which
-/// wants `length` bytes. 2: there is no session. 3: memory was refused, and will be; the session is to be closed.
+/// Passes a line, without its line feed, to the session at a place. Status 0: the answer is the
+/// first `length` bytes of the room, after the answers that an earlier room was too small for. 5:
+/// the room is too small, and all of it is kept for the next call, which requires `length` bytes.
+/// 2: there is no session. 3: an allocation failed, and every later call will return that; close
+/// the session.
 #[unsafe(no_mangle)]
 pub extern "C" fn dnlab_take(
     alloc: Global,
@@ -150,8 +180,9 @@ pub extern "C" fn dnlab_take(
     free(alloc, mem::replace(session, Place::of(Loose::of(guest))));
 }
 
-/// Closes the session at a place. Status 0: each of its experiments has its end. 1: one has none, as `live` says it of the
-/// line behind the last. 2: there was no session. 3: memory had been refused.
+/// Closes the session at a place. Status 0: each of its experiments has its end. 1: an experiment
+/// has no end, which, as in `live`, is a fault of the line after the last. 2: there was no session.
+/// 3: an allocation had failed.
 #[unsafe(no_mangle)]
 pub extern "C" fn dnlab_close(alloc: Global, session: &mut Place, answer: &mut Answer)
     ensures { ClosesAt session.old.guest session.new.guest answer.new }

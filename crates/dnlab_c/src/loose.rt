@@ -1,4 +1,4 @@
-//! A box as its pointer, after that of the kit's `once_cell`.
+//! A box as its raw pointer, modelled on the one in the kit's `once_cell`.
 
 ghost use Rattle.std.specs.Prelude.{◌≡◌};
 ghost use Rattle.std_alloc.specs.Box.Ownership.{box_owns};
@@ -6,7 +6,7 @@ ghost use Rattle.std_alloc.specs.Box.Ownership.{box_owns};
 use std::alloc::Allocator;
 use std::marker::Model;
 
-/// A box as its pointer.
+/// A box as its raw pointer.
 pub struct Loose<T, A: Allocator> {
     pub at: *mut T,
     pub alloc: A,
@@ -18,7 +18,7 @@ impl<T, A: Allocator> Model for Loose<T, A> {
 }
 
 impl<T: Drop, A: Allocator> Loose<T, A> {
-    /// Takes a box apart.
+    /// Splits a box into its pointer and its allocator.
     pub fn of(value: Box<T, A>) -> Loose<T, A>
         ensures { result.value ≡ value.value }
     {
@@ -26,7 +26,7 @@ impl<T: Drop, A: Allocator> Loose<T, A> {
         Loose { at, alloc }
     }
 
-    /// Makes the box again.
+    /// Returns the box again.
     pub fn into_box(self) -> Box<T, A>
         ensures { result.value ≡ self.value }
     {

@@ -1,4 +1,4 @@
-//! Where a caller that is not Rattle has its session.
+//! The place where a caller that is not Rattle keeps its session.
 
 ghost use Rattle.std.specs.Prelude.{◌≡◌, None, Some, option_map};
 ghost use Rattle.std.specs.Coded.{coded_option};
@@ -12,15 +12,15 @@ use std::alloc::Global;
 use std::marker::Model;
 use std::ptr::null_mut;
 
-/// What C sees of a session: nothing.
+/// An opaque session, of which C sees nothing.
 #[repr(C)]
 #[derive(Drop)]
 pub struct Hidden {
     hidden: u8,
 }
 
-/// Where a session is, or null if there is none. A place is not `Drop`: code that loses one, and its session's memory with
-/// it, does not compile.
+/// The address of a session, or null if there is none. A place is not `Drop`, so code that loses
+/// one, and with it the memory of its session, does not compile.
 #[repr(C)]
 pub struct Place {
     at: *mut Hidden,
@@ -34,14 +34,14 @@ impl Model for Place {
 }
 
 impl Place {
-    /// No session.
+    /// Creates a place without a session.
     pub fn empty() -> Place
         ensures { result.guest ≡ None }
     {
         Place { at: null_mut() }
     }
 
-    /// Where a session is.
+    /// Creates the place of a session.
     pub fn of(guest: Loose<Guest, Global>) -> Place
         ensures { result.guest ≡ Some guest.value }
     {
@@ -51,7 +51,7 @@ impl Place {
         }
     }
 
-    /// The session there, if there is one.
+    /// Returns the session at the place, if there is one.
     pub fn into_loose(self, alloc: Global) -> Option<Loose<Guest, Global>>
         ensures { option_map (λ l. l.value) result ≡ self.guest }
     {
@@ -67,5 +67,5 @@ impl Place {
     }
 }
 
-// What it leads to may go to another thread.
+// The session behind the pointer may move to another thread.
 unsafe impl Send for Place {}

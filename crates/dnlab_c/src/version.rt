@@ -1,4 +1,5 @@
-//! What the library says of itself. Whoever builds it writes this into the copy that is built, as for the program.
+//! The version that the library reports. The build writes it into the copy that it builds, as for
+//! the program.
 
 /// The version, the commit and the kit.
 pub const VERSION: &str = "0.2.0 (commit unknown, not proved)";
