@@ -1,5 +1,5 @@
-//! An experiment by itself: each command is applied in its turn, and events are made until the next one
-//! is wanted. What they record is kept packed, and becomes lines when it is written.
+//! An experiment that runs by itself: it applies each command in turn and processes events until
+//! the next command is due. The records are kept packed, and become lines when they are written.
 
 ghost use Rattle.std.specs.Prelude.{◌≡◌, ◌≤◌, ℕ, List, IfOk, OnOk, All, map};
 ghost use Rattle.packet_store.specs.Own.{own_pocket};
@@ -17,10 +17,10 @@ use emu_model::{Timed, later_commands_wait, packets_add_up};
 use experiment::{ApplyError, BATCH, Event, Experiment, Report, ReportKeeper};
 use std::alloc::{AllocError, Global};
 
-/// After how many steps it is told again how many were made.
+/// The number of steps between two progress reports.
 const TOLD: u64 = 65_536;
 
-// Tells now and then how many steps were made.
+// Reports the number of steps once every `TOLD` steps.
 fn tell<P: Progress>(experiment: &Experiment, progress: &P)
     requires { experiment.now.steps ≤ experiment.now.spec.budget.steps }
 {
@@ -30,7 +30,7 @@ fn tell<P: Progress>(experiment: &Experiment, progress: &P)
     }
 }
 
-// Keeps what was recorded, once there is a batch of it.
+// Packs the records once there is a batch of them.
 #[inline(always)]
 fn keep_batch(experiment: &mut Experiment, report: &mut ReportKeeper) -> Result<(), AllocError>
     requires { CanWrite report.old experiment.old }
@@ -49,7 +49,7 @@ fn keep_batch(experiment: &mut Experiment, report: &mut ReportKeeper) -> Result<
     Ok(())
 }
 
-// Makes events until there is nothing more to do.
+// Processes events until the next command is needed or the experiment has ended.
 #[inline(always)]
 fn advance<P: Progress>(
     experiment: &mut Experiment,
@@ -75,7 +75,7 @@ fn advance<P: Progress>(
     }
 }
 
-// Applies each command in its turn, until the experiment has ended.
+// Applies each command in turn, until the experiment has ended.
 fn play<P: Progress>(
     experiment: &mut Experiment,
     shelf: &mut LoneShelf,
@@ -107,8 +107,8 @@ fn play<P: Progress>(
     Ok(())
 }
 
-/// The report of an experiment that runs by itself; the moments (ns) of its commands don't fall. `AllocError` where
-/// memory was refused.
+/// Returns the report of an experiment that runs by itself. The times (ns) of its commands must not
+/// decrease. Returns `AllocError` if an allocation fails.
 fn report_by_itself<P: Progress>(
     alloc: Global,
     script: &Script,
@@ -128,7 +128,8 @@ fn report_by_itself<P: Progress>(
     report.into_report(&experiment.counters())
 }
 
-/// The reports of experiments that run by themselves, one after the other. `AllocError` where memory was refused.
+/// Returns the reports of experiments that run by themselves, one after the other. Returns
+/// `AllocError` if an allocation fails.
 pub fn run_all<P: Progress>(
     alloc: Global,
     scripts: &[Script],

@@ -1,4 +1,5 @@
-//! `run_alone` and `check`: all is read before any step, and all steps are made before anything is written.
+//! `run_alone` and `check`: they read all input before the first step, and take all steps before
+//! they write anything.
 
 ghost use Rattle.std.specs.Prelude.{◌≡◌, ◌≢◌, ℕ, List, Some, false, IfErr, OnOk};
 ghost use Rattle.alone.specs.Bytes.{IsRead};
@@ -14,7 +15,7 @@ use crate::whole::check_of;
 use crate::within::{Made, run_alone_within};
 use std::alloc::Global;
 
-/// What a call answers that has no limit: its fault, if it has one.
+/// Returns the fault, if any, of a call that has no limits.
 pub fn unlimited_outcome(outcome: Result<Made, Stop>) -> Result<(), RunFault>
     requires { IsUnlimited (done_of outcome) }
     ensures { result ≡ leaves (done_of outcome) }
@@ -26,7 +27,7 @@ pub fn unlimited_outcome(outcome: Result<Made, Stop>) -> Result<(), RunFault>
     }
 }
 
-// Writes how many experiments and commands the scenario has that a text spells.
+// Writes the numbers of experiments and commands in the scenario that a text spells.
 #[tactic(auto, using(crate::proofs::Stopping::text_calls, crate::proofs::Stopping::text_fault_unread, crate::proofs::Stopping::text_fault_own, crate::proofs::Endings::written, crate::proofs::Endings::cut, crate::proofs::Endings::cut_after))]
 fn write_tally<W: Outlet>(alloc: Global, text: &[u8], writer: &mut W) -> Result<(), RunFault>
     ensures calls { Calls tally (Some text.now) (W.contents writer.old) (W.contents writer.new) result }
@@ -48,9 +49,10 @@ fn write_tally<W: Outlet>(alloc: Global, text: &[u8], writer: &mut W) -> Result<
     Ok(())
 }
 
-/// Reads a scenario and runs each of its experiments by itself; then writes their reports in its order.
-/// A `Scenario` fault is that of the text; `Read` comes just where the reader failed, `Write` where the
-/// writer did. After `Write` some first bytes of the reports were written, after any other fault none.
+/// Reads a scenario, runs each of its experiments by itself, and then writes their reports in the
+/// order of the scenario. A `Scenario` fault is the fault of the text. The fault is `Read` exactly
+/// if the reader failed, and `Write` exactly if the writer failed. After `Write` a prefix of the
+/// reports has been written; after any other fault nothing has been written.
 pub fn run_alone<R: Inlet, W: Outlet>(
     alloc: Global,
     reader: &mut R,
@@ -65,7 +67,7 @@ pub fn run_alone<R: Inlet, W: Outlet>(
     run_alone_with_progress(alloc, reader, writer, &Silent)
 }
 
-/// `run_alone`, with somebody who is told how far it is.
+/// Runs like `run_alone`, and reports its progress to `progress`.
 #[tactic(auto, using(crate::proofs::Stopping::unlimited_calls, crate::proofs::Stopping::calls_same, crate::proofs::Stopping::own_same))]
 pub fn run_alone_with_progress<R: Inlet, W: Outlet, P: Progress>(
     alloc: Global,
@@ -85,7 +87,7 @@ pub fn run_alone_with_progress<R: Inlet, W: Outlet, P: Progress>(
     unlimited_outcome(outcome)
 }
 
-/// Reads a scenario and writes `ok`, how many experiments and how many commands it has. The faults are
+/// Reads a scenario and writes `ok` and the numbers of its experiments and commands. The faults are
 /// those of `run_alone`.
 pub fn check<R: Inlet, W: Outlet>(
     alloc: Global,
@@ -102,8 +104,9 @@ pub fn check<R: Inlet, W: Outlet>(
     check_kept(alloc, reader, writer, &mut text)
 }
 
-/// `check`, which leaves the text that it read in `text`, unless the reader failed or memory ran out. `on_text` speaks of this
-/// text, and `given` of the bytes that the calls of the reader gave.
+/// Runs like `check`, and leaves the text that it read in `text`, unless the reader failed or
+/// memory ran out. `on_text` is about this text, and `given` is about the bytes that the calls of
+/// the reader returned.
 #[tactic(auto, using(crate::proofs::Stopping::input_calls, crate::proofs::Stopping::input_own_fault, crate::proofs::Stopping::read_calls_of))]
 pub fn check_kept<R: Inlet, W: Outlet>(
     alloc: Global,

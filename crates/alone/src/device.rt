@@ -1,4 +1,5 @@
-//! Readers and writers of std as ends of ours. Here alone std's errors are seen.
+//! Wraps std's readers and writers as an `Inlet` and an `Outlet`. Only this module handles std's
+//! errors.
 
 ghost use Rattle.std.specs.Prelude.{◌≡◌, ◌<◌, ◌+◌, ◌↔◌, true, false};
 ghost use Rattle.std.specs.Io.KnownBytes.{Consumes};
@@ -8,11 +9,12 @@ ghost use Rattle.std.proofs.KnownBytes.{Consumes-nil, Consumes-trans};
 use crate::ends::{Inlet, Outlet, Trouble};
 use std::io::{Error, ErrorKind, Read, Write};
 
-/// How many calls in a row can be interrupted.
+/// The maximum number of interrupted calls in a row.
 const PATIENCE: u32 = u32::MAX;
 
-/// A reader or a writer of std. It fails where a call of it answers an error other than `Interrupted`, or that one
-/// too often in a row, and where it takes no byte of some. From then on it isn't called.
+/// A reader or a writer of std. It fails if one of its calls returns an error other than
+/// `Interrupted`, if too many calls in a row are interrupted, or if the writer accepts no byte of a
+/// non-empty slice. After a failure it isn't called again.
 #[derive(Drop)]
 pub struct Device<T: Drop> {
     inner: T,
@@ -21,7 +23,7 @@ pub struct Device<T: Drop> {
 }
 
 impl<T: Drop> Device<T> {
-    /// A device that hasn't failed.
+    /// Creates a device that hasn't failed.
     pub fn new(inner: T) -> Self
         ensures inner { result.inner ≡ inner }
         ensures failed { result.failed ≡ false }
@@ -30,7 +32,8 @@ impl<T: Drop> Device<T> {
         Device::with_patience(inner, PATIENCE)
     }
 
-    /// A device that hasn't failed, of which so many calls can be interrupted at first.
+    /// Creates a device that hasn't failed, and of which `patience` calls can be interrupted at
+    /// first.
     pub fn with_patience(inner: T, patience: u32) -> Self
         ensures inner { result.inner ≡ inner }
         ensures failed { result.failed ≡ false }
@@ -43,14 +46,14 @@ impl<T: Drop> Device<T> {
         }
     }
 
-    /// Whether it has failed.
+    /// Returns true if the device has failed.
     pub fn has_failed(&self) -> bool
         ensures { result ≡ self.now.failed }
     {
         self.failed
     }
 
-    /// The reader or the writer itself.
+    /// Returns the reader or the writer itself.
     pub fn into_inner(self) -> T
         ensures { result ≡ self.inner }
     {
@@ -58,7 +61,7 @@ impl<T: Drop> Device<T> {
         inner
     }
 
-    // Notes a failure.
+    // Records a failure.
     fn fail(&mut self) -> Trouble
         ensures same { self.new.inner ≡ self.old.inner }
         ensures failed { self.new.failed ≡ true }
@@ -68,7 +71,8 @@ impl<T: Drop> Device<T> {
         Trouble::Failed
     }
 
-    // Notes what an error says.
+    // Classifies an error: counts an interruption if the patience allows it, and records a failure
+    // otherwise.
     fn note(&mut self, error: &Error) -> Trouble
         ensures same { self.new.inner ≡ self.old.inner }
         ensures kind { (result ≡ Trouble.Interrupted) ↔

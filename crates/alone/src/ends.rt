@@ -1,14 +1,14 @@
-//! Where bytes come from and where they go: what a call asks of a reader and of a writer, and what it learns of them.
+//! The ends of a call: what it requires of a reader and of a writer, and what their calls return.
 
 ghost use Rattle.std.specs.Prelude.{◌≡◌, ◌<◌, ◌≤◌, ◌++◌, [], ℕ, List, Option, Err, Bool, true, false, length, drop, is_err, OnOk, OnErr, IfOk};
 ghost use Rattle.std.specs.Io.KnownBytes.{Appends, Keeps, ReadConsumes, WriteAppends};
 ghost use Rattle.alone.specs.Bytes.{IsCut};
 ghost use Rattle.alone.specs.Troubles.{bytes_given, has_failed};
 
-/// Why a call did nothing.
+/// The reason why a call did nothing.
 #[derive(Clone, Copy, Debug, Drop, PartialEq)]
 pub enum Trouble {
-    /// It was interrupted, and may be made again.
+    /// The call was interrupted, and may be made again.
     Interrupted,
     /// The reader or the writer failed.
     Failed,
@@ -18,22 +18,23 @@ pub enum Trouble {
 #[derive(Drop)]
 pub struct Failed;
 
-/// Gives bytes up to their end.
+/// A source of bytes that has an end.
 pub trait Inlet: Drop {
-    /// The bytes that it will give, where they are known.
+    /// The bytes that are left to read, if they are known.
     ghost remaining: { Self → Option (List ℕ) };
 
-    /// Whether calls of `read` can have given these bytes, one after the other, between two of its states.
+    /// True if calls of `read` can have returned these bytes, one after the other, between two
+    /// states of the reader.
     ghost gives: { Self → List ℕ → Self → Type 0 };
 
-    /// Whether it has failed.
+    /// True if the reader has failed.
     ghost failed: { Self → Bool };
 
-    /// How many calls in a row can be interrupted yet.
+    /// The number of further calls in a row that can be interrupted.
     ghost patience: { Self → ℕ };
 
-    /// Reads some bytes, none only at the end or where there is no room for any. One that has failed fails at every
-    /// later call.
+    /// Reads some bytes. Returns 0 only at the end or if there is no space in `room`. A reader that
+    /// has failed fails at every later call.
     fn read(&mut self, room: &mut [u8]) -> Result<usize, Trouble>
         ensures bound { IfOk result (λ n. n ≤ length room.new) }
         ensures bytes { ReadConsumes (remaining self.old) (remaining self.new) result room.new }
@@ -43,26 +44,27 @@ pub trait Inlet: Drop {
         ensures patience { result ≡ Err Trouble.Interrupted →
             patience self.new < patience self.old };
 
-    /// No call gives no byte.
+    /// No call returns no byte.
     ghost gives_none: { (r : Self) → gives r [] r };
 
-    /// Calls one after the other give their bytes one after the other.
+    /// Consecutive calls return the concatenation of their bytes.
     ghost gives_both: { (a b c : Self) (xs ys : List ℕ) → gives a xs b → gives b ys c →
         gives a (xs ++ ys) c };
 }
 
-/// Takes bytes.
+/// A sink of bytes.
 pub trait Outlet: Drop {
-    /// The bytes that it holds, where they are known.
+    /// The bytes that the writer holds, if they are known.
     ghost contents: { Self → Option (List ℕ) };
 
-    /// Whether it has failed.
+    /// True if the writer has failed.
     ghost failed: { Self → Bool };
 
-    /// How many calls in a row can be interrupted yet.
+    /// The number of further calls in a row that can be interrupted.
     ghost patience: { Self → ℕ };
 
-    /// Writes some of these bytes, and at least one. One that has failed fails at every later call.
+    /// Writes some of these bytes, and at least one. A writer that has failed fails at every later
+    /// call.
     fn write(&mut self, bytes: &[u8]) -> Result<usize, Trouble>
         requires { 0 < length bytes.now }
         ensures bound { IfOk result (λ n. (0 < n) × (n ≤ length bytes.now)) }
@@ -72,7 +74,8 @@ pub trait Outlet: Drop {
         ensures patience { result ≡ Err Trouble.Interrupted →
             patience self.new < patience self.old };
 
-    /// Hands on what it still keeps. One that has failed fails at every later call.
+    /// Passes on the bytes that the writer still buffers. A writer that has failed fails at every
+    /// later call.
     fn flush(&mut self) -> Result<(), Trouble>
         ensures bytes { Keeps (contents self.old) (contents self.new) }
         ensures failed { failed self.new ≡ has_failed result }
@@ -81,7 +84,8 @@ pub trait Outlet: Drop {
             patience self.new < patience self.old };
 }
 
-/// Reads some bytes, none only at the end or where there is no room for any.
+/// Reads some bytes. Returns 0 only at the end or if there is no space in `room`. Repeats an
+/// interrupted call.
 pub(crate) fn read_some<R: Inlet>(reader: &mut R, room: &mut [u8]) -> Result<usize, Failed>
     ensures bound { IfOk result (λ n. n ≤ length room.new) }
     ensures bytes { ReadConsumes (R.remaining reader.old) (R.remaining reader.new) result room.new }
@@ -97,7 +101,7 @@ pub(crate) fn read_some<R: Inlet>(reader: &mut R, room: &mut [u8]) -> Result<usi
     }
 }
 
-// Writes some of these bytes, and at least one.
+// Writes some of these bytes, and at least one. Repeats an interrupted call.
 fn write_some<W: Outlet>(writer: &mut W, bytes: &[u8]) -> Result<usize, Failed>
     requires { 0 < length bytes.now }
     ensures bound { IfOk result (λ n. (0 < n) × (n ≤ length bytes.now)) }
@@ -113,7 +117,7 @@ fn write_some<W: Outlet>(writer: &mut W, bytes: &[u8]) -> Result<usize, Failed>
     }
 }
 
-// The bytes behind the first ones.
+// Returns the bytes after the first `count`.
 fn past(bytes: &[u8], count: usize) -> &[u8]
     requires { count ≤ length bytes.now }
     ensures { result.now ≡ drop count bytes.now }
@@ -121,7 +125,7 @@ fn past(bytes: &[u8], count: usize) -> &[u8]
     &bytes[count..]
 }
 
-/// Writes all of these bytes, or some first ones of them where the writer fails.
+/// Writes all of these bytes, or a prefix of them if the writer fails.
 #[tactic(auto, using(crate::proofs::Writing::writing_all, crate::proofs::Writing::writing_past, crate::proofs::Writing::writing_done_as, crate::proofs::Writing::writing_cut))]
 pub(crate) fn write_all<W: Outlet>(writer: &mut W, bytes: &[u8]) -> Result<(), Failed>
     ensures bytes { OnOk result
@@ -138,7 +142,7 @@ pub(crate) fn write_all<W: Outlet>(writer: &mut W, bytes: &[u8]) -> Result<(), F
     Ok(())
 }
 
-/// Has a writer hand on what it still keeps.
+/// Flushes a writer. Repeats an interrupted call.
 pub(crate) fn flush_all<W: Outlet>(writer: &mut W) -> Result<(), Failed>
     ensures bytes { Keeps (W.contents writer.old) (W.contents writer.new) }
     ensures failed { W.failed writer.new ≡ is_err result }

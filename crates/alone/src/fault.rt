@@ -1,12 +1,12 @@
-//! Why a call of the program gave no answer.
+//! The reasons why a call of the program returned no result.
 
 use control::Fault;
 use thiserror::Error;
 
-/// What went wrong, with the text that the program prints for it.
+/// A fault of a call, with the text that the program prints for it.
 #[derive(Clone, Copy, Debug, Drop, Error, PartialEq)]
 pub enum RunFault {
-    /// What was read spells no scenario.
+    /// The text that was read spells no scenario.
     #[error("{0}")]
     Scenario(Fault),
     /// The reader failed.
@@ -15,13 +15,13 @@ pub enum RunFault {
     /// The writer failed.
     #[error("write")]
     Write,
-    /// Memory was refused, or a thread can't be started.
+    /// An allocation failed, or a thread can't be started.
     #[error("memory")]
     Memory,
-    /// A dossier is nobody's, there is none or there are two, or an experiment was lost.
+    /// A dossier belongs to no experiment, is missing or exists twice, or an experiment was lost.
     #[error("strange")]
     Strange,
-    /// The gate said no.
+    /// The gate refused.
     #[error("gate")]
     Gate,
 }

@@ -1,43 +1,22 @@
 //! The line that the program prints for a fault.
 
-ghost use Rattle.std.specs.Prelude.{◌≡◌, ◌+◌, ◌≤◌, ◌++◌, false, length, codes, decimal};
+ghost use Rattle.std.specs.Prelude.{◌≡◌, ◌+◌, ◌≤◌, ◌++◌, length};
 ghost use Rattle.arrayvec.specs.ArrayVec.{array_vec_len};
-ghost use Rattle.live.specs.Lines.{cause_word};
 ghost use Rattle.alone.specs.FaultLines.{IsSaid, fault_line, scenario_line};
 
 use crate::ends::{Outlet, write_all};
 use crate::fault::RunFault;
 use arrayvec::ArrayVec;
-use control::{Cause, Fault};
+use control::Fault;
 use itoa::Buffer as Digits;
+use live::cause_word;
 
-/// The bytes that suffice for the line of any fault.
+/// The number of bytes that suffices for the line of any fault.
 const LONGEST: usize = 64;
 
 type Line = ArrayVec<u8, LONGEST>;
 
-// The word of a cause.
-fn word_of(cause: Cause) -> &'static [u8]
-    ensures word { result.now ≡ cause_word cause }
-    ensures short { length result.now ≤ 12 }
-{
-    match cause {
-        Cause::TooBig => b"toobig",
-        Cause::Cut => b"cut",
-        Cause::TooLong => b"toolong",
-        Cause::BadByte => b"badbyte",
-        Cause::BadWord => b"badword",
-        Cause::OutOfRange => b"outofrange",
-        Cause::NoEnd => b"noend",
-        Cause::TooMany => b"toomany",
-        Cause::SameName => b"samename",
-        Cause::NoExperiment => b"noexperiment",
-        Cause::AfterEnd => b"afterend",
-        Cause::Backwards => b"backwards",
-    }
-}
-
-// Appends bytes, for which there is room.
+// Appends bytes, for which there must be space.
 fn append(line: &mut Line, bytes: &[u8])
     requires { array_vec_len line.old + length bytes.now ≤ 64 }
     ensures items { line.new.items ≡ line.old.items ++ bytes.now }
@@ -48,7 +27,7 @@ fn append(line: &mut Line, bytes: &[u8])
     };
 }
 
-// Appends the line of a fault of the scenario.
+// Appends the line for a fault of the scenario.
 fn append_fault(line: &mut Line, fault: &Fault)
     requires { array_vec_len line.old ≡ 0 }
     ensures { line.new.items ≡ line.old.items ++ scenario_line fault.now }
@@ -57,11 +36,11 @@ fn append_fault(line: &mut Line, fault: &Fault)
     append(line, b"line ");
     append(line, digits.format(fault.line).as_bytes());
     append(line, b": ");
-    append(line, word_of(fault.cause));
+    append(line, cause_word(fault.cause));
     append(line, b"\n");
 }
 
-// Returns the line of a fault.
+// Returns the line for a fault.
 fn line_of(fault: &RunFault) -> Line
     ensures { result.items ≡ fault_line fault.now }
 {
@@ -77,13 +56,13 @@ fn line_of(fault: &RunFault) -> Line
     line
 }
 
-/// Writes the line of a fault. If the writer fails, some first bytes of the line are written.
+/// Writes the line for a fault. If the writer fails, a prefix of the line has been written.
 #[tactic(auto, using(crate::proofs::Answering::said))]
 pub fn write_fault<W: Outlet>(writer: &mut W, fault: &RunFault)
     ensures { IsSaid (fault_line fault.now) (W.contents writer.old) (W.contents writer.new)
         (W.failed writer.new) }
 {
     let line = line_of(fault);
-    // There is nowhere else to say that this can't be written.
+    // There is nowhere else to report that this can't be written.
     let _ = write_all(writer, line.as_slice());
 }

@@ -1,4 +1,4 @@
-//! Reading all of a scenario's text.
+//! Reads the whole text of a scenario.
 
 ghost use Rattle.std.specs.Prelude.{◌≡◌, ℕ, List, IfOk, IfErr};
 ghost use Rattle.alone.specs.Bytes.{IsRead, TakesFew};
@@ -8,12 +8,13 @@ use crate::ends::{Inlet, read_some};
 use crate::fault::RunFault;
 use std::alloc::Global;
 
-/// The longest text of a scenario, in bytes.
+/// The maximum length of a scenario's text, in bytes.
 const LIMIT: usize = 16_777_216;
 
 const CHUNK: usize = 65_536;
 
-/// The text up to its end, or, where it is too long for a scenario, so much of it that this shows.
+/// Reads the text up to its end. Of a text that is too long for a scenario, it reads only one byte
+/// past the limit, to show that.
 #[tactic(auto, using(crate::proofs::ReadFacts::few_left, crate::proofs::ReadFacts::few_kept))]
 pub fn read_text<R: Inlet>(alloc: Global, reader: &mut R) -> Result<Vec<u8>, RunFault>
     ensures text { IfOk result

@@ -1,11 +1,13 @@
-//! A law of reports, as the contract of a function that does nothing, so that the check proves it.
+//! A law about reports. It is the contract of a function with an empty body, so that the check
+//! proves it.
 
 ghost use Rattle.alone.specs.JoiningLaw.{ReportsJoin};
 
 use control::texts_part;
 
-/// Where each of some texts spells a scenario by itself, and all of them, one after the other, spell one too, that one
-/// is theirs, one after the other, and its report is their reports.
+/// If each of several texts spells a scenario by itself, and their concatenation spells one too,
+/// then that scenario is the concatenation of theirs, and its report is the concatenation of their
+/// reports.
 pub fn reports_join()
     ensures { ReportsJoin }
 {

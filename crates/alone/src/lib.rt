@@ -1,4 +1,5 @@
-//! The calls of the program that need one thread alone: the bytes of a scenario go in, the bytes of its reports come out. Own.
+//! The calls of the program that need only one thread: they turn the bytes of a scenario into the
+//! bytes of its reports. Our choice.
 #![tactic(auto)]
 
 mod alone;

@@ -8,28 +8,28 @@ use control::Experiment;
 use experiment::{Report, put_reports};
 use std::alloc::Global;
 
-/// What all experiments of a scenario may have together; `None` is no limit. Own.
+/// The limits for all experiments of a scenario together; `None` is no limit. Our choice.
 #[derive(Clone, Copy, Debug, PartialEq)]
 pub struct Limits {
-    /// To what their `steps` may add up.
+    /// The maximum sum of the experiments' `steps`.
     pub steps: Option<u64>,
-    /// How many bytes their reports may have.
+    /// The maximum length of all reports together, in bytes.
     pub output: Option<u64>,
 }
 
-/// Why a call within limits gave no answer.
+/// The reason why a call with limits returned no result.
 #[derive(Clone, Copy, Debug, Drop, PartialEq)]
 pub enum Stop {
-    /// What a call without limits fails of.
+    /// The fault of a call, which can also occur without limits.
     Fault(RunFault),
-    /// The experiments may take more steps than the limit, `total` in all. The one with this number, from 0, is the first
-    /// that goes past.
+    /// The experiments may take more steps than the limit, `total` in all. `number`, from 0, is the
+    /// first experiment that exceeds the limit.
     Steps { number: u64, total: u64 },
-    /// The reports have so many bytes, more than the limit.
+    /// The reports have this many bytes, more than the limit.
     Output(u64),
 }
 
-// The steps that experiments may take, added up.
+// Returns the sum of the steps that the experiments may take.
 fn sum_of_steps(scripts: &[Experiment]) -> u64
     requires { length scripts.now ≤ 256 }
     ensures { result ≡ steps_of scripts.now }
@@ -41,7 +41,7 @@ fn sum_of_steps(scripts: &[Experiment]) -> u64
     sum
 }
 
-// The number, from 0, of the first experiment with which the steps are more than these.
+// Returns the number, from 0, of the first experiment at which the sum of the steps exceeds `most`.
 fn first_past(scripts: &[Experiment], most: u64) -> Option<usize>
     requires { length scripts.now ≤ 256 }
     ensures none { IfNone result (steps_of scripts.now ≤ most) }
@@ -58,7 +58,7 @@ fn first_past(scripts: &[Experiment], most: u64) -> Option<usize>
 }
 
 impl Limits {
-    /// No limit.
+    /// Returns limits that allow everything.
     pub fn none() -> Limits
         ensures steps { result.steps ≡ None }
         ensures output { result.output ≡ None }
@@ -69,7 +69,8 @@ impl Limits {
         }
     }
 
-    /// Stops experiments that may take more steps than the limit, by `Steps`. There are at most 256 of them, as a scenario has.
+    /// Returns `Steps` if the experiments may take more steps than the limit. There must be at most
+    /// 256 of them, as in a scenario.
     pub fn check_steps(&self, scripts: &[Experiment]) -> Result<(), Stop>
         requires { length scripts.now ≤ 256 }
         ensures ok { OnOk result (IsWithin self.now.steps (steps_of scripts.now)) }
@@ -87,7 +88,7 @@ impl Limits {
         })
     }
 
-    // Stops so many bytes, if they are more than the limit.
+    // Returns `Output` if this number of bytes exceeds the limit.
     fn check_length(&self, bytes: usize) -> Result<(), Stop>
         ensures ok { OnOk result (IsWithin self.now.output bytes) }
         ensures stop { IfErr result (IsOutputStop self.now.output bytes) }
@@ -99,8 +100,9 @@ impl Limits {
         }
     }
 
-    /// Stops reports that have more bytes than the limit, by `Output`. To count them, all lines are made, if there is a limit;
-    /// the fault `Memory` where memory was refused for that.
+    /// Returns `Output` if the reports have more bytes than the limit. If there is a limit, it
+    /// formats all lines to count their bytes, and returns the fault `Memory` if an allocation
+    /// fails.
     pub fn check_reports(&self, alloc: Global, reports: &[Report]) -> Result<(), Stop>
         ensures ok { OnOk result
             (IsWithin self.now.output (length (flat_map (λ r. r) reports.now))) }

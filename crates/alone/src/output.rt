@@ -1,4 +1,4 @@
-//! Writing the reports, by way of a buffer that finds its room before the first byte is written.
+//! Writes the reports through a buffer that is allocated before the first byte is written.
 
 ghost use Rattle.std.specs.Prelude.{◌≡◌, ◌+◌, ◌<◌, ◌≤◌, [], true, is_err, drop, flat_map, length, take, IfOk, OnOk, OnErr};
 ghost use Rattle.report.specs.Lines.{line_of};
@@ -10,16 +10,17 @@ use report::{Archive, Moments, Source, write_some};
 use std::alloc::{AllocError, Global};
 use std::marker::Model;
 
-/// How many bytes are kept back before they are written.
+/// The capacity of the buffer, in bytes.
 const CAPACITY: usize = 65_536;
 
-/// So many bytes are written by themselves: to copy them would cost more than a call.
+/// The length in bytes above which bytes bypass the buffer, because copying them would cost more
+/// than a call.
 const LONG: usize = 16_384;
 
-/// The bytes that suffice for the lines that are made at once.
+/// The number of bytes that suffices for the lines that one call formats.
 const PAGE: usize = 4_624;
 
-/// What was not handed to the writer yet, at most 65536 bytes.
+/// The bytes that haven't been passed to the writer yet, at most 65536.
 #[derive(Drop)]
 pub struct Buffer {
     kept: Vec<u8>,
@@ -36,7 +37,7 @@ impl Model for Buffer {
 }
 
 impl Buffer {
-    /// An empty buffer. No other call here takes memory.
+    /// Creates an empty buffer. No other call of this module allocates.
     pub fn new(alloc: Global) -> Result<Self, AllocError>
         ensures { IfOk result (λ b. b ≡ []) }
     {
@@ -44,7 +45,7 @@ impl Buffer {
         Ok(Buffer { kept })
     }
 
-    // Writes all that is kept.
+    // Writes all bytes of the buffer.
     #[tactic(auto, using(crate::proofs::Writing::puts_out_as, crate::proofs::Writing::stops_out))]
     fn hand_on<W: Outlet>(&mut self, writer: &mut W) -> Result<(), Failed>
         ensures ok { OnOk result
@@ -59,7 +60,7 @@ impl Buffer {
         Ok(())
     }
 
-    /// Puts bytes behind the others.
+    /// Appends bytes to the output.
     #[tactic(auto, using(crate::proofs::Writing::puts_next, crate::proofs::Writing::puts_kept_as, crate::proofs::Writing::puts_straight_as, crate::proofs::Writing::puts_none, crate::proofs::Writing::stops_any, crate::proofs::Writing::stops_straight_as, crate::proofs::Writing::stops_next))]
     pub fn put<W: Outlet>(&mut self, writer: &mut W, bytes: &[u8]) -> Result<(), Failed>
         ensures ok { OnOk result
@@ -81,7 +82,7 @@ impl Buffer {
         Ok(())
     }
 
-    /// Puts reports one after the other, whose lines are made on the way.
+    /// Appends reports, one after the other, and formats their lines on the way.
     #[tactic(auto, using(crate::proofs::Writing::puts_none, crate::proofs::Reporting::texts_puts, crate::proofs::Reporting::texts_stops))]
     pub fn put_reports<W: Outlet>(
         &mut self,
@@ -103,7 +104,7 @@ impl Buffer {
         Ok(())
     }
 
-    // Puts a report.
+    // Appends a report.
     #[tactic(auto, using(crate::proofs::Reporting::three_put, crate::proofs::Reporting::first_stops, crate::proofs::Reporting::second_stops, crate::proofs::Reporting::third_stops))]
     fn put_report<W: Outlet>(
         &mut self,
@@ -123,7 +124,7 @@ impl Buffer {
         self.put(writer, last)
     }
 
-    // Puts the lines of records.
+    // Appends the lines of records.
     #[tactic(auto, using(crate::proofs::Writing::puts_none, crate::proofs::Reporting::lines_puts, crate::proofs::Reporting::lines_stops))]
     fn put_lines<W: Outlet>(
         &mut self,
@@ -146,7 +147,7 @@ impl Buffer {
         Ok(())
     }
 
-    // Puts the lines of some records from a place on, and says of how many.
+    // Appends the lines of some records, beginning at `from`, and returns their number.
     #[tactic(auto, using(crate::proofs::Writing::puts_next, crate::proofs::Writing::puts_kept_as, crate::proofs::Writing::puts_none, crate::proofs::Writing::stops_any))]
     fn put_some<W: Outlet>(
         &mut self,
@@ -173,7 +174,7 @@ impl Buffer {
         Ok(count)
     }
 
-    /// Writes all that is kept, and has the writer hand it on.
+    /// Writes all bytes of the buffer, and flushes the writer.
     #[tactic(auto, using(crate::proofs::Writing::puts_flushed_as, crate::proofs::Writing::stops_flushed_as))]
     pub fn finish<W: Outlet>(self, writer: &mut W) -> Result<(), Failed>
         ensures ok { OnOk result (Puts (W.contents writer.old) self (W.contents writer.new) [] []) }

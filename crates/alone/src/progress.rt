@@ -1,18 +1,19 @@
-//! Who is told how far a run is.
+//! The receiver of progress reports.
 
 ghost use Rattle.std.specs.Prelude.{◌≤◌};
 
-/// Is told how far a run is. Nothing that is written depends on it.
+/// A receiver of progress reports. No output depends on it.
 pub trait Progress {
-    /// So many experiments of so many have ended.
+    /// Reports that `ended` of `total` experiments have ended.
     fn note_ends(&self, ended: u64, total: u64);
 
-    /// The experiment that runs by itself has made so many steps, of so many at most. Called each 65536 steps.
+    /// Reports that the experiment that runs by itself has taken `steps` of at most `most` steps.
+    /// Called every 65536 steps.
     fn note_steps(&self, steps: u64, most: u64)
         requires { steps ≤ most };
 }
 
-/// Nobody.
+/// A receiver that does nothing.
 #[derive(Clone, Copy, Debug)]
 pub struct Silent;
 

@@ -1,4 +1,4 @@
-//! `live`: each line of a session is answered before more is read.
+//! `live`: it answers each line of a session before it reads more.
 
 ghost use Rattle.std.specs.Prelude.{◌≡◌, ◌-◌, ◌++◌, ◌∷◌, [], ℕ, List, Some, Ok, Err, false, flat_map, is_err, length, take, true, OnOk, OnErr, IfErr};
 ghost use Rattle.std.specs.List.{AllByRecursion};
@@ -21,22 +21,24 @@ use live::{Answer, MAX_LINE, Session, put_answer, put_comment};
 use std::alloc::Global;
 use std::marker::Model;
 
-/// So many bytes of a line show that it is too long.
+/// The number of bytes that shows that a line is too long.
 const LONG: usize = MAX_LINE + 1;
 
-/// How many bytes are read at a time, and after how many bytes of answers these are written.
+/// The number of bytes that are read at a time, and the number of buffered bytes above which
+/// answers are written.
 const CHUNK: usize = 65_536;
 
-/// A session over bytes: its experiments, what came of a line that isn't whole yet, and what isn't written yet.
+/// A session over bytes: its experiments, the received part of an incomplete line, and the answers
+/// that aren't written yet.
 #[derive(Drop)]
 struct Talk {
     alloc: Global,
     session: Session,
     part: Vec<u8>,
     out: Vec<u8>,
-    // How many lines are whole.
+    // The number of complete lines.
     lines: u64,
-    // Whether the line that isn't whole was answered as too long.
+    // True if the incomplete line was already answered as too long.
     is_skipping: bool,
 }
 
@@ -54,7 +56,8 @@ impl Model for Talk {
     } };
 }
 
-// What a hint sees of a line: of one that is too long so much that this shows, since no more of it is kept.
+// Returns the bytes of a line that a hint may see: for a line that is too long, only enough to show
+// that, since no more of it is kept.
 #[tactic(auto, using(std::proofs::lemmas::List::take_min))]
 fn seen_of(line: &[u8], cause: Cause) -> &[u8]
     ensures { result.now ≡ seen_of line.now cause }
@@ -65,7 +68,8 @@ fn seen_of(line: &[u8], cause: Cause) -> &[u8]
     }
 }
 
-// Says that a line isn't taken, behind the hint for it. By itself, since it is rare: so others have a small frame.
+// Rejects a line, with the hint for it in front of the answer. It is not inlined because it is
+// rare, which keeps the frames of its callers small.
 #[inline(never)]
 fn refuse<H: Hints>(
     alloc: Global,
@@ -90,7 +94,7 @@ fn refuse<H: Hints>(
     Ok(())
 }
 
-// Has a session answer a line.
+// Passes a line to the session and writes the answer.
 fn answer_line<H: Hints>(
     alloc: Global,
     session: &mut Session,
@@ -132,7 +136,7 @@ impl Talk {
         }
     }
 
-    // Writes what was said, and keeps its room.
+    // Writes the buffered answers, and keeps the allocation.
     fn hand_on<W: Outlet>(&mut self, writer: &mut W) -> Result<(), RunFault>
         ensures write { OnErr result (result ≡ Err RunFault.Write) }
         ensures puts { OnOk result
@@ -149,7 +153,7 @@ impl Talk {
         Ok(())
     }
 
-    // Has the session answer the line that came in parts.
+    // Passes the line that arrived in parts to the session.
     fn answer_part<H: Hints>(&mut self, hints: &H) -> Result<(), RunFault>
         ensures memory { OnErr result (result ≡ Err RunFault.Memory) }
         ensures replies { OnOk result ((qs : List Piece)
@@ -165,7 +169,7 @@ impl Talk {
         Ok(())
     }
 
-    // Has the session answer a line.
+    // Passes a line to the session.
     fn answer<H: Hints>(&mut self, hints: &H, line: &[u8]) -> Result<(), RunFault>
         ensures memory { OnErr result (result ≡ Err RunFault.Memory) }
         ensures replies { OnOk result ((qs : List Piece)
@@ -178,7 +182,7 @@ impl Talk {
         answer_line(self.alloc, &mut self.session, hints, line, &mut self.out)
     }
 
-    // Refuses the line, which these bytes make too long, and keeps nothing of it.
+    // Rejects the line, which these bytes make too long, and discards it.
     fn refuse_long<H: Hints>(&mut self, hints: &H, bytes: &[u8]) -> Result<(), RunFault>
         ensures memory { OnErr result (result ≡ Err RunFault.Memory) }
         ensures says { OnOk result ((hint : List ℕ) × H.may_say hints.now
@@ -198,7 +202,8 @@ impl Talk {
         Ok(())
     }
 
-    // Adds to the line that isn't whole. One that has too many bytes is answered at once, and not kept.
+    // Appends bytes to the incomplete line. A line that becomes too long is answered at once, and
+    // is not kept.
     fn add<H: Hints>(&mut self, hints: &H, bytes: &[u8]) -> Result<(), RunFault>
         requires { lines bytes.now ≡ bytes.now ∷ [] }
         ensures memory { OnErr result (result ≡ Err RunFault.Memory) }
@@ -218,7 +223,7 @@ impl Talk {
         Ok(())
     }
 
-    // The rest of a line came, of which there is a part.
+    // Completes a line of which a part was already received.
     fn end_part<H: Hints>(&mut self, hints: &H, rest: &[u8]) -> Result<(), RunFault>
         requires { lines rest.now ≡ rest.now ∷ [] }
         ensures memory { OnErr result (result ≡ Err RunFault.Memory) }
@@ -234,7 +239,7 @@ impl Talk {
         self.answer_part(hints)
     }
 
-    // The rest of a line came, which isn't counted yet.
+    // Completes a line without counting it.
     fn end_uncounted<H: Hints>(&mut self, hints: &H, rest: &[u8]) -> Result<(), RunFault>
         requires { lines rest.now ≡ rest.now ∷ [] }
         ensures memory { OnErr result (result ≡ Err RunFault.Memory) }
@@ -248,7 +253,7 @@ impl Talk {
         self.end_part(hints, rest)
     }
 
-    // The rest of a line came.
+    // Completes a line and counts it.
     fn end_line<H: Hints>(&mut self, hints: &H, rest: &[u8]) -> Result<(), RunFault>
         requires { lines rest.now ≡ rest.now ∷ [] }
         ensures memory { OnErr result (result ≡ Err RunFault.Memory) }
@@ -261,7 +266,7 @@ impl Talk {
         Ok(())
     }
 
-    // Takes bytes that were read: each line that they end is answered.
+    // Processes bytes that were read, and answers each line that they complete.
     fn take<W: Outlet, H: Hints>(
         &mut self,
         writer: &mut W,
@@ -287,7 +292,8 @@ impl Talk {
         self.add(hints, rest)
     }
 
-    // How it ends where no more comes: each experiment has its end, and the last line is whole.
+    // Returns the result of a session whose input ends here: a fault if the last line is incomplete
+    // or an experiment has no end.
     fn end(&self) -> Result<(), RunFault>
         ensures { IsEnding self.now result }
     {
@@ -304,14 +310,19 @@ impl Talk {
     }
 }
 
-/// A session: reads lines of a scenario as they come, with requests among them, and answers each before more is read.
-/// A line that isn't taken has the lines of `hints` in front of its answer, each behind `# `. `converses` speaks of the text
-/// that the calls of `reader` gave, whether or not a contract can name the bytes that it has: `Ok` and `Scenario` come at its
-/// end, and what was written is its whole conversation. `Scenario` is the fault of the line behind the last line feed: it is
-/// cut, or an experiment has no end. `Read` comes where the reader failed, and the conversation of what it gave was written;
-/// `Write` where the writer did, and `Memory` where memory was refused: then some first bytes of it were.
-/// Where the text spells a scenario, to which requests are comments, no answer is a fault, and neither `use` nor `show mine`
-/// was asked, what is written is what `run_alone` writes for it, with lines that begin with `#` in between.
+/// Runs a session: reads the lines of a scenario, with requests among them, as they arrive, and
+/// answers each line before it reads more. The lines of `hints`, each after `# `, precede the
+/// answer to a rejected line.
+/// The clause `converses` is about the text that the calls of `reader` returned, whether or not a
+/// contract can name the bytes that the reader has. `Ok` and `Scenario` occur only at the end of
+/// that text, and then the whole conversation has been written. `Scenario` is the fault of the line
+/// after the last line feed: the line is cut, or an experiment has no end. `Read` means that the
+/// reader failed; the conversation for what it returned has been written. `Write` means that the
+/// writer failed, and `Memory` that an allocation failed; a prefix of the conversation has been
+/// written.
+/// If the text spells a scenario (in which requests are comments), no answer is a fault, and the
+/// text contains neither `use` nor `show mine`, then the output is that of `run_alone` for the
+/// text, with lines that begin with `#` in between.
 pub fn live<R: Inlet, W: Outlet, H: Hints>(
     alloc: Global,
     reader: &mut R,
@@ -345,6 +356,6 @@ pub fn live<R: Inlet, W: Outlet, H: Hints>(
             return Err(RunFault::Write);
         };
     }
-    // Nobody lives to see so many reads.
+    // Nobody lives to see this many reads.
     Err(RunFault::Read)
 }

@@ -1,5 +1,5 @@
-//! The pure core without limits: a text goes in, the bytes of its reports come out, or how many experiments and commands it
-//! has.
+//! The pure core without limits: it turns a text into the bytes of its reports, or into the numbers
+//! of its experiments and commands.
 
 ghost use Rattle.std.specs.Prelude.{◌≡◌, ◌≤◌, length, map, sum, flat_map, List, IfOk, IfErr};
 ghost use Rattle.control.specs.declared.scenario.Experiment.{Experiment as Script};
@@ -15,7 +15,8 @@ use itoa::Buffer as Digits;
 use std::alloc::{AllocError, Global};
 use std::marker::Model;
 
-/// The reports of a scenario's experiments, in its order. A contract sees their bytes, one after the other.
+/// The reports of a scenario's experiments, in the order of the scenario. A contract sees the
+/// concatenation of their bytes.
 #[derive(Drop)]
 pub struct Reports {
     reports: Vec<Report>,
@@ -30,7 +31,7 @@ impl Model for Reports {
 }
 
 impl Reports {
-    /// Each experiment's report.
+    /// Returns the report of each experiment.
     pub fn each(&self) -> &[Report]
         ensures { flat_map (λ t. t) result.now ≡ self.now }
     {
@@ -38,7 +39,8 @@ impl Reports {
     }
 }
 
-/// Returns the scenario that a text spells. `Scenario` if it spells none, with its first fault; `Memory` if memory ran out.
+/// Returns the scenario that a text spells. Returns `Scenario` with the first fault of the text if
+/// it spells none, and `Memory` if an allocation fails.
 pub fn scenario_of(alloc: Global, text: &[u8]) -> Result<Scenario, RunFault>
     ensures spells { IfOk result (λ es. Spells text.now es) }
     ensures few { IfOk result (λ es. sum (map (λ e. length e.commands) es) ≤ 16777216) }
@@ -51,8 +53,9 @@ pub fn scenario_of(alloc: Global, text: &[u8]) -> Result<Scenario, RunFault>
     }
 }
 
-/// The reports of the experiments that a text spells, each run by itself. `Scenario` where it spells none, with its first
-/// fault; `Memory` where memory was refused.
+/// Returns the reports of the experiments that a text spells, each run by itself. Returns
+/// `Scenario` with the first fault of the text if it spells no scenario, and `Memory` if an
+/// allocation fails.
 pub fn reports_of(alloc: Global, text: &[u8]) -> Result<Reports, RunFault>
     ensures ok { IfOk result
         (λ r. (es : List Script) × Spells text.now es × (r ≡ reports es)) }
@@ -65,7 +68,7 @@ pub fn reports_of(alloc: Global, text: &[u8]) -> Result<Reports, RunFault>
     Ok(Reports { reports })
 }
 
-/// How many experiments and how many commands a scenario has.
+/// The numbers of experiments and commands in a scenario.
 #[derive(Clone, Copy, Debug, PartialEq)]
 pub struct Tally {
     pub experiments: u64,
@@ -73,7 +76,8 @@ pub struct Tally {
 }
 
 impl Tally {
-    /// The line of `check`: `ok`, and both numbers. `AllocError` where memory was refused.
+    /// Returns the line that `check` writes: `ok` and both numbers. Returns `AllocError` if an
+    /// allocation fails.
     pub fn line(&self, alloc: Global) -> Result<Vec<u8>, AllocError>
         ensures { IfOk result (λ text. text.items ≡ tally_line self.now) }
     {
@@ -88,7 +92,7 @@ impl Tally {
     }
 }
 
-// How many commands the experiments have.
+// Returns the number of commands in the experiments.
 #[tactic(auto, using(crate::proofs::ReadFacts::count_more, crate::proofs::ReadFacts::count_few))]
 fn count_commands(scripts: &[Experiment]) -> u64
     requires { sum (map (λ e. length e.commands) scripts.now) ≤ 16777216 }
@@ -101,8 +105,9 @@ fn count_commands(scripts: &[Experiment]) -> u64
     count
 }
 
-/// How many experiments and commands the scenario has that a text spells. `Scenario` where it spells none, with its first
-/// fault; `Memory` where memory was refused.
+/// Returns the numbers of experiments and commands in the scenario that a text spells. Returns
+/// `Scenario` with the first fault of the text if it spells no scenario, and `Memory` if an
+/// allocation fails.
 pub fn check_of(alloc: Global, text: &[u8]) -> Result<Tally, RunFault>
     ensures ok { IfOk result
         (λ t. (es : List Script) × Spells text.now es × (t ≡ tally_of es)) }

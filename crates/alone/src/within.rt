@@ -1,5 +1,6 @@
-//! `run_alone` within limits: all is read before any step, all steps are made before anything is written, and a scenario
-//! that exceeds a limit stops before either.
+//! `run_alone` with limits: it reads all input before the first step, takes all steps before it
+//! writes anything, and stops before the steps or before the output if a scenario exceeds the
+//! limit.
 
 ghost use Rattle.std.specs.Prelude.{◌≡◌, ◌≢◌, ℕ, List, flat_map, Some, false, IfOk, IfErr, OnOk};
 ghost use Rattle.alone.specs.declared.limits.Stop.TheVariants as stops;
@@ -19,15 +20,17 @@ use control::Scenario;
 use experiment::Report;
 use std::alloc::Global;
 
-/// What a call made: the scenario that it read, and the reports of its experiments, in their order.
+/// The result of a call: the scenario that it read, and the reports of its experiments, in the same
+/// order.
 #[derive(Drop)]
 pub struct Made {
     pub scenario: Scenario,
     pub reports: Vec<Report>,
 }
 
-/// Runs each experiment of a text by itself and returns its report. Stops before the first step if the steps exceed their
-/// limit, and by `Output` if the reports do. A text that spells no scenario is the fault `Scenario`, with its first fault.
+/// Runs each experiment of a text by itself and returns the scenario and the reports. Returns
+/// `Steps` before the first step if the steps exceed their limit, and `Output` if the reports do.
+/// If the text spells no scenario, the fault is `Scenario` with the first fault of the text.
 #[tactic(auto, using(crate::proofs::Stopping::text_stop, crate::proofs::Stopping::text_own, crate::proofs::Stopping::text_unread, crate::proofs::Stopping::steps_stop, crate::proofs::Stopping::steps_own, crate::proofs::Stopping::steps_unread, crate::proofs::Stopping::output_stop, crate::proofs::Stopping::output_own, crate::proofs::Stopping::output_unread, crate::proofs::Stopping::made_within))]
 pub fn made_of<P: Progress>(
     alloc: Global,
@@ -55,8 +58,9 @@ pub fn made_of<P: Progress>(
     Ok(Made { scenario, reports })
 }
 
-/// Writes reports, one after the other, by way of a buffer that is there before the first byte. The fault `Write` comes where
-/// the writer failed, after some first bytes of them; the fault `Memory` where memory was refused, and nothing was written.
+/// Writes reports, one after the other, through a buffer that is allocated before the first byte is
+/// written. The fault is `Write` if the writer failed, after a prefix of the reports was written,
+/// and `Memory` if an allocation failed before anything was written.
 pub fn write_reports<W: Outlet>(
     alloc: Global,
     writer: &mut W,
@@ -80,10 +84,12 @@ pub fn write_reports<W: Outlet>(
     Ok(())
 }
 
-/// `run_alone_with_progress` within limits. `Steps` comes before the first step and `Output` before the first byte, exactly if the
-/// scenario exceeds that limit. Its faults are those of `run_alone`. `text` becomes the text that was read, unless the reader
-/// failed or memory ran out. `on_text` and `made` speak of this text, and `given` of the bytes that the calls of the reader
-/// gave, for every reader, whether or not a contract can name the bytes that it has. Returns what it made and wrote.
+/// Runs like `run_alone_with_progress`, with limits. Returns `Steps` before the first step, or `Output`
+/// before the first byte, exactly if the scenario exceeds that limit. The faults are those of
+/// `run_alone`. `text` becomes the text that was read, unless the reader failed or memory ran out.
+/// `on_text` and `made` are about this text. `given` is about the bytes that the calls of the
+/// reader returned, for every reader, whether or not a contract can name the bytes that it has.
+/// Returns what it ran and wrote.
 #[tactic(auto, using(crate::proofs::Stopping::read_calls, crate::proofs::Stopping::stop_calls, crate::proofs::Stopping::out_calls, crate::proofs::Stopping::stop_calls_read, crate::proofs::Stopping::out_calls_read, crate::proofs::Stopping::input_own, crate::proofs::Endings::out_own))]
 pub fn run_alone_within<R: Inlet, W: Outlet, P: Progress>(
     alloc: Global,

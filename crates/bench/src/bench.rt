@@ -1,4 +1,4 @@
-//! A shard with its deque, and the names that came and went.
+//! A shard with its deque, and the names of the parcels that arrived and left.
 
 ghost use Rattle.std.specs.Prelude.{◌≡◌, ◌+◌, ◌≤◌, vec_len, vec_capacity, length};
 ghost use Rattle.bench.specs.Custody.{Kept, AreResidents};
@@ -14,11 +14,11 @@ use shard::{PackError, Parcel, Polled, Shard, TakeInError, Turned, Unwatched, Wa
 use std::alloc::{AllocError, Global};
 use timer_wheel::Wheel;
 
-/// A parcel that comes back (44): there are 256 residents (30), or want of memory.
+/// The reason why a parcel is returned (44): there are 256 residents (30), or memory ran out.
 pub type Refused = TakeInError<RingMail>;
 
-/// The residents of one worker, its deque, and the names that came and went: admitted, adopted, ended, handed out,
-/// and those of the residents. There is room for each name that an end or a close adds.
+/// The residents of one worker, its deque, and lists of names: admitted, adopted, ended and handed
+/// out, and those of the residents. There is room for each name that an end or a close adds.
 #[derive(Drop)]
 pub struct Bench {
     shard: Shard<Wheel, RingMail>,
@@ -39,8 +39,8 @@ pub struct Bench {
     pub ghost room_left: { (vec_len left ≡ 0) × (out ≤ vec_capacity left) },
 }
 
-/// Why a resident was not pushed: nobody is there (31); want of memory, and it stays; or the deque refused it (47),
-/// and it is handed out.
+/// The reason why a resident was not pushed: the slot is vacant (31); memory ran out, and the
+/// resident stays; or the deque refused it (47), and it is handed out.
 #[derive(Drop)]
 pub enum OfferError {
     Vacant,
@@ -48,8 +48,8 @@ pub enum OfferError {
     DequeFull(Parcel<RingMail>),
 }
 
-/// Why nothing came from the bench's own deque: it is empty; want of memory, and nothing was taken; or what was
-/// taken is not taken in, and is handed out.
+/// The reason why nothing was retaken from the bench's own deque: it is empty; memory ran out, and
+/// nothing was taken; or the parcel taken was refused, and is handed out.
 #[derive(Drop)]
 pub enum RetakeError {
     Empty,
@@ -57,8 +57,9 @@ pub enum RetakeError {
     Refused(Refused),
 }
 
-/// Why nothing came from another bench's deque: it is empty; another thread was there first; want of memory, and
-/// nothing was taken; or what was taken is not taken in, and is handed out.
+/// The reason why nothing was adopted from another bench's deque: it is empty; another thread was
+/// faster; memory ran out, and nothing was taken; or the parcel taken was refused, and is handed
+/// out.
 #[derive(Drop)]
 pub enum AdoptError {
     Empty,
@@ -76,7 +77,7 @@ impl Bench {
     ghost use Rattle.bench.specs.Ends.{peer_view};
     ghost use Rattle.bench.specs.Benches.{bench_seating, bench_view, IsNewBench, SameBench, SameLists, HasRoom, NotesEnd, Admits, AdmitFails, Offers, OfferFails, Retakes, RetakeFails, RetakeVacancy, Adopts, AdoptFails, AdoptVacancy};
 
-    /// A bench without residents, whose deque is empty.
+    /// Creates a bench without residents, whose deque is empty.
     pub fn new(alloc: Global) -> Result<Bench, AllocError>
         ensures { IfOk result IsNewBench }
     {
@@ -96,7 +97,7 @@ impl Bench {
         })
     }
 
-    /// The thief's end of the deque. There is one at most.
+    /// Creates the thief's end of the deque. There is at most one.
     pub fn peer(&mut self) -> Result<Peer, AllocError>
         requires { self.old.peered ≡ false }
         ensures same { SameBench self.old self.new }
@@ -110,7 +111,7 @@ impl Bench {
         Ok(peer)
     }
 
-    // Makes room for one more name in each list that it may come to.
+    // Reserves room for one more name in each list that may get it.
     fn make_room(&mut self) -> Result<(), AllocError>
         ensures same { SameBench self.old self.new × (self.new.peered ≡ self.old.peered) }
         ensures ok { OnOk result (HasRoom self.new) }
@@ -123,7 +124,7 @@ impl Bench {
         self.ended.reserve(most)
     }
 
-    /// Takes a parcel in, at the least vacant slot, or hands it back as it was.
+    /// Takes a parcel in at the first vacant slot, or returns it unchanged.
     pub fn admit(&mut self, parcel: Parcel<RingMail>) -> Result<(), Refused>
         ensures ok { OnOk result (Admits parcel self.old self.new) }
         ensures err { IfErr result (λ e. AdmitFails e parcel self.old self.new) }
@@ -143,7 +144,7 @@ impl Bench {
         }
     }
 
-    /// One event of one resident. Takes no memory for the bench's lists.
+    /// Makes one event of one resident. Does not allocate for the bench's lists.
     pub fn turn(&mut self) -> Turned<RingMail>
         ensures shard { TurnsSettled ring_seen result (bench_seating self.old)
             (bench_seating self.new) }
@@ -154,8 +155,9 @@ impl Bench {
         self.turns(0, &mut Unwatched)
     }
 
-    /// `turn`, and then at most `more` further events of the same resident, while it has a next command, doesn't end,
-    /// and `watch` says yes, which hears of each that ran.
+    /// Makes a turn like `turn`, and then at most `more` further events of the same resident, while
+    /// it has a next command, doesn't end, and `watch`, which is called after each that ran,
+    /// returns true.
     pub fn turns<W: Watch>(&mut self, more: u32, watch: &mut W) -> Turned<RingMail>
         ensures shard { (ran name : ℕ) × HeardOf W.hears result name ran watch.old watch.new
             × NamesIt result name
@@ -177,7 +179,7 @@ impl Bench {
         }
     }
 
-    /// Takes a command from the mail of a slot's resident, where it has no next one.
+    /// Takes a command from the mail of a slot's resident, if it has no next one.
     pub fn poll(&mut self, slot: usize) -> Polled
         ensures shard { IsPoll ring_seen result (bench_seating self.old)
             (bench_seating self.new) slot }
@@ -188,7 +190,7 @@ impl Bench {
         self.shard.poll(slot)
     }
 
-    /// The slot of the resident of a name.
+    /// Returns the slot of the resident with a name.
     pub fn slot_of(&self, name: u32) -> Option<usize>
         ensures some { IfSome result
             (λ slot. (s : Seat RingMail) × (seat_at (bench_seating self.now).seats slot ≡ Some s)
@@ -200,14 +202,15 @@ impl Bench {
         self.shard.slot_of(name)
     }
 
-    /// How many residents there are.
+    /// Returns the number of residents.
     pub fn residents(&self) -> usize
         ensures { result ≡ length self.now.resident.items }
     {
         self.resident.len()
     }
 
-    /// How many parcels wait on its deque, of which a thief may take some meanwhile; nothing is claimed of the number.
+    /// Returns the number of parcels on the deque, some of which a thief may take meanwhile. The
+    /// contract doesn't state the number.
     pub fn waiting(&mut self) -> usize
         ensures same { SameBench self.old self.new }
         ensures peered { self.new.peered ≡ self.old.peered }
@@ -215,7 +218,7 @@ impl Bench {
         self.deque.waiting()
     }
 
-    /// What each resident keeps: it shows the state of running it alone.
+    /// Reveals that the state of every resident is that of running it alone.
     pub fn reveal_invariant(&self)
         ensures { (slot : ℕ) (s : Seat RingMail) →
             seat_at (bench_seating self.now).seats slot ≡ Some s → IsTold ring_seen s.stand }
@@ -260,7 +263,7 @@ impl Bench {
         }
     }
 
-    /// Takes back what it pushed first, if nobody took it.
+    /// Takes back the parcel that the bench pushed first, unless it has been taken.
     pub fn retake(&mut self) -> Result<(), RetakeError>
         ensures ok { OnOk result (Retakes self.old self.new) }
         ensures err { IfErr result (λ e. RetakeFails e self.old self.new) }
@@ -287,7 +290,7 @@ impl Bench {
         }
     }
 
-    /// Takes what another bench pushed first, if nobody took it.
+    /// Takes the parcel that another bench pushed first, unless it has been taken.
     pub fn adopt(&mut self, peer: &mut Peer) -> Result<(), AdoptError>
         ensures ok { OnOk result
             (Adopts (peer_view peer.old) (peer_view peer.new) self.old self.new) }
@@ -319,7 +322,8 @@ impl Bench {
         }
     }
 
-    /// Ends the bench: its lists, with the residents and what its deque still holds. Takes no memory.
+    /// Closes the bench, and returns its lists, with the residents and what its deque still holds.
+    /// Does not allocate.
     pub fn close(self) -> Closing
         ensures lists { (result.admitted ≡ self.admitted) × (result.adopted ≡ self.adopted)
             × (result.ended ≡ self.ended) × (result.handed_out ≡ self.handed_out) }

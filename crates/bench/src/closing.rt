@@ -1,4 +1,4 @@
-//! What a bench leaves, and what all of them show.
+//! The names of closed benches, and their audit.
 
 ghost use Rattle.std.specs.Prelude.{◌≡◌, ◌+◌, ◌≤◌, ◌<◌, ℕ, length, vec_len, vec_capacity, OnOk, IfErr};
 ghost use Rattle.std.specs.Bool.{Decides};
@@ -21,7 +21,7 @@ pub struct Closing {
     pub deque: Vec<u32>,
 }
 
-// Takes from the deque until it is empty.
+// Takes parcels from the deque until it is empty.
 pub(crate) fn drain(deque: &mut Deque, left: &mut Vec<u32>)
     requires { (vec_len left.old ≡ 0)
         × (length (deque_view deque.old).pushed
@@ -36,14 +36,14 @@ pub(crate) fn drain(deque: &mut Deque, left: &mut Vec<u32>)
     }
 }
 
-// Lets the parcel go, but for its name.
+// Discards a parcel, except for its name.
 fn name_of(parcel: Parcel<RingMail>) -> u32
     ensures { result ≡ parcel.name }
 {
     parcel.name()
 }
 
-// How often a name stands in each kind of list.
+// The number of times that a name occurs in each kind of list.
 #[derive(Clone, Copy)]
 struct Standing {
     admitted: u128,
@@ -94,7 +94,7 @@ fn is_accounted(x: u32, closings: &[Closing]) -> bool
     placed <= 1 && placed <= s.admitted && s.admitted - placed == s.handed_out
 }
 
-// The greatest of the names and of those so far.
+// Returns the maximum of the names and of `so_far`.
 fn greatest_of(list: &[u32], so_far: u32) -> u32
     ensures most { so_far ≤ result }
     ensures none { (x : ℕ) → result < x → times x list.now ≡ 0 }
@@ -129,7 +129,7 @@ fn greatest_name(closings: &[Closing]) -> u32
     most
 }
 
-/// Whether each name is accounted for. If not, the least that isn't.
+/// Checks that each name is accounted for. Returns the smallest name that isn't.
 pub fn audit(closings: &[Closing]) -> Result<(), Lost>
     ensures ok { OnOk result ((x : ℕ) → Accounted closings.now x) }
     ensures lost { IfErr result (λ e. IsLeast closings.now e.0) }
@@ -146,6 +146,6 @@ pub fn audit(closings: &[Closing]) -> Result<(), Lost>
     Ok(())
 }
 
-/// The least name that isn't accounted for.
+/// The smallest name that isn't accounted for.
 #[derive(Clone, Copy, Debug, PartialEq, Eq)]
 pub struct Lost(pub u32);

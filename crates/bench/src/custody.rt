@@ -7,7 +7,7 @@ use crossbeam_deque::{Pass, Stealer, Worker};
 use shard::Parcel;
 use std::alloc::Global;
 
-/// Nothing is lost or doubled in a deque.
+/// The rule that nothing in a deque is lost or duplicated.
 pub struct Custody;
 
 impl Protocol<Parcel<RingMail>, Hand> for Custody {
@@ -41,7 +41,7 @@ impl Outcome<Parcel<RingMail>, Hand> for Taken {
     ghost then = { λ v xs w. w ≡ hand v.pushed (v.taken ++ stamps xs) };
 }
 
-/// The owner has taken no more than it has pushed.
+/// A take by the owner, which has taken no more than it has pushed.
 pub struct Retaken;
 
 impl Outcome<Parcel<RingMail>, Hand> for Retaken {
@@ -51,7 +51,7 @@ impl Outcome<Parcel<RingMail>, Hand> for Retaken {
     ghost then = { λ v xs w. (w ≡ hand v.pushed (v.taken ++ stamps xs)) × TookLess w };
 }
 
-/// How many wait there, of which nothing is claimed.
+/// The number of parcels on the deque, about which nothing is stated.
 pub struct Seen;
 
 impl Lesson<Parcel<RingMail>, Hand> for Seen {

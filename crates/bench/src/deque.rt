@@ -10,7 +10,7 @@ use crossbeam_deque::{Steal, Worker};
 use shard::Parcel;
 use std::alloc::{AllocError, Global};
 
-/// How many parcels a new deque has room for.
+/// The number of parcels for which a new deque has room.
 const FIRST_ROOM: usize = 4;
 
 /// The owner's end.
@@ -22,7 +22,7 @@ pub(crate) struct Deque {
     pub ghost less: { TookLess (worker_view owner) },
 }
 
-/// The thief's end of a bench's deque, which may go to another thread.
+/// The thief's end of a bench's deque, which may move to another thread.
 #[derive(Drop)]
 pub struct Peer {
     thief: Thief,
@@ -42,7 +42,7 @@ impl Deque {
         Ok(Deque { owner })
     }
 
-    // The thief's end.
+    // Creates the thief's end.
     pub(crate) fn peer(&self) -> Result<Peer, AllocError>
         ensures view { IfOk result (λ p. peer_view p ≡ hand [] []) }
         ensures same { IfOk result (λ p. stealer_deque p.thief ≡ worker_deque self.now.owner) }
@@ -52,7 +52,7 @@ impl Deque {
         Ok(Peer { thief, pass })
     }
 
-    // Pushes at the back, or hands the parcel back.
+    // Pushes a parcel at the back, or returns it.
     pub(crate) fn push(&mut self, parcel: Parcel<RingMail>) -> Result<(), Parcel<RingMail>>
         ensures { MatchResult result
             (λ _. deque_view self.new
@@ -65,14 +65,14 @@ impl Deque {
         }
     }
 
-    // How many wait there, some of which may be taken meanwhile.
+    // Returns the number of parcels on the deque, some of which may be taken meanwhile.
     pub(crate) fn waiting(&mut self) -> usize
         ensures { deque_view self.new ≡ deque_view self.old }
     {
         self.owner.len_as::<Seen>()
     }
 
-    // Takes at the front.
+    // Takes the parcel at the front.
     #[tactic(auto, using(crate::proofs::Custodies::fewer))]
     pub(crate) fn pop(&mut self) -> Option<Parcel<RingMail>>
         ensures few { OnSome result
@@ -92,7 +92,7 @@ impl Peer {
     ghost use Rattle.bench.specs.Custody.{hand, stamp};
     ghost use Rattle.bench.specs.Ends.{peer_view};
 
-    // Takes at the front.
+    // Takes the parcel at the front.
     pub(crate) fn steal(&mut self) -> Steal<Parcel<RingMail>>
         ensures { MatchSteal result (peer_view self.new ≡ peer_view self.old)
             (peer_view self.new ≡ peer_view self.old)

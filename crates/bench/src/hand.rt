@@ -1,10 +1,11 @@
-//! What the passes of a deque know.
+//! The state of a deque's passes: what each has pushed and taken.
 
 use emu_model::{Spec, Timed};
 use std::collections::LinkedList;
 
-/// What stays of an experiment while it moves: its name, what it was given, the commands that came to it, and how
-/// many steps were made. By the type of a parcel they fix its state. No value of this type is made.
+/// The part of an experiment that doesn't change while it moves: its name, its specification, its
+/// commands so far, and the number of steps made. By the type of a parcel, these determine its
+/// state. No value of this type is created.
 pub struct Stamp {
     pub name: u32,
     pub spec: Spec,
@@ -12,7 +13,7 @@ pub struct Stamp {
     pub events: u64,
 }
 
-/// What a pass has pushed and taken. No value of this type is made.
+/// The stamps that a pass has pushed and taken. No value of this type is created.
 pub struct Hand {
     pub pushed: LinkedList<Stamp>,
     pub taken: LinkedList<Stamp>,

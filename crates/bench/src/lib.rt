@@ -1,5 +1,6 @@
-//! Tenants, their rings, and the benches on which their experiments run: each bench owns one shard, and hands
-//! experiments on through a deque. No experiment is lost, and none is run twice. Own.
+//! Tenants, their rings, and the benches on which their experiments run: each bench owns one shard,
+//! and passes experiments on through a deque. No experiment is lost, and none is run twice. Our
+//! choice.
 #![tactic(auto)]
 
 mod bench;

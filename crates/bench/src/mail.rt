@@ -1,4 +1,4 @@
-//! A mail over two rings, whose other ends a tenant has.
+//! A mail over two rings, whose other ends belong to a tenant.
 
 ghost use Rattle.std.specs.Prelude.{◌≡◌, IsTrue};
 ghost use Rattle.rtrb.specs.Ring.{known_free};
@@ -9,19 +9,19 @@ use rtrb::{Consumer, Producer, Protocol};
 use shard::Mail;
 use std::alloc::Global;
 
-/// A command on its way.
+/// A command in transit.
 #[derive(Clone, Copy)]
 pub struct Posted {
     pub timed: Timed,
 }
 
-/// A record on its way.
+/// A record in transit.
 #[derive(Clone, Copy)]
 pub struct News {
     pub letter: Record,
 }
 
-/// What a ring of commands lets in: moments of at most 10^15 ns.
+/// The commands that a ring accepts: those at times of at most 10^15 ns.
 #[derive(Clone, Copy)]
 pub struct Moments;
 
@@ -31,14 +31,14 @@ impl Protocol<Posted> for Moments {
     ghost allows = { λ before p. p.timed.moment ≤ 10 ^ 15 };
 }
 
-/// The experiment's ends of two rings: commands come from the one, and letters go to the other; and the records that it keeps,
-/// packed.
+/// The experiment's ends of two rings, one for commands and one for letters, and the packed records
+/// that the mail keeps.
 #[derive(Drop)]
 pub struct RingMail {
     pub(crate) from: Consumer<Posted, Global, Moments>,
     pub(crate) to: Producer<News>,
     pub(crate) kept: Archive,
-    // No room for a letter was known when it was looked for last.
+    // True if no room for a letter was known at the last check.
     full: bool,
     ghost none: { IsTrue full → known_free to ≡ 0 },
 }
@@ -77,7 +77,7 @@ impl Mail for RingMail {
     }
 
     fn letter(&mut self, news: Record) -> Result<(), Record> {
-        // Asked first, so that a letter for which there is no room isn't copied.
+        // Checked first, so that a letter for which there is no room isn't copied.
         self.full = self.to.is_full();
         if self.full {
             return Err(news);

@@ -3,7 +3,7 @@
 ghost use Rattle.std.specs.Prelude.{◌≡◌, ◌+◌, ◌<◌, ◌==◌, ℕ, cond, vec_len, vec_capacity};
 ghost use Rattle.bench.specs.Custody.{times};
 
-// Takes a name out of the list once.
+// Removes one occurrence of a name from the list.
 pub(crate) fn remove_one(names: &mut Vec<u32>, name: u32)
     requires there { 0 < times name names.old.items }
     ensures others { (x : ℕ) →
@@ -11,7 +11,7 @@ pub(crate) fn remove_one(names: &mut Vec<u32>, name: u32)
     ensures len { vec_len names.new + 1 ≡ vec_len names.old }
     ensures room { vec_capacity names.new ≡ vec_capacity names.old }
 {
-    // Who came last is mostly who goes.
+    // The resident that arrived last is usually the one that leaves.
     if let Some(last) = names.len().checked_sub(1) {
         if names[last] == name {
             names.swap_remove(last);

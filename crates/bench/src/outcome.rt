@@ -1,4 +1,4 @@
-//! What a tenant gets in the end.
+//! The final result for a tenant.
 
 ghost use Rattle.std.specs.Prelude.{◌≡◌, ◌≤◌, ◌++◌, slice_get, Some};
 ghost use Rattle.emu_model.specs.Net.{counters_of};
@@ -12,7 +12,7 @@ use report::Archive;
 use shard::Dossier;
 use std::marker::Model;
 
-/// What a tenant gets in the end: the dossier that it took for its own.
+/// The final result for a tenant: the dossier that it accepted as its own.
 #[derive(Drop)]
 pub struct Outcome {
     dossier: Dossier<RingMail>,
@@ -33,56 +33,56 @@ impl Outcome {
         Outcome { dossier }
     }
 
-    /// Its name.
+    /// Returns the name.
     pub fn name(&self) -> u32
         ensures { result ≡ self.now.name }
     {
         self.dossier.name()
     }
 
-    /// What it was given.
+    /// Returns the specification of the experiment.
     pub fn spec(&self) -> Spec
         ensures { result ≡ self.now.spec }
     {
         self.dossier.spec()
     }
 
-    /// The commands that came.
+    /// Returns the commands of the experiment.
     pub fn commands(&self) -> &[Timed]
         ensures { result.now ≡ self.now.commands }
     {
         self.dossier.consumed()
     }
 
-    /// The record at a place; None where there are no more.
+    /// Returns the record at a place, or None if there is none.
     pub fn record(&self, place: usize) -> Option<Record>
         ensures { result ≡ slice_get self.now.records place }
     {
         self.dossier.record(place)
     }
 
-    /// The packets that were made, delivered, are held, and were dropped by cause.
+    /// Returns the counters: the packets created, delivered, held, and dropped by cause.
     pub fn counters(&self) -> Counters
         ensures { result ≡ self.now.counters }
     {
         self.dossier.counters()
     }
 
-    /// How it ended.
+    /// Returns the ending.
     pub fn ending(&self) -> Ending
         ensures { result ≡ self.now.ending }
     {
         self.dossier.ending()
     }
 
-    /// How many steps were made.
+    /// Returns the number of steps made.
     pub fn events(&self) -> u64
         ensures { result ≡ self.now.events }
     {
         self.dossier.events()
     }
 
-    /// What was recorded: what its mail kept, and the records behind.
+    /// Returns the records: those that the mail kept, and those after them.
     pub fn into_records(self) -> (Archive, Vec<Record>)
         ensures { result.0 ++ result.1.items ≡ self.records }
     {
@@ -91,7 +91,8 @@ impl Outcome {
         (mail.kept, records)
     }
 
-    /// What every outcome keeps: its records and counters, and how it ended, are those of running it alone.
+    /// Reveals the invariant of every outcome: its records, its counters and its ending are those
+    /// of running it alone.
     pub fn reveal_invariant(&self)
         ensures records { self.now.records
             ≡ (alone self.now.spec self.now.commands self.now.events).net.records }

@@ -1,4 +1,4 @@
-//! Where names come from.
+//! The registry, which assigns names.
 
 ghost use Rattle.std.specs.Prelude.{◌≡◌, ◌+◌, ◌<◌, ◌^◌, [], IfOk, IfErr, OnErr};
 ghost use Rattle.shard.specs.Stand.{opened_stand};
@@ -14,16 +14,16 @@ use rtrb::RingBuffer;
 use shard::{Parcel, SLOTS};
 use std::alloc::{AllocError, Global};
 
-/// How many names there are.
+/// The number of names.
 pub const NAMES: u32 = 1_000_000;
 
-/// Gives names, each below 10^6, rising by one.
+/// A registry that assigns names below 10^6, in increasing order.
 #[derive(Drop)]
 pub struct Registry {
     next: u32,
 }
 
-/// Why no tenant was opened: all names are given (46), or want of memory.
+/// The reason why no tenant was opened: all names are assigned (46), or memory ran out.
 #[derive(Clone, Copy, Debug, Drop, PartialEq, Eq)]
 pub enum OpenError {
     NamesOut = 46,
@@ -42,22 +42,23 @@ impl From<AllocError> for OpenError {
 }
 
 impl Registry {
-    /// Names from 0 on.
+    /// Creates a registry that assigns names from 0 on.
     pub fn new() -> Self
         ensures { result.next ≡ 0 }
     {
         Registry { next: 0 }
     }
 
-    /// Names from n on.
+    /// Creates a registry that assigns names from n on.
     pub fn starting(n: u32) -> Self
         ensures { result.next ≡ n }
     {
         Registry { next: n }
     }
 
-    /// A tenant, and the parcel of its experiment, which has the next name and to which no command came.
-    /// `NamesOut` just where the next name would be 10^6. Refused, no name is given.
+    /// Creates a tenant, and the parcel of its experiment, which has the next name and no commands
+    /// yet. Fails with `NamesOut` exactly if the next name would be 10^6 or more. If it fails, no
+    /// name is assigned.
     pub fn open(
         &mut self,
         alloc: Global,
@@ -88,7 +89,7 @@ impl Registry {
     }
 }
 
-// The parcel of an experiment to which no command came.
+// Creates the parcel of an experiment without commands.
 fn parcel_of(
     alloc: Global,
     name: u32,

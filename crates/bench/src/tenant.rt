@@ -1,4 +1,4 @@
-//! The side of a tenant: it posts the commands of its experiment, reads its letters, and keeps both.
+//! The tenant's side: it posts the commands of its experiment, reads its letters, and keeps both.
 
 ghost use Rattle.std.specs.Prelude.{◌≡◌};
 ghost use Rattle.std.specs.Bool.{Decides};
@@ -15,7 +15,7 @@ use rtrb::{Consumer, Producer, PushError};
 use shard::Dossier;
 use std::alloc::{AllocError, Global};
 
-/// Posts an experiment's commands and reads its letters, and keeps both.
+/// A tenant, which posts an experiment's commands and reads its letters, and keeps both.
 #[derive(Drop)]
 pub struct Tenant {
     name: u32,
@@ -33,8 +33,9 @@ pub struct Tenant {
     pub ghost slots: { producer_capacity to ≡ 64 },
 }
 
-/// Why a command was not posted, in this order: an `end` was posted (45), its moment is above 10^15 ns (42), or
-/// below that of the last posted (40), want of memory, or 64 posted commands aren't known to be taken (41).
+/// The reason why a command was not posted, in this order: an `end` was posted (45), its time is
+/// after 10^15 ns (42) or before that of the last posted command (40), memory ran out, or 64 posted
+/// commands are not known to be taken (41).
 #[derive(Clone, Copy, Debug, PartialEq, Eq)]
 pub enum PostError {
     Closed = 45,
@@ -44,14 +45,14 @@ pub enum PostError {
     MailFull = 41,
 }
 
-/// A command that was not posted, and why.
+/// A command that was not posted, and the reason.
 #[derive(Clone, Copy)]
 pub struct RefusedPost {
     pub cause: PostError,
     pub command: Timed,
 }
 
-/// A dossier that is not the tenant's (43).
+/// A dossier that doesn't belong to the tenant (43).
 #[derive(Drop)]
 pub struct Strange {
     pub tenant: Tenant,
@@ -91,36 +92,36 @@ impl Tenant {
         }
     }
 
-    /// Its name.
+    /// Returns the name.
     pub fn name(&self) -> u32
         ensures { result ≡ self.now.name }
     {
         self.name
     }
 
-    /// What it was opened with.
+    /// Returns the specification with which the tenant was opened.
     pub fn spec(&self) -> Spec
         ensures { result ≡ self.now.spec }
     {
         self.spec
     }
 
-    /// How many commands were posted.
+    /// Returns the number of commands posted.
     pub fn posted_len(&self) -> usize
         ensures { result ≡ length (posted self.now) }
     {
         self.posted.len()
     }
 
-    /// The letters that were read.
+    /// Returns the letters that were read.
     pub fn letters(&self) -> &[Record]
         ensures { result.now ≡ letters_read self.now }
     {
         &self.read
     }
 
-    /// Posts a command, at a moment (ns), behind those that were posted; or hands it back with the first cause that
-    /// holds.
+    /// Posts a command, at a time (ns), after those already posted, or returns it with the first
+    /// reason that applies.
     pub fn post(&mut self, command: Timed) -> Result<(), RefusedPost>
         ensures same { SameTenant self.old self.new
             × (letters_read self.new ≡ letters_read self.old) }
@@ -154,8 +155,8 @@ impl Tenant {
         }
     }
 
-    /// Takes the next letter, if one is there; None only where none is known to wait. Where memory is refused none
-    /// is taken.
+    /// Reads the next letter, if there is one; returns None only if none is known to wait. If
+    /// memory runs out, no letter is removed.
     pub fn read(&mut self) -> Result<Option<Record>, AllocError>
         ensures same { SameTenant self.old self.new × (posted self.new ≡ posted self.old) }
         ensures ok { IfOk result
@@ -174,7 +175,7 @@ impl Tenant {
         }
     }
 
-    // Whether the dossier is this tenant's.
+    // Returns true if the dossier belongs to this tenant.
     fn fits(&self, dossier: &Dossier<RingMail>) -> bool
         ensures { Decides result (Fits self.now dossier.now) }
     {
@@ -184,9 +185,10 @@ impl Tenant {
             && begins(dossier, self.read.as_slice())
     }
 
-    /// Takes a dossier for its own: just where name and specification are its own, the dossier's commands are a
-    /// beginning of the posted ones (all of them, where it ended by its command), and the letters read are a
-    /// beginning of its records. Otherwise both come back. Takes no memory.
+    /// Accepts a dossier as its own, exactly if the name and specification are its own, the
+    /// dossier's commands are a prefix of the posted ones (all of them, if it ended by its
+    /// command), and the letters read are a prefix of its records. Otherwise returns both. Does not
+    /// allocate.
     pub fn settle(self, dossier: Dossier<RingMail>) -> Result<Outcome, Strange>
         ensures fits { IfOk result (λ _. Fits self dossier) }
         ensures outcome { IfOk result (λ o. o ≡ settled dossier) }
@@ -215,14 +217,14 @@ fn is_end_command(command: &Command) -> bool
     matches!(command, Command::End)
 }
 
-// Whether the first list begins with the second.
+// Returns true if the first list begins with the second.
 fn starts(all: &[Timed], first: &[Timed]) -> bool
     ensures { Decides result (BeginsWith all.now first.now) }
 {
     first.len() <= all.len() && &all[..first.len()] == first
 }
 
-// Whether the records of a dossier begin with these.
+// Returns true if the records of a dossier begin with these.
 fn begins(dossier: &Dossier<RingMail>, first: &[Record]) -> bool
     ensures { Decides result (BeginsWith dossier.now.records first.now) }
 {
@@ -234,7 +236,7 @@ fn begins(dossier: &Dossier<RingMail>, first: &[Record]) -> bool
     true
 }
 
-// Whether these commands were taken of the posted ones, as the ending says.
+// Returns true if these commands were taken from the posted ones, as the ending implies.
 fn matches_posted(ending: Ending, posted: &[Timed], commands: &[Timed]) -> bool
     ensures { Decides result (Took ending posted.now commands.now) }
 {

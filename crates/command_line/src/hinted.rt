@@ -1,4 +1,4 @@
-//! What `--explain` says of a line of a session that isn't taken.
+//! The hints that `--explain` prints for a line that a session rejects.
 
 ghost use Rattle.std.specs.Prelude.{◌≡◌, [], false};
 
@@ -7,18 +7,19 @@ use control::{Cause, Fault};
 use explain_text::faults_text;
 use std::alloc::{AllocError, Global};
 
-/// What is expected of a line that asks.
+/// The hint for a request with a bad word.
 const REQUEST: &[u8] = b"  expected: a request that `#> help` lists\n";
 
 const RANGE: &[u8] = b"  expected: a moment up to 10^15 ns, and a time of 1 ns at least\n";
 
-/// Hints for lines at fault, if they are wanted.
+/// Hints for faulty lines, if `wanted` is true.
 #[derive(Clone, Copy)]
 pub struct LineHints {
     pub wanted: bool,
 }
 
-// The hint for the words of a line that asks. To a scenario it is a comment, of which `explain` knows nothing.
+// Returns the hint for a faulty request. A request is a comment in a scenario, so `explain` knows
+// nothing about it.
 fn hint_for_request(line: &[u8], cause: Cause) -> Option<&'static [u8]> {
     if !line.starts_with(b"#>") {
         return None;

@@ -1,5 +1,5 @@
-//! The words of the command line of `dnlab`, its exit statuses and what it prints on standard error. What they ask for is
-//! done by `alone`; the program `dnlab` has workers besides, and adds its version.
+//! The command line of `dnlab`, its exit statuses, and what it prints on standard error. `alone`
+//! performs the tasks; the program `dnlab` adds workers and its version.
 #![tactic(auto)]
 
 mod hinted;
@@ -36,10 +36,11 @@ use tell::{hint_at, print, tell_output, tell_steps};
 pub use words::Task;
 use words::{stray_word, task_of};
 
-/// The exit status of a strict run in which a command was refused, or an experiment spent its steps.
+/// The exit status of a strict call in which a command was or will be refused, or an experiment
+/// spent its steps.
 const NOT_STRICT: u8 = 5;
 
-/// The exit status after a call.
+/// Returns the exit status after a call.
 fn status_of(outcome: &Result<(), Stop>) -> u8
     ensures { result ≡ status_after outcome.now }
 {
@@ -52,23 +53,23 @@ fn status_of(outcome: &Result<(), Stop>) -> u8
     }
 }
 
-// How the program ends after a call, if there is no more to say of it.
+// Returns the exit code after a call that needs no further output.
 fn end(outcome: Result<(), Stop>) -> ExitCode
     ensures { exit_status result ≡ status_after outcome }
 {
     ExitCode::from(status_of(&outcome))
 }
 
-// Prints a fault of the program's own words, or of what is to be explained, and how the program ends.
+// Prints a fault of the program's arguments or of the explanation, and returns the exit code.
 fn fail(rt: &impl Eprint, fault: RunFault) -> ExitCode
     ensures { exit_status result ≡ status_of_fault fault }
 {
-    // There is nowhere else to say that this can't be printed.
+    // There is nowhere else to report that this can't be printed.
     let _ = eprintln!(rt; "{fault}");
     end(Err(Stop::Fault(fault)))
 }
 
-// Returns the fault for which a call gave no answer, if there is one.
+// Returns the fault of a call that returned no result, if there is one.
 fn said_fault<T: Drop>(outcome: &Result<T, Stop>) -> Option<RunFault>
     ensures { result ≡ fault_after (done_of outcome.now) }
 {
@@ -79,7 +80,7 @@ fn said_fault<T: Drop>(outcome: &Result<T, Stop>) -> Option<RunFault>
     }
 }
 
-/// Writes the line of the fault for which a call gave no answer, if there is one.
+/// Writes the line of the fault of a call that returned no result, if there is one.
 pub fn say_fault<T: Drop, E: Outlet>(console: &mut E, outcome: &Result<T, Stop>)
     ensures { IsSaid (line_of (fault_after (done_of outcome.now))) (E.contents console.old)
         (E.contents console.new) (E.failed console.new) }
@@ -90,7 +91,7 @@ pub fn say_fault<T: Drop, E: Outlet>(console: &mut E, outcome: &Result<T, Stop>)
     }
 }
 
-// What a call without limits answers that makes no reports.
+// Returns the outcome of a call that has no limits and makes no reports.
 fn unlimited_outcome(outcome: Result<(), RunFault>) -> Result<Option<Made>, Stop>
     ensures leaves { leaves (done_of result) ≡ outcome }
     ensures made { (read : Option (List ℕ)) → IfOk result (IsMadeOf read) }
@@ -101,7 +102,7 @@ fn unlimited_outcome(outcome: Result<(), RunFault>) -> Result<Option<Made>, Stop
     }
 }
 
-/// What a call answers that makes reports.
+/// Returns the outcome of a call that makes reports.
 #[tactic(auto, using(crate::proofs::MadeFacts::made_read))]
 pub fn with_reports(outcome: Result<Made, Stop>) -> Result<Option<Made>, Stop>
     ensures result { MatchResult outcome (λ made. result ≡ Ok (Some made)) (λ stop. result ≡ Err stop) }
@@ -126,14 +127,15 @@ fn is_spent(note: &Note) -> bool
     }
 }
 
-// How many experiments spent their steps.
+// Returns the number of experiments that spent their steps.
 fn count_spent(notes: &[Note]) -> usize
     ensures { result ≡ count_by (λ n. is_spent n.subject) notes.now }
 {
     notes.iter().filter(|note| is_spent(note)).count()
 }
 
-// Says of a strict call that commands are refused or steps were spent, if so, and how the program ends.
+// Prints the numbers of refused commands and of experiments that spent their steps, if there are
+// any, and returns the exit code of a strict run.
 fn end_strictly(rt: &impl Eprint, account: &Account) -> ExitCode
     ensures { exit_status result ≡ (if is_clean account.now then 0 else 5) }
 {
@@ -148,7 +150,8 @@ fn end_strictly(rt: &impl Eprint, account: &Account) -> ExitCode
     ExitCode::from(NOT_STRICT)
 }
 
-// Says of a strict check that commands will be refused, if so, and how the program ends.
+// Prints the number of commands that will be refused, if there are any, and returns the exit code
+// of a strict check.
 fn end_checked(rt: &impl Eprint, expected: &[RefusedCommand]) -> ExitCode
     ensures { exit_status result ≡ (if length expected.now == 0 then 0 else 5) }
 {
@@ -162,8 +165,9 @@ fn end_checked(rt: &impl Eprint, expected: &[RefusedCommand]) -> ExitCode
     ExitCode::from(NOT_STRICT)
 }
 
-// Says of a run that went well what is asked for, by what its reports say: which commands were refused and what is silently
-// wrong, and whether that is a failure.
+// Prints what the task requests after a successful run, according to its reports: the commands that
+// were refused and what is silently wrong. Returns the exit code, which is a failure if the task is
+// strict and the account isn't clean.
 fn end_told(
     rt: &impl Eprint,
     alloc: Global,
@@ -192,7 +196,8 @@ fn end_told(
     Ok(ExitCode::from(0))
 }
 
-// The same, if anything is asked for.
+// Ends a successful run with `end_told` if the task requests an explanation or is strict, and with
+// exit code 0 otherwise.
 #[tactic(auto, using(crate::proofs::MadeFacts::ends_strictly))]
 fn end_run(
     rt: &impl Eprint,
@@ -214,7 +219,7 @@ fn end_run(
     end_told(rt, alloc, text, made, &account, task)
 }
 
-// Says what is asked for of a text that was checked, and how the program ends.
+// Prints what the task requests about a text that was checked, and returns the exit code.
 fn end_text(
     rt: &impl Eprint,
     alloc: Global,
@@ -235,7 +240,8 @@ fn end_text(
     Ok(end_checked(rt, expected.as_slice()))
 }
 
-// The same, if anything is asked for.
+// Ends a successful check with `end_text` if the task requests an explanation or is strict, and
+// with exit code 0 otherwise.
 fn end_unrun(
     rt: &impl Eprint,
     alloc: Global,
@@ -252,8 +258,8 @@ fn end_unrun(
     end_text(rt, alloc, text, task)
 }
 
-// Says which limit stopped a call, and where it is asked for what is wrong with the text. The line of its fault has been
-// said before.
+// Prints the limit that stopped a call or, if requested, the explanation of the text's fault. The
+// line of the fault has already been printed.
 fn end_stopped(
     rt: &impl Eprint,
     alloc: Global,
@@ -276,8 +282,8 @@ fn end_stopped(
     Ok(end(Err(stop)))
 }
 
-/// Says what is to be said behind a call and behind the line of its fault, and how the program ends. Where memory for that
-/// is refused the program says so.
+/// Prints what is required after a call and after the line of its fault, and returns the exit code.
+/// If an allocation for that fails, it prints the fault `memory`.
 #[tactic(auto, using(crate::proofs::MadeFacts::ends_early))]
 pub fn end_with(
     rt: &impl Eprint,
@@ -305,7 +311,8 @@ pub fn end_with(
     }
 }
 
-// How the program ends where the words are no command, and what is to be said of them was printed or wasn't.
+// Returns the exit code for arguments that are no command, after their message was printed or
+// couldn't be printed.
 fn end_words(rt: &impl Eprint, kind: ErrorKind, is_printed: bool) -> ExitCode
     ensures { exit_status result ≡ (if is_printed then status_of_kind kind else 3) }
 {
@@ -319,7 +326,8 @@ fn end_words(rt: &impl Eprint, kind: ErrorKind, is_printed: bool) -> ExitCode
     }
 }
 
-// Prints what `clap` has to say: a mistake in the words, help or the version; of a word too many also how a text is given.
+// Prints the message from `clap`: a mistake in the arguments, help or the version. For a surplus
+// argument, it also prints how to pass a file.
 fn say<R: Print + Eprint>(rt: &R, error: &Error, words: &[String]) -> ExitCode
     ensures { IsStatusOf (kind_of error.now) (exit_status result) }
 {
@@ -334,7 +342,8 @@ fn say<R: Print + Eprint>(rt: &R, error: &Error, words: &[String]) -> ExitCode
     end_words(rt, kind, is_printed)
 }
 
-/// The program's words, its name first; else how the program ends, and it has been said why.
+/// Returns the program's arguments, its name first. If it can't, it prints the reason and returns
+/// the exit code.
 pub fn words_given<H: Alloc<A = Global> + Env + Eprint>(rt: &H) -> Result<Vec<String>, ExitCode>
     ensures { IfErr result (λ code. (exit_status code ≡ 2) ⊎ (exit_status code ≡ 3)) }
 {
@@ -354,8 +363,8 @@ pub fn words_given<H: Alloc<A = Global> + Env + Eprint>(rt: &H) -> Result<Vec<St
     }
 }
 
-/// What the words ask for, the program's name first; else what is to be said of them has been said, and how the program
-/// ends. `version` is what the program says of itself.
+/// Returns the task that the arguments (the program's name first) request. If there is none, it
+/// prints the reason and returns the exit code. `version` is the version that the program reports.
 pub fn asked<R: Eprint + Print>(
     rt: &R,
     alloc: Global,
@@ -372,8 +381,8 @@ pub fn asked<R: Eprint + Print>(
     }
 }
 
-/// Does by one thread what is asked for. A run by workers is made so too, and writes the same; who has workers makes it by
-/// them.
+/// Performs a task on one thread. A run with workers is performed in the same way and writes the
+/// same bytes. A program that has workers performs it with those.
 #[tactic(auto, using(crate::proofs::TalkFacts::talks))]
 pub fn by_one_thread<H: Clock + Eprint + Sync, R: Inlet, W: Outlet>(
     rt: &H,

@@ -1,25 +1,25 @@
-//! Says on standard error how far a run is, where that was asked for.
+//! Reports the progress of a run on standard error, if the user requested that.
 
 use alone::Progress;
 use std::sync::atomic::{AtomicU64, Ordering};
 use std::time::{Clock, Instant};
 
-/// How long it says nothing after it has said something, in ms.
+/// The minimum time between two reports, in ms.
 const PAUSE: u64 = 200;
 
-/// Says how far a run is, at most five times a second; nothing where it has no start.
+/// A progress meter, which reports at most five times a second, and never if it has no start.
 #[derive(Drop)]
 pub struct Meter<'a, R> {
     rt: &'a R,
     start: Option<Instant>,
-    // When it may say something again, in ms from the start.
+    // The time of the earliest next report, in ms from the start.
     next: AtomicU64,
-    // How many experiments have ended.
+    // The number of experiments that have ended.
     ended: AtomicU64,
 }
 
 impl<'a, R: Eprint + Clock> Meter<'a, R> {
-    /// One that speaks, if that is wanted and there is a clock.
+    /// Creates a meter, which reports if `speaks` is true and there is a clock.
     pub fn new(rt: &'a R, speaks: bool) -> Meter<'a, R> {
         let start = if speaks { Instant::now(rt).ok() } else { None };
         Meter {
@@ -30,7 +30,7 @@ impl<'a, R: Eprint + Clock> Meter<'a, R> {
         }
     }
 
-    // Whether it is time to say something.
+    // Returns true if a report is due, and reserves it for the calling thread.
     fn is_time(&self) -> bool {
         let Some(start) = self.start else {
             return false;
@@ -54,7 +54,7 @@ impl<R: Eprint + Clock + Sync> Progress for Meter<'_, R> {
     fn note_ends(&self, ended: u64, total: u64) {
         self.ended.store(ended, Ordering::SeqCst);
         if self.is_time() {
-            // There is nowhere else to say that this can't be printed.
+            // There is nowhere else to report that this can't be printed.
             let _ = eprintln!(self.rt; "dnlab: {ended} of {total} experiments have ended");
         }
     }

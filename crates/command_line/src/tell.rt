@@ -1,5 +1,5 @@
-//! What is printed on standard error besides the one line of a fault: what is explained, what goes past a limit, and what
-//! is said of a stray word.
+//! The messages on standard error other than the one line of a fault: explanations, exceeded
+//! limits, and the hint for a stray argument.
 
 use alone::Limits;
 use explain::Text;
@@ -8,7 +8,7 @@ use std::str;
 /// Prints ASCII bytes on standard error.
 pub fn print(rt: &impl Eprint, bytes: &[u8]) {
     if let Ok(text) = str::from_utf8(bytes) {
-        // There is nowhere else to say that this can't be printed.
+        // There is nowhere else to report that this can't be printed.
         let _ = eprint!(rt; "{text}");
     }
 }
@@ -21,7 +21,7 @@ fn is_command(word: &str) -> bool {
     word == "alone" || word == "run" || word == "check" || word == "live"
 }
 
-/// Says how a text is given to a command, where a word behind it is too many.
+/// Prints how to pass a file to a command, if there is a surplus argument after the command.
 pub fn hint_at(rt: &impl Eprint, command: &str, stray: Option<&str>) {
     let Some(stray) = stray else {
         return;
@@ -37,7 +37,8 @@ pub fn hint_at(rt: &impl Eprint, command: &str, stray: Option<&str>) {
     let _ = eprintln!(rt; "dnlab reads standard input: dnlab {command} < {file}");
 }
 
-/// Says which experiment of a text, by its number from 0, goes past the limit of steps, and which limit all would need.
+/// Prints which experiment of a text, by its number from 0, exceeds the limit of steps, and the
+/// limit that the whole scenario needs.
 pub fn tell_steps(rt: &impl Eprint, text: &[u8], number: u64, total: u64, limits: &Limits) {
     let most = limits.steps.unwrap_or(u64::MAX);
     let mut place = Text::new(text);
@@ -51,7 +52,7 @@ pub fn tell_steps(rt: &impl Eprint, text: &[u8], number: u64, total: u64, limits
     );
 }
 
-/// Says that the reports go past the limit of output, and which limit they would need.
+/// Prints that the reports exceed the limit of output, and the limit that they need.
 pub fn tell_output(rt: &impl Eprint, bytes: u64, limits: &Limits) {
     let most = limits.output.unwrap_or(u64::MAX);
     let _ = eprintln!(rt;

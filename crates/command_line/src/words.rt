@@ -1,4 +1,4 @@
-//! The words of the command line.
+//! The arguments of the command line.
 
 ghost use Rattle.std.specs.Prelude.{◌≡◌, [], Some, IfOk, IfErr, MatchResult, true, false, codes, map, option_map};
 ghost use Rattle.std.specs.String.{string_bytes};
@@ -16,11 +16,11 @@ use clap::builder::ValueParser;
 use clap::{Arg, ArgAction, ArgMatches, Command, Error};
 use std::alloc::Global;
 
-/// What the program is asked to do.
+/// A task of the program.
 #[derive(Clone, Copy)]
 pub enum Task {
-    /// To run the experiments by so many workers, each of which offers one to the others after so many turns, and to
-    /// say how far it is.
+    /// Run the experiments with `workers` threads, each of which offers an experiment to the others
+    /// after `moves` turns, and report the progress if `progress` is true.
     Run {
         workers: usize,
         moves: u32,
@@ -29,26 +29,28 @@ pub enum Task {
         explain: bool,
         strict: bool,
     },
-    /// To run each experiment by itself, and to say how far it is.
+    /// Run each experiment by itself, and report the progress if `progress` is true.
     Alone {
         limits: Limits,
         progress: bool,
         explain: bool,
         strict: bool,
     },
-    /// To say whether a text is a scenario.
+    /// Check that a text is a scenario.
     Check {
         explain: bool,
         strict: bool,
     },
-    /// To answer each line of a session as it comes, one at fault with a hint if that is wanted.
+    /// Answer each line of a session as it arrives, with a hint for a faulty line if `explain` is
+    /// true.
     Live {
         explain: bool,
     },
 }
 
 impl Task {
-    /// Whether faults, refused commands and what is silently wrong are to be explained, once the text has ended.
+    /// Returns true if faults, refused commands and silent mistakes are to be explained, once the
+    /// text has ended.
     pub fn explains(&self) -> bool
         ensures { result ≡ explains self.now }
     {
@@ -60,7 +62,8 @@ impl Task {
         }
     }
 
-    /// Whether refused commands, and after a run spent steps, have a status of their own.
+    /// Returns true if refused commands, and after a run spent steps, have an exit status of their
+    /// own.
     pub fn is_strict(&self) -> bool
         ensures { result ≡ is_strict self.now }
     {
@@ -72,7 +75,7 @@ impl Task {
         }
     }
 
-    /// What all experiments may have together.
+    /// Returns the limits for all experiments together.
     pub fn limits(&self) -> Limits
         ensures { result ≡ limits_of self.now }
     {
@@ -111,10 +114,10 @@ Exit status:
   5  `--strict` found a refused command or spent steps; of `check`, a
      command that will be refused";
 
-// How many workers there are where nothing is said.
+// The default number of workers.
 const WORKERS: usize = 2;
 
-// After how many turns one is offered where nothing is said.
+// The default number of turns after which a worker offers an experiment.
 const MOVES: u32 = 64;
 
 fn flag<'a>(alloc: Global, name: &'a str, help: &'a str) -> Arg<'a>
@@ -260,7 +263,7 @@ fn live_command<'a>(alloc: Global) -> Result<Command<'a>, Error>
     Ok(live)
 }
 
-// The program itself, without its commands.
+// Returns the program itself, without its commands.
 fn program<'a>(alloc: Global, version: &'a str) -> Command<'a>
     ensures app { app_of result ≡ record { top = program_shape; subs = [] } }
     ensures local { (out-Command result).has_globals ≡ false }
@@ -289,7 +292,8 @@ fn command<'a>(alloc: Global, version: &'a str) -> Result<Command<'a>, Error>
     Ok(program)
 }
 
-// As `get_flag`, which says nothing of a value that is no `bool`.
+// Returns the value of a flag, like `get_flag`, whose contract doesn't cover a value that is not a
+// `bool`.
 fn flag_in(given: &ArgMatches<'_>, name: &str) -> bool
     ensures { result ≡ flag_in name.now (rows_of (found_of given.now)) }
 {
@@ -329,7 +333,7 @@ fn alone_in(given: &ArgMatches<'_>) -> Task
     }
 }
 
-// `clap` takes four names, so that the last one is `check`.
+// Returns the task of a command. `clap` accepts four names, so the last one is `check`.
 fn task_in(name: &str, given: &ArgMatches<'_>) -> Task
     ensures { result ≡ task_in (name.now, rows_of (found_of given.now)) }
 {
@@ -349,7 +353,7 @@ fn task_in(name: &str, given: &ArgMatches<'_>) -> Task
     }
 }
 
-// What the words that `clap` took want.
+// Returns the task that the arguments accepted by `clap` request.
 fn task_met(matches: &ArgMatches<'_>) -> Task
     requires { has_subcommand matches.now ≡ true }
     ensures { option_map task_in (subcommand_rows_of matches.now) ≡ Some result }
@@ -363,8 +367,8 @@ fn task_met(matches: &ArgMatches<'_>) -> Task
     }
 }
 
-/// What the words want, the program's name first; else what is to be said of them: a mistake, help, the
-/// version or want of memory.
+/// Returns the task that the arguments (the program's name first) request, or the message for them:
+/// a mistake, help, the version, or out of memory.
 pub fn task_of(alloc: Global, version: &str, words: &[String]) -> Result<Task, Error>
     ensures plan { IfOk result (λ task. plan_of (map string_bytes words.now) ≡ Some task) }
     ensures taken { IfErr result (λ error. takes dnlab (map string_bytes words.now) ≡ true
@@ -382,7 +386,8 @@ fn has_value(word: &str) -> bool {
     word == "--workers" || word == "--moves" || word == "--max-steps" || word == "--max-output"
 }
 
-/// The first word behind a command that is neither an option nor its value: most often it is the name of a file.
+/// Returns the first argument after a command that is neither an option nor its value, which is
+/// usually the name of a file.
 pub fn stray_word(words: &[String]) -> Option<&str> {
     let mut is_value = false;
     for word in words.iter().skip(2) {

@@ -1,4 +1,5 @@
-//! The words of which one may stand at a place of a line, by which the line goes on.
+//! Places of a line where one of several words is expected, and each word decides how the line
+//! continues.
 
 ghost use Rattle.std.specs.Prelude.{◌≡◌, ◌&&◌};
 ghost use Rattle.std.specs.Option.{is_none, is_some};
@@ -24,7 +25,7 @@ use crate::expected::{
 };
 use control_words::{bare_discipline, is};
 
-// What is expected behind a word that may stand there, unless it stood before.
+// Returns what is expected after a word that is allowed, or `None` if the word was already given.
 fn unless(seen: bool, next: Expected) -> Option<Expected>
     ensures { result ≡ unless seen next }
 {
@@ -87,7 +88,7 @@ fn pipe_chosen(word: &[u8]) -> Option<Expected>
     }
 }
 
-// An option of a pipe behind these.
+// Returns what is expected after an option of a pipe that follows these.
 fn setting_chosen(seen: PipeSeen, word: &[u8]) -> Option<Expected>
     ensures { result ≡ setting_chosen seen word.now }
 {
@@ -132,7 +133,7 @@ fn setting_chosen(seen: PipeSeen, word: &[u8]) -> Option<Expected>
     }
 }
 
-// A field of a mask behind these.
+// Returns what is expected after a field of a mask that follows these.
 fn field_chosen(seen: PipeSeen, fields: FieldsSeen, word: &[u8]) -> Option<Expected>
     ensures { result ≡ field_chosen seen fields word.now }
 {
@@ -195,7 +196,7 @@ fn mask_chosen(seen: PipeSeen, word: &[u8]) -> Option<Expected>
     field_chosen(seen, FieldsSeen::none(), word)
 }
 
-// A time of CoDel behind these.
+// Returns what is expected after a time of CoDel that follows these.
 fn time_chosen(seen: PipeSeen, times: TimesSeen, word: &[u8]) -> Option<Expected>
     ensures { result ≡ time_chosen seen times word.now }
 {
@@ -216,7 +217,7 @@ fn time_chosen(seen: PipeSeen, times: TimesSeen, word: &[u8]) -> Option<Expected
     }
 }
 
-// Whether the word is a field of a mask.
+// Returns true if the word is a field of a mask.
 #[tactic(auto, unfolding(control_words::specs::Options::is_field))]
 fn is_field(word: &[u8]) -> bool
     ensures { result ≡ is_field word.now }
@@ -228,7 +229,7 @@ fn is_field(word: &[u8]) -> bool
         || is(word, "proto")
 }
 
-// Whether the word is a time of CoDel.
+// Returns true if the word is a time of CoDel.
 #[tactic(auto, unfolding(control_words::specs::Options::is_time))]
 fn is_time(word: &[u8]) -> bool
     ensures { result ≡ is_time word.now }
@@ -251,7 +252,7 @@ fn pipe_word_chosen(place: PipeWord, word: &[u8]) -> Option<Expected>
     }
 }
 
-// An option of a flow behind these.
+// Returns what is expected after an option of a flow that follows these.
 fn flow_setting_chosen(seen: FlowSeen, word: &[u8]) -> Option<Expected>
     ensures { result ≡ flow_setting_chosen seen word.now }
 {
@@ -278,7 +279,8 @@ fn flow_setting_chosen(seen: FlowSeen, word: &[u8]) -> Option<Expected>
     }
 }
 
-/// What is expected behind this word, if it is one of several by which the line goes on. Own.
+/// Returns what is expected after this word, if it is one of several that decide how the line
+/// continues. Our choice.
 pub fn choice_of(expected: Expected, word: &[u8]) -> Option<Expected>
     ensures { result ≡ chosen expected word.now }
 {
@@ -295,7 +297,7 @@ pub fn choice_of(expected: Expected, word: &[u8]) -> Option<Expected>
     }
 }
 
-// The same place, as if no option had stood before it.
+// Returns the same place as if no option had been given before it.
 fn without_options(expected: Expected) -> Expected
     ensures { result ≡ afresh expected }
 {
@@ -316,7 +318,8 @@ fn without_options(expected: Expected) -> Expected
     }
 }
 
-/// Whether the word might stand there, had no option stood before: it is one that did. Own.
+/// Returns true if the word would be allowed there if no option had been given before, which means
+/// that it is a repeated option. Our choice.
 pub fn stood_before(expected: Expected, word: &[u8]) -> bool
     ensures { result
         ≡ (is_none (chosen expected word.now) && is_some (chosen (afresh expected) word.now)) }

@@ -1,6 +1,6 @@
-//! What may come next in a line, once the words before it are known.
+//! The next word of a line, given the words before it.
 
-/// A word of an experiment's line, behind `experiment`.
+/// A word of an experiment's line, after `experiment`.
 #[derive(Clone, Copy)]
 pub enum HeaderWord {
     Name,
@@ -13,7 +13,7 @@ pub enum HeaderWord {
     Steps,
 }
 
-/// A word of a rule, behind `add`.
+/// A word of a rule, after `add`.
 #[derive(Clone, Copy)]
 pub enum RuleWord {
     Number,
@@ -33,7 +33,7 @@ pub enum RuleWord {
     LastPorts,
 }
 
-/// A word of what says where packets come from and go to.
+/// A word of the source and the destination of packets.
 #[derive(Clone, Copy)]
 pub enum EndsWord {
     Source,
@@ -50,7 +50,7 @@ pub enum PacketWord {
     Size,
 }
 
-/// A word of a train, behind `train`.
+/// A word of a train, after `train`.
 #[derive(Clone, Copy)]
 pub enum TrainWord {
     Number,
@@ -61,7 +61,7 @@ pub enum TrainWord {
     Gap,
 }
 
-/// The options of a flow that stood before.
+/// The options of a flow that were already given.
 #[derive(Clone, Copy)]
 pub struct FlowSeen {
     pub ssthresh: bool,
@@ -73,7 +73,7 @@ impl FlowSeen {
     ghost use Rattle.std.specs.Prelude.{◌≡◌};
     ghost use Rattle.control.specs.Values.{no_flow};
 
-    /// No option stood before. Own.
+    /// Returns the state in which no option has been given. Our choice.
     pub fn none() -> FlowSeen
         ensures { result ≡ no_flow }
     {
@@ -85,7 +85,7 @@ impl FlowSeen {
     }
 }
 
-/// A word of a flow, behind `flow`.
+/// A word of a flow, after `flow`.
 #[derive(Clone, Copy)]
 pub enum FlowWord {
     Number,
@@ -96,13 +96,13 @@ pub enum FlowWord {
     Segments,
     /// An option, or the end of the line.
     Setting(FlowSeen),
-    /// The value of an option that stands among these.
+    /// The value of an option that is among these.
     Ssthresh(FlowSeen),
     Window(FlowSeen),
     Timing(FlowSeen),
 }
 
-/// The options of a pipe that stood before.
+/// The options of a pipe that were already given.
 #[derive(Clone, Copy)]
 pub struct PipeSeen {
     pub bw: bool,
@@ -117,7 +117,7 @@ impl PipeSeen {
     ghost use Rattle.std.specs.Prelude.{◌≡◌};
     ghost use Rattle.control.specs.Values.{no_pipe};
 
-    /// No option stood before. Own.
+    /// Returns the state in which no option has been given. Our choice.
     pub fn none() -> PipeSeen
         ensures { result ≡ no_pipe }
     {
@@ -132,7 +132,7 @@ impl PipeSeen {
     }
 }
 
-/// The fields of a mask that stood before.
+/// The fields of a mask that were already given.
 #[derive(Clone, Copy)]
 pub struct FieldsSeen {
     pub src_ip: bool,
@@ -146,7 +146,7 @@ impl FieldsSeen {
     ghost use Rattle.std.specs.Prelude.{◌≡◌};
     ghost use Rattle.control.specs.Choices.{no_fields_seen};
 
-    /// No field stood before. Own.
+    /// Returns the state in which no field has been given. Our choice.
     pub fn none() -> FieldsSeen
         ensures { result ≡ no_fields_seen }
     {
@@ -160,7 +160,7 @@ impl FieldsSeen {
     }
 }
 
-/// The times of CoDel that stood before.
+/// The times of CoDel that were already given.
 #[derive(Clone, Copy)]
 pub struct TimesSeen {
     pub target: bool,
@@ -171,7 +171,7 @@ impl TimesSeen {
     ghost use Rattle.std.specs.Prelude.{◌≡◌};
     ghost use Rattle.control.specs.Choices.{no_times_seen};
 
-    /// No time stood before. Own.
+    /// Returns the state in which no time has been given. Our choice.
     pub fn none() -> TimesSeen
         ensures { result ≡ no_times_seen }
     {
@@ -182,7 +182,7 @@ impl TimesSeen {
     }
 }
 
-/// A word of a command about pipes, behind `pipe`.
+/// A word of a command about pipes, after `pipe`.
 #[derive(Clone, Copy)]
 pub enum PipeWord {
     /// A pipe's number, `delete` or `show`.
@@ -192,7 +192,7 @@ pub enum PipeWord {
     Config,
     /// An option, or the end of the line.
     Setting(PipeSeen),
-    /// The value of an option that stands among these.
+    /// The value of an option that is among these.
     Bw(PipeSeen),
     Delay(PipeSeen),
     Queue(PipeSeen),
@@ -201,20 +201,20 @@ pub enum PipeWord {
     Mask(PipeSeen),
     /// A field, an option, or the end of the line.
     Fields(PipeSeen, FieldsSeen),
-    /// The bits of a field that stands among these: of an address, of a port, of the protocol.
+    /// The bits of a field that is among these: of an address, of a port, of the protocol.
     AddressBits(PipeSeen, FieldsSeen),
     PortBits(PipeSeen, FieldsSeen),
     ProtocolBits(PipeSeen, FieldsSeen),
     /// `target` or `interval`, an option, or the end of the line.
     Times(PipeSeen, TimesSeen),
-    /// The time that stands among these.
+    /// The value of a time that is among these.
     Time(PipeSeen, TimesSeen),
 }
 
-/// What may come next in a line.
+/// The next word of a line.
 #[derive(Clone, Copy)]
 pub enum Expected {
-    /// `experiment`, or a moment.
+    /// `experiment`, or a time.
     First,
     Header(HeaderWord),
     /// The word of a command.
@@ -230,7 +230,7 @@ pub enum Expected {
     Stopped,
     OnePass,
     Trace,
-    /// The end of the line, alone.
+    /// Only the end of the line.
     End,
 }
 
@@ -238,7 +238,7 @@ impl Expected {
     ghost use Rattle.std.specs.Prelude.{◌≡◌};
     ghost use Rattle.control.specs.Walk.{may_end};
 
-    /// Whether the line may end there. Own.
+    /// Returns true if the line may end there. Our choice.
     pub fn may_end(self) -> bool
         ensures { result ≡ may_end self }
     {

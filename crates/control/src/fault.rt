@@ -1,4 +1,4 @@
-//! Why a text is no scenario.
+//! The reasons why a text is not a scenario.
 
 ghost use Rattle.std.specs.Prelude.{◌≡◌};
 ghost use Rattle.control.specs.Steps.{cause_in_line, error_at};
@@ -8,10 +8,10 @@ use control_lines::LineFault;
 use std::alloc::{AllocError, AllocFailed};
 use thiserror::Error;
 
-/// What is wrong. Of several in one line, the first in this order is named.
+/// The cause of a fault. If a line has several, the first in this order is reported.
 #[derive(Clone, Copy, Debug, Error, PartialEq, Eq)]
 pub enum Cause {
-    /// The text has more than 16777216 bytes; line 0.
+    /// The text has more than 16777216 bytes; the line is 0.
     #[error("toobig")]
     TooBig,
     /// The last line has no line feed.
@@ -29,22 +29,22 @@ pub enum Cause {
     /// A number is outside its range.
     #[error("outofrange")]
     OutOfRange,
-    /// An experiment begins, or the text ends, while the experiment before has no end.
+    /// An experiment begins, or the text ends, while the previous experiment has no end.
     #[error("noend")]
     NoEnd,
     /// The 257th experiment begins.
     #[error("toomany")]
     TooMany,
-    /// A name stood before.
+    /// An earlier experiment has the same name.
     #[error("samename")]
     SameName,
-    /// A command stands before any experiment.
+    /// A command is before any experiment.
     #[error("noexperiment")]
     NoExperiment,
-    /// A command stands after its experiment's end.
+    /// A command is after its experiment's end.
     #[error("afterend")]
     AfterEnd,
-    /// A moment is below the one before in its experiment.
+    /// A command's time is before that of the previous command in its experiment.
     #[error("backwards")]
     Backwards,
 }
@@ -57,14 +57,14 @@ pub struct Fault {
     pub cause: Cause,
 }
 
-/// Why a text was not read.
+/// The reason why a text could not be parsed.
 #[derive(Debug, Drop)]
 pub enum ParseError {
     Fault(Fault),
     NoMemory,
 }
 
-/// Why a line was not taken.
+/// The reason why a line was rejected.
 #[derive(Debug, Drop)]
 pub enum LineError {
     Memory,
@@ -87,7 +87,7 @@ impl<T: Drop> From<AllocFailed<T>> for LineError {
     }
 }
 
-/// The cause that is a line's own.
+/// Returns the cause for a fault of a single line.
 pub fn in_line(fault: LineFault) -> Cause
     ensures { result ≡ cause_in_line fault }
 {
@@ -99,7 +99,7 @@ pub fn in_line(fault: LineFault) -> Cause
     }
 }
 
-/// The error of the line with this number.
+/// Returns the error of the line with this number.
 pub fn at_line(error: LineError, line: u64) -> ParseError
     ensures { result ≡ error_at error line }
 {

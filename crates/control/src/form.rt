@@ -18,7 +18,7 @@ use crate::word_fault::Check;
 use control_words::{RawAddress, RawPorts, RawPrefix, RawQueue, RawTiming, addresses, is, numbers};
 use emu_model::LATEST_MOMENT;
 
-/// A word that stands in a line as it is.
+/// A fixed word of a line.
 #[derive(Clone, Copy, PartialEq, Eq)]
 pub enum Keyword {
     Seed,
@@ -33,7 +33,7 @@ pub enum Keyword {
     Segments,
 }
 
-/// The keyword's text. Own.
+/// Returns the keyword's text. Our choice.
 pub fn text_of(keyword: Keyword) -> &'static str
     ensures { result.now ≡ spelling keyword }
 {
@@ -57,7 +57,7 @@ pub enum Form {
     Word(Keyword),
     /// A number, from the first to the second.
     Number(u64, u64),
-    /// The bytes of a segment.
+    /// The number of bytes in a segment.
     Segment,
     /// A receiver's window, in bytes.
     Window,
@@ -74,13 +74,13 @@ pub enum Form {
     Fraction,
     Time,
     Timing,
-    /// A field of a mask, of 8, 4 or 2 digits of base 16 at most.
+    /// A field of a mask, with at most 8, 4 or 2 hexadecimal digits.
     Field8,
     Field4,
     Field2,
 }
 
-// Whether it is asked for, and is so.
+// Returns true unless the check covers ranges and `is_so` is false.
 fn passes_check(check: Check, is_so: bool) -> bool
     ensures { result ≡ asked check is_so }
 {
@@ -96,7 +96,7 @@ fn is_within(number: u128, least: u64, most: u64) -> bool
     u128::from(least) <= number && number <= u128::from(most)
 }
 
-// A number of the form, and within its range if that is asked for.
+// Returns true if there is a number of the form, within its range if the check covers ranges.
 fn number(check: Check, number: Option<u128>, least: u64, most: u64) -> bool
     ensures { result ≡ holds check number (λ n. is_some (within n least most)) }
 {
@@ -195,8 +195,8 @@ fn timing(check: Check, word: &[u8]) -> bool
     }
 }
 
-/// Whether a word has a form, by what the parser itself reads from it, and its number is within its range if that
-/// is asked for. Own.
+/// Returns true if a word has a form, according to the parser itself, and its number is within its
+/// range if the check covers ranges. Our choice.
 pub fn fits(check: Check, form: Form, word: &[u8]) -> bool
     ensures { result ≡ fits check form word.now }
 {

@@ -1,5 +1,6 @@
-//! The text of a scenario: what it spells, or its first fault. Of a line that is refused also its first word at fault,
-//! and what was expected in its place (our choice): the first such that no line begins with the words up to it.
+//! The text of a scenario: the scenario that it spells, or its first fault. For a rejected line
+//! also the first faulty word and what was expected in its place (our choice). This is the first
+//! word such that no line begins with the words up to it.
 #![tactic(auto)]
 
 mod choice;

@@ -6,7 +6,7 @@ ghost use Rattle.control.specs.Names.{IsName};
 use std::alloc::{AllocError, Global};
 use std::marker::Model;
 
-/// The name of an experiment: 1 to 32 of `a` to `z`, `0` to `9`, `-` and `_`.
+/// The name of an experiment: 1 to 32 characters of `a` to `z`, `0` to `9`, `-` and `_`.
 #[derive(Drop)]
 pub struct ExperimentName {
     text: Vec<u8>,
@@ -24,7 +24,7 @@ impl Model for ExperimentName {
 }
 
 impl ExperimentName {
-    /// Takes memory for a copy of the text, which has the form of a name.
+    /// Creates a name from a text that has the form of a name. Allocates a copy of the text.
     pub fn new(alloc: Global, text: &[u8]) -> Result<Self, AllocError>
         requires { IsName text.now }
         ensures { IfOk result (λ n. n ≡ text.now) }
@@ -34,7 +34,7 @@ impl ExperimentName {
         })
     }
 
-    /// Its bytes: 1 to 32, each of them one that a name may have.
+    /// Returns the name's bytes: 1 to 32, each of them allowed in a name.
     pub fn as_bytes(&self) -> &[u8]
         ensures value { result.now ≡ self.now }
         ensures ranged { IsName result.now }

@@ -1,4 +1,4 @@
-//! Reading a scenario, line by line.
+//! Parses a scenario, line by line.
 
 ghost use Rattle.std.specs.Prelude.{◌≡◌, ◌≤◌, List, length, map, sum, IfOk, IfErr};
 ghost use Rattle.control.specs.Ranges.{IsScenario};
@@ -18,10 +18,10 @@ use std::alloc::Global;
 
 const MAX_BYTES: usize = 16_777_216;
 
-/// How many experiments a scenario has at most.
+/// The maximum number of experiments in a scenario.
 pub const MAX_EXPERIMENTS: usize = 256;
 
-/// The experiments so far: those that have their end, and the one that hasn't, with the moment of
+/// The experiments so far: those that have their end, and the one that doesn't, with the time of
 /// its last command.
 #[derive(Drop)]
 struct Builder {
@@ -135,22 +135,25 @@ fn fault_at<T>(line: u64, cause: Cause) -> Result<T, ParseError>
     Err(ParseError::Fault(Fault { line, cause }))
 }
 
-/// The scenario that the bytes spell, or the first faulty line's first cause. `NoMemory` only
-/// where a name or a command was to be kept before any fault. One pass over the bytes.
+/// Returns the scenario that the bytes spell, or the first cause of the first faulty line. Returns
+/// `NoMemory` only if a name or a command before any fault can't be stored. Makes one pass over the
+/// bytes.
 pub fn parse_scenario(alloc: Global, bytes: &[u8]) -> Result<Scenario, ParseError>
-    // What is read is what the bytes spell.
+    // The result is what the bytes spell.
     ensures spelled { IfOk result (λ s. Spells bytes.now s) }
-    // So there are few experiments, and the moments of each one's commands don't fall: what every
-    // `Scenario` keeps.
+    // There are therefore few experiments, and the times of each one's commands don't decrease,
+    // which is the invariant of every `Scenario`.
     ensures ranged { IfOk result (λ s. IsScenario s) }
-    // It has fewer commands than the text has bytes.
+    // The scenario has fewer commands than the text has bytes.
     ensures few { IfOk result (λ s. sum (map (λ e. length e.commands) s) ≤ length bytes.now) }
-    // Whatever spells a scenario is read as just that one, and never refused but for memory.
+    // A text that spells a scenario is parsed as exactly that one, and is never refused except for
+    // lack of memory.
     ensures only { (s : List Experiment) → Spells bytes.now s → IsReadAs s result }
-    // A fault is the bytes' own: the first faulty line's, and in it the first that stands.
-    // Memory is wanted only where a line without fault, behind lines without fault, adds something.
+    // A fault is that of the bytes: it is in the first faulty line, and is the first cause in that
+    // line. Memory is needed only if a line without a fault, after lines without a fault, adds
+    // something.
     ensures fault { IfErr result (λ e. IsFaultOf bytes.now e) }
-    // Faulty bytes are refused with just that fault, or for memory.
+    // Faulty bytes are refused with exactly that fault, or for lack of memory.
     ensures faulty { (f : Fault) → HasFault bytes.now f → IsFaultedAs f result }
 {
     read_all(alloc, bytes)

@@ -1,4 +1,4 @@
-//! What a scenario is.
+//! The types of a scenario.
 
 ghost use Rattle.std.specs.Prelude.{◌≡◌, [], ◌∷◌, ◌++◌, OnErr, OnOk};
 ghost use Rattle.control.specs.Ranges.{IsScenario};
@@ -25,7 +25,7 @@ impl Model for CommandList {
 }
 
 impl CommandList {
-    /// No commands. Takes no memory.
+    /// Creates an empty list. Does not allocate.
     pub fn new(alloc: Global) -> Self
         ensures { result ≡ [] }
     {
@@ -34,7 +34,8 @@ impl CommandList {
         }
     }
 
-    /// Adds a command at the end. Refused where memory is, and the list is as it was.
+    /// Appends a command. If an allocation fails, it returns an error and leaves the list
+    /// unchanged.
     pub fn push(&mut self, command: &Timed) -> Result<(), AllocError>
         ensures ok { OnOk result (self.new ≡ self.old ++ command.now ∷ []) }
         ensures err { OnErr result (self.new ≡ self.old) }
@@ -43,14 +44,14 @@ impl CommandList {
         Ok(())
     }
 
-    /// The commands in their order.
+    /// Returns the commands in their order.
     pub fn as_slice(&self) -> &[Timed]
         ensures { result.now ≡ self.now }
     {
         self.items.as_slice()
     }
 
-    /// The commands as a `Vec`. Takes no memory.
+    /// Returns the commands as a `Vec`. Does not allocate.
     pub fn into_vec(self) -> Vec<Timed>
         ensures { result.items ≡ self }
     {
@@ -59,7 +60,7 @@ impl CommandList {
     }
 }
 
-/// An experiment: its name, what it may spend, and its commands, of which the last is `end`.
+/// An experiment: its name, its budget, and its commands, of which the last is `end`.
 #[derive(Drop)]
 pub struct Experiment {
     pub name: ExperimentName,
@@ -67,7 +68,8 @@ pub struct Experiment {
     pub commands: CommandList,
 }
 
-/// Experiments in the order of the text: at most 256, and the moments of each one's commands don't fall.
+/// Experiments in the order of the text: at most 256, and the times of each one's commands don't
+/// decrease.
 #[derive(Drop)]
 pub struct Scenario {
     experiments: Vec<Experiment>,
@@ -86,7 +88,7 @@ impl Model for Scenario {
 }
 
 impl Scenario {
-    /// The scenario of these experiments. Takes no memory.
+    /// Creates the scenario of these experiments. Does not allocate.
     pub fn new(experiments: Vec<Experiment>) -> Self
         requires { IsScenario experiments.items }
         ensures { result ≡ experiments.items }
@@ -94,7 +96,7 @@ impl Scenario {
         Scenario { experiments }
     }
 
-    /// The experiments in the order of the text.
+    /// Returns the experiments in the order of the text.
     pub fn experiments(&self) -> &[Experiment]
         ensures value { result.now ≡ self.now }
         ensures ranged { IsScenario result.now }
@@ -102,7 +104,7 @@ impl Scenario {
         self.experiments.as_slice()
     }
 
-    /// The experiments as a `Vec`. Takes no memory.
+    /// Returns the experiments as a `Vec`. Does not allocate.
     pub fn into_vec(self) -> Vec<Experiment>
         ensures value { result.items ≡ self }
         ensures ranged { IsScenario result.items }

@@ -1,4 +1,4 @@
-//! The values and keywords that stand at a place of a line, whatever they say.
+//! The values and keywords at a place of a line.
 
 ghost use Rattle.std.specs.Prelude.{◌≡◌};
 ghost use Rattle.control.specs.Values.{
@@ -23,7 +23,7 @@ use crate::expected::{
 };
 use crate::form::{Form, Keyword};
 
-/// A word of a form, and what is expected behind it.
+/// A word of a form, and what is expected after it.
 #[derive(Clone, Copy)]
 pub struct Value {
     pub form: Form,
@@ -237,8 +237,8 @@ fn pipe_value(word: PipeWord) -> Option<Value>
     Some(Value { form, next })
 }
 
-/// The value or keyword that may stand at a place, and what is expected behind it. `None` where only one of several
-/// words may stand there, or nothing. Own.
+/// Returns the value or keyword that is allowed at a place, and what is expected after it. Returns
+/// `None` if only one of several words, or nothing, is allowed there. Our choice.
 pub fn value_at(expected: Expected) -> Option<Value>
     ensures { result ≡ value_at expected }
 {

@@ -1,4 +1,4 @@
-//! The first word at fault of a line.
+//! The first faulty word of a line.
 
 ghost use Rattle.std.specs.Prelude.{◌≡◌, ◌+◌, ◌<◌, ◌≤◌, ◌^◌, MatchOption, drop, length};
 ghost use Rattle.control_words.specs.Text.{words as words_of};
@@ -14,22 +14,22 @@ use crate::value::{Value, value_at};
 use control_lines::lines_are_read;
 use control_words::Words;
 
-/// What the words of a line are held to: the forms of lines alone, or each number's range too.
+/// The strictness of a check: only the forms of lines, or the range of each number too.
 #[derive(Clone, Copy, Debug, PartialEq, Eq)]
 pub enum Check {
     Forms,
     Ranges,
 }
 
-/// A word at fault: its number in the line, counted from 0, and what was expected in its place. If the line ends too
-/// early, the number is that of the word that is lacking.
+/// A faulty word: its number in the line, counted from 0, and what was expected in its place. If
+/// the line ends too early, the number is that of the missing word.
 #[derive(Clone, Copy)]
 pub struct Blamed {
     pub index: usize,
     pub expected: Expected,
 }
 
-// What is expected behind a word that has the form.
+// Returns what is expected after a word, if it has the form.
 fn next_of(check: Check, value: Option<Value>, word: &[u8]) -> Option<Expected>
     ensures { result ≡ next_of check value word.now }
 {
@@ -41,7 +41,7 @@ fn next_of(check: Check, value: Option<Value>, word: &[u8]) -> Option<Expected>
     }
 }
 
-// What is expected behind a word. None where the word may not stand there.
+// Returns what is expected after a word, or `None` if the word is not allowed there.
 #[tactic(auto, unfolding(crate::specs::Walk::next))]
 fn next(check: Check, expected: Expected, word: &[u8]) -> Option<Expected>
     ensures { result ≡ next check expected word.now }
@@ -52,7 +52,7 @@ fn next(check: Check, expected: Expected, word: &[u8]) -> Option<Expected>
     }
 }
 
-// The first word at fault of those that are left, the first of which has this number.
+// Returns the first faulty word of those that are left. The first of these has number `index`.
 fn walk(check: Check, mut index: usize, mut expected: Expected, mut words: Words) -> Option<Blamed>
     requires { index + length (words_of words.rest.now) < 2 ^ 64 }
     ensures { result ≡ walk check index expected (words_of words.entry.rest.now) }
@@ -71,10 +71,10 @@ fn walk(check: Check, mut index: usize, mut expected: Expected, mut words: Words
     }
 }
 
-/// The first word of a line that is at fault: the first such that no line begins with the words up to it, or, where
-/// ranges are asked for, no line whose numbers are within their ranges. If the line ends too early, the word that is
-/// lacking behind its last. `None` where the words are a line, with its numbers within their ranges where those are
-/// asked for. Own.
+/// Returns the first faulty word of a line: the first such that no line begins with the words up to
+/// it or, if the check covers ranges, no line whose numbers are within their ranges. If the line
+/// ends too early, it is the missing word after the last. Returns `None` if the words are a line,
+/// with its numbers within their ranges if the check covers them. Our choice.
 pub fn blame(line: &[u8], check: Check) -> Option<Blamed>
     ensures walk { result ≡ walk check 0 First (words_of line.now) }
     ensures blamed { MatchOption result (IsFine check (words_of line.now))
@@ -84,8 +84,8 @@ pub fn blame(line: &[u8], check: Check) -> Option<Blamed>
     walk(check, 0, Expected::First, Words { rest: line })
 }
 
-// What is expected behind a value that stands there, whatever it says. None where it is no value, but a word by which
-// the line goes on.
+// Returns what is expected after a value, whatever the value is. Returns `None` if a value isn't
+// expected there, but a word that decides how the line continues.
 fn value_behind(expected: Expected) -> Option<Expected>
     ensures { result ≡ value_behind expected }
 {
@@ -96,14 +96,15 @@ fn value_behind(expected: Expected) -> Option<Expected>
     }
 }
 
-/// What is found behind a word at fault, if the line goes on as if that word were fine.
+/// The result of the check after a faulty word, if the line continues as if that word were valid.
 #[derive(Clone, Copy)]
 pub enum Behind {
-    /// Nothing: all other words are as they should be.
+    /// All other words are valid.
     Fine,
-    /// Another value that isn't what is expected.
+    /// Another value isn't what is expected.
     Fault(Blamed),
-    /// A word is missing or too many, or is another one: the first may have been taken for what it isn't.
+    /// A word is missing, surplus or a different one, so the first may have been taken for what it
+    /// isn't.
     Unsure,
 }
 
@@ -119,7 +120,7 @@ fn behind_of(blamed: Option<Blamed>) -> Behind
     }
 }
 
-// What stands behind the word with this number. None where there is no such word.
+// Returns the words after the one with this number, or `None` if there is no such word.
 #[tactic(auto, using(crate::proofs::Taken::none))]
 fn words_behind(line: &[u8], index: usize) -> Option<Words>
     ensures { MatchOption result (length (words_of line.now) ≤ index)
@@ -134,8 +135,8 @@ fn words_behind(line: &[u8], index: usize) -> Option<Words>
     Some(words)
 }
 
-/// The next word at fault behind one, its form or its range, if the line goes on behind that one as behind a value of
-/// the form that was expected there. Own.
+/// Returns the next word after a faulty one whose form or range is wrong, if the line continues
+/// after that one as after a value of the form that was expected there. Our choice.
 #[tactic(auto, unfolding(crate::specs::Behind::behind))]
 pub fn blame_behind(line: &[u8], before: &Blamed) -> Behind
     ensures { result ≡ behind (words_of line.now) before.now }

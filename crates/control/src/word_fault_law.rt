@@ -1,17 +1,18 @@
-//! Laws of the word at fault, as the contracts of functions that do nothing, so that the check proves them.
+//! Laws about the faulty word. Each is the contract of a function with an empty body, so that the
+//! check proves it.
 
 ghost use Rattle.control.specs.FirstWrong.{OneIsFirstWrong};
 ghost use Rattle.control.specs.Refused.{RefusedAreBlamed};
 
 use control_lines::lines_are_read;
 
-/// No two words of a line are the first at fault.
+/// No two words of a line are both the first faulty one.
 pub fn one_is_first_wrong()
     ensures { OneIsFirstWrong }
 {}
 
-/// A line that is refused for its words has a word to blame by its form, and one that is refused for its numbers has
-/// none by its form and one by its range.
+/// A line that is rejected for its words has a faulty word by form. A line that is rejected for its
+/// numbers has none by form, and one by range.
 pub fn refused_are_blamed()
     ensures { RefusedAreBlamed }
 {

@@ -1,5 +1,6 @@
-//! A line of a scenario: what it says, whatever stands before it, or its first fault (own, in the words
-//! of ipfw(8)). A line is read by its shape first, and then each number by its range.
+//! A line of a scenario: its contents, whatever precedes it, or its first fault (our choice, in the
+//! terms of ipfw(8)). A line is parsed by its shape first, and then each number is checked against
+//! its range.
 #![tactic(auto)]
 
 mod line;

@@ -1,4 +1,4 @@
-//! A line of a scenario, whatever stands before it.
+//! A line of a scenario, whatever precedes it.
 
 ghost use Rattle.std.specs.Prelude.{◌≡◌, option_map, MatchResult};
 ghost use Rattle.std.specs.List.{list_all};
@@ -21,14 +21,14 @@ use crate::shape::line_shape;
 use control_words::{Words, options_are_read};
 use emu_model::{Spec, Timed};
 
-/// How many bytes a line has at most, before its line feed.
+/// The maximum length of a line in bytes, without its line feed.
 const MAX_LINE: usize = 512;
 
-/// What is wrong with a line, whatever stands before it. Of several the first in this order is
-/// named.
+/// The fault of a line, whatever precedes it. If a line has several, the first in this order is
+/// reported.
 #[derive(Clone, Copy, Debug, PartialEq, Eq)]
 pub enum LineFault {
-    /// It has more than 512 bytes.
+    /// The line has more than 512 bytes.
     TooLong,
     /// A byte isn't one of 32 to 126.
     BadByte,
@@ -38,7 +38,8 @@ pub enum LineFault {
     OutOfRange,
 }
 
-/// What a line says: nothing (it has no word, or is a comment), an experiment, or a command.
+/// The contents of a line: nothing (the line has no word, or is a comment), an experiment, or a
+/// command.
 #[derive(Clone, Copy)]
 pub enum LineEntry<'a> {
     Nothing,
@@ -50,14 +51,14 @@ fn all_printable(line: &[u8]) -> bool
     ensures { result ≡ list_all is_printable line.now }
 {
     let mut all = true;
-    // Each byte is looked at, whatever those before it are: so they can be looked at many at a time.
+    // The loop has no early exit, so the compiler can test many bytes at a time.
     for c in line {
         all &= (b' ' <= *c) & (*c <= b'~');
     }
     all
 }
 
-/// Whether the line has no word, or is a comment.
+/// Returns true if the line has no word, or is a comment.
 fn is_comment(line: &[u8]) -> bool
     ensures { result ≡ is_skipped (words_of line.now) }
 {
@@ -111,8 +112,8 @@ fn entry(line: &[u8]) -> Result<LineEntry, LineFault>
     Ok(entry)
 }
 
-/// What a line, without its line feed, says by itself: just what its words spell, or the first of
-/// its faults. Own.
+/// Returns the contents of a line by itself, without its line feed: exactly what its words spell,
+/// or the first of its faults. Our choice.
 pub fn read_line(line: &[u8]) -> Result<LineEntry, LineFault>
     ensures { MatchResult result (λ e. IsEntry line.now (view_entry e))
         (λ c. IsFirstAlone c line.now) }

@@ -1,18 +1,20 @@
-//! Laws of lines, as the contracts of functions that do nothing, so that the check proves them.
+//! Laws about lines. Each is the contract of a function with an empty body, so that the check
+//! proves it.
 
 ghost use Rattle.control_lines.specs.LinesAreRead.{LinesAreRead};
 ghost use Rattle.control_lines.specs.LinesSayOne.{LinesSayOne};
 
 use control_words::options_are_read;
 
-/// A line says one thing at most.
+/// A line has at most one meaning.
 pub fn lines_say_one()
     ensures { LinesSayOne }
 {
     options_are_read();
 }
 
-/// What is read as a line is that line, and a line is read as just that line.
+/// Words that are parsed as a line spell that line, and words that spell a line are parsed as
+/// exactly that line.
 pub fn lines_are_read()
     ensures { LinesAreRead }
 {

@@ -1,5 +1,6 @@
-//! The commonest line of a long scenario, a single packet, read at once: one space between its words, and each
-//! number in its range. Of any other line a `None` here says nothing.
+//! A fast path for the most common line of a long scenario, a single packet. It parses a line with
+//! one space between the words and each number in its range. For any other line it returns `None`,
+//! which doesn't mean that the line is wrong.
 
 ghost use Rattle.std.specs.Prelude.{◌≡◌, ◌+◌, ◌≤◌, ◌==◌, ◌&&◌, not, ◌∷◌, [], Some, length, take, IfSome};
 ghost use Rattle.std.specs.Char.{is_ascii_digit};
@@ -24,10 +25,10 @@ ghost use Rattle.control_lines.specs.PacketLine.{
 
 use emu_model::{Command, LATEST_MOMENT, Protocol, RangedU16, SendSpec, Timed};
 
-/// How many digits are read as one number: as many as always fit 64 bits.
+/// The maximum number of digits that are parsed as one number, which always fits 64 bits.
 const MAX_DIGITS: usize = 19;
 
-/// The digits in front as a number, and how many they are.
+/// Returns the leading digits as a number, and their count.
 fn digits_in_front(text: &[u8]) -> (u64, usize)
     requires { length text.now ≤ MAX_DIGITS }
     ensures value { digits_after 0 (take result.1 text.now) ≡ Some result.0 }
@@ -45,14 +46,14 @@ fn digits_in_front(text: &[u8]) -> (u64, usize)
     (n, count)
 }
 
-/// Whether digits of which this is the first and this is the count have a zero too many in front.
+/// Returns true if digits, given the first and their count, have a leading zero.
 fn has_leading_zero(first: u8, count: usize) -> bool
     ensures { result ≡ (first == 48 && not (count == 1)) }
 {
     first == b'0' && count != 1
 }
 
-/// The number in front, and what directly follows it.
+/// Returns the leading number, and the bytes that directly follow it.
 fn number(text: &[u8]) -> Option<(u64, &[u8])>
     ensures { IfSome result (λ x. Leads IsNumber is_ascii_digit text.now x.0 x.1.now) }
 {
@@ -66,7 +67,7 @@ fn number(text: &[u8]) -> Option<(u64, &[u8])>
     Some((n, &text[count..]))
 }
 
-/// What follows this byte in front.
+/// Returns the bytes after this leading byte.
 fn behind(text: &[u8], byte: u8) -> Option<&[u8]>
     ensures { IfSome result (λ r. text.now ≡ byte ∷ r.now) }
 {
@@ -79,7 +80,7 @@ fn behind(text: &[u8], byte: u8) -> Option<&[u8]>
     Some(&text[1..])
 }
 
-/// A number as a word, and what follows the space behind it.
+/// Returns a number that is a word, and the bytes after the space that follows it.
 fn number_word(text: &[u8]) -> Option<(u64, &[u8])>
     ensures { IfSome result (λ x. Takes IsNumber text.now x.0 x.1.now) }
 {
@@ -88,7 +89,7 @@ fn number_word(text: &[u8]) -> Option<(u64, &[u8])>
     Some((n, rest))
 }
 
-/// A moment as a word, and what follows the space behind it.
+/// Returns a time that is a word, and the bytes after the space that follows it.
 fn moment_word(text: &[u8]) -> Option<(u64, &[u8])>
     ensures { IfSome result (λ x. Takes SpellsMoment text.now x.0 x.1.now × (x.0 ≤ LATEST_MOMENT)) }
 {
@@ -101,7 +102,7 @@ fn moment_word(text: &[u8]) -> Option<(u64, &[u8])>
     Some((n, rest))
 }
 
-/// What follows the word `inject` and the space behind it.
+/// Returns the bytes after the word `inject` and the space that follows it.
 fn after_inject(text: &[u8]) -> Option<&[u8]>
     ensures word { IfSome result (λ r. words text.now ≡ inject ∷ words r.now) }
     ensures printed { IfSome result
@@ -113,7 +114,7 @@ fn after_inject(text: &[u8]) -> Option<&[u8]>
     }
 }
 
-/// What follows the word `tcp` and the space behind it.
+/// Returns the bytes after the word `tcp` and the space that follows it.
 fn after_tcp(text: &[u8]) -> Option<&[u8]>
     ensures word { IfSome result (λ r. words text.now ≡ tcp ∷ words r.now) }
     ensures printed { IfSome result
@@ -125,7 +126,7 @@ fn after_tcp(text: &[u8]) -> Option<&[u8]>
     }
 }
 
-/// What follows the word `udp` and the space behind it.
+/// Returns the bytes after the word `udp` and the space that follows it.
 fn after_udp(text: &[u8]) -> Option<&[u8]>
     ensures word { IfSome result (λ r. words text.now ≡ udp ∷ words r.now) }
     ensures printed { IfSome result
@@ -137,7 +138,7 @@ fn after_udp(text: &[u8]) -> Option<&[u8]>
     }
 }
 
-/// A protocol as a word, and what follows the space behind it.
+/// Returns a protocol that is a word, and the bytes after the space that follows it.
 fn protocol_word(text: &[u8]) -> Option<(Protocol, &[u8])>
     ensures { IfSome result (λ x. Takes IsProtocol text.now x.0 x.1.now) }
 {
@@ -148,7 +149,7 @@ fn protocol_word(text: &[u8]) -> Option<(Protocol, &[u8])>
     Some((Protocol::Tcp, rest))
 }
 
-/// The digit in front, and what follows it.
+/// Returns the leading digit, and the bytes after it.
 fn digit(text: &[u8]) -> Option<(u32, &[u8])>
     ensures { IfSome result (λ x. (text.now ≡ (48 + x.0) ∷ x.1.now) × (x.0 ≤ 9)) }
 {
@@ -161,7 +162,7 @@ fn digit(text: &[u8]) -> Option<(u32, &[u8])>
     Some((u32::from(text[0] - b'0'), &text[1..]))
 }
 
-/// One of an address's four numbers, and what directly follows it.
+/// Returns one of an address's four numbers, and the bytes that directly follow it.
 fn part(text: &[u8]) -> Option<(u32, &[u8])>
     ensures { IfSome result
         (λ x. Leads IsNumber is_ascii_digit text.now x.0 x.1.now × (x.0 ≤ 255)) }
@@ -183,7 +184,7 @@ fn part(text: &[u8]) -> Option<(u32, &[u8])>
     Some((n, behind_third))
 }
 
-/// The same, and what follows the point behind it.
+/// Returns one of an address's four numbers, and the bytes after the point that follows it.
 fn part_and_point(text: &[u8]) -> Option<(u32, &[u8])>
     ensures { IfSome result
         (λ x. Leads IsNumber is_ascii_digit text.now x.0 (46 ∷ x.1.now) × (x.0 ≤ 255)) }
@@ -193,7 +194,7 @@ fn part_and_point(text: &[u8]) -> Option<(u32, &[u8])>
     Some((n, rest))
 }
 
-/// The address in front, and what directly follows it.
+/// Returns the leading address, and the bytes that directly follow it.
 fn address(text: &[u8]) -> Option<(u32, &[u8])>
     ensures { IfSome result (λ x. Leads IsAddress is_address_byte text.now x.0 x.1.now) }
 {
@@ -205,7 +206,7 @@ fn address(text: &[u8]) -> Option<(u32, &[u8])>
     Some((address, rest))
 }
 
-/// An address as a word, and what follows the space behind it.
+/// Returns an address that is a word, and the bytes after the space that follows it.
 fn address_word(text: &[u8]) -> Option<(u32, &[u8])>
     ensures { IfSome result (λ x. Takes IsAddress text.now x.0 x.1.now) }
 {
@@ -214,7 +215,7 @@ fn address_word(text: &[u8]) -> Option<(u32, &[u8])>
     Some((address, rest))
 }
 
-/// A port as a word, and what follows the space behind it.
+/// Returns a port that is a word, and the bytes after the space that follows it.
 fn port_word(text: &[u8]) -> Option<(u16, &[u8])>
     ensures { IfSome result (λ x. Takes IsNumber text.now x.0 x.1.now × (x.0 ≤ 65535)) }
 {
@@ -225,7 +226,7 @@ fn port_word(text: &[u8]) -> Option<(u16, &[u8])>
     Some((n as u16, rest))
 }
 
-/// A number as the last word, with nothing behind it.
+/// Returns a number that is the last word, with nothing after it.
 fn last_number(text: &[u8]) -> Option<u64>
     ensures { IfSome result (λ n. Takes IsNumber text.now n []) }
 {
@@ -236,7 +237,7 @@ fn last_number(text: &[u8]) -> Option<u64>
     Some(n)
 }
 
-/// A size as the last word.
+/// Returns a size that is the last word.
 fn last_size(text: &[u8]) -> Option<RangedU16<40, 1500>>
     ensures { IfSome result (λ n. Takes IsNumber text.now n [] × (40 ≤ n) × (n ≤ 1500)) }
 {
@@ -247,7 +248,7 @@ fn last_size(text: &[u8]) -> Option<RangedU16<40, 1500>>
     RangedU16::new(n as u16)
 }
 
-/// What a command to send one packet says behind its word.
+/// Parses the rest of an `inject` command after its first word.
 fn packet(text: &[u8]) -> Option<SendSpec>
     ensures { IfSome result (λ p. IsPacket text.now p) }
 {
@@ -267,7 +268,7 @@ fn packet(text: &[u8]) -> Option<SendSpec>
     })
 }
 
-/// The command to send one packet that this line is.
+/// Returns the `inject` command of this line.
 pub fn packet_line(line: &[u8]) -> Option<Timed>
     ensures { IfSome result (λ t. IsPacketLine line.now t) }
 {

@@ -361,8 +361,8 @@ fn command(raw: RawCommand) -> Option<Command>
     }
 }
 
-/// The command of a line with its moment (ns); None where a number is out of its range (our choice:
-/// 10^15 ns at most, and the ranges of docs/reference/scenario.md).
+/// Returns the command of a line with its time (ns), or `None` if a number is out of its range (our
+/// choice: at most 10^15 ns, and the ranges of docs/reference/scenario.md).
 #[tactic(auto, unfolding(crate::specs::Ranges::timed_within))]
 pub fn timed_command(raw: RawTimed) -> Option<Timed>
     ensures { result ≡ timed_within raw }
@@ -372,7 +372,8 @@ pub fn timed_command(raw: RawTimed) -> Option<Timed>
     Some(Timed { moment, command })
 }
 
-/// What an experiment is given; None where a number is out of its range. Without `steps` it may make 1,000,000.
+/// Returns the seed and the budget of an experiment, or `None` if a number is out of its range.
+/// Without `steps` the limit is 1,000,000 steps.
 #[tactic(auto, unfolding(crate::specs::Ranges::spec_within))]
 pub fn spec(raw: RawHeader) -> Option<Spec>
     ensures { result ≡ spec_within (view_header raw.entry) }

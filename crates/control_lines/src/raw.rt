@@ -1,4 +1,4 @@
-//! Lines as they are written: their shape alone, with numbers of up to 20 digits in base units.
+//! Lines as they are written: only their shape, with numbers of up to 20 digits in base units.
 
 use control_words::{RawAddress, RawConfig, RawFlowOptions, RawPorts, RawPrefix};
 use emu_model::{Protocol, ProtocolMatch};
@@ -23,7 +23,7 @@ pub struct RawRule {
     pub dports: Option<RawPorts>,
 }
 
-/// Where a packet comes from, and where it goes to.
+/// The source and the destination of a packet.
 #[derive(Clone, Copy)]
 pub struct RawEnds {
     pub src: RawAddress,
@@ -79,7 +79,7 @@ pub struct RawTimed {
     pub command: RawCommand,
 }
 
-/// An experiment's line.
+/// The line that begins an experiment.
 #[derive(Clone, Copy)]
 pub struct RawHeader<'a> {
     pub name: &'a [u8],

@@ -1,4 +1,4 @@
-//! The words of a line as a line, whatever its numbers are.
+//! Parses the words of a line, whatever its numbers are.
 
 ghost use Rattle.std.specs.Prelude.{◌≡◌, option_map};
 ghost use Rattle.control_words.specs.Text.{words as words_of};
@@ -37,7 +37,7 @@ fn number(words: &mut Words) -> Option<u128>
     numbers::number(words.next_word()?)
 }
 
-/// A number, and nothing after it.
+/// Parses a number with nothing after it.
 fn last_number(words: &mut Words) -> Option<u128>
     ensures { result ≡ last_number_of (words_of words.old.rest.now) }
 {
@@ -67,7 +67,7 @@ fn action(words: &mut Words) -> Option<RawAction>
     }
 }
 
-/// The ports that may stand before `to`, and `to`.
+/// Parses the optional ports before `to`, and `to`.
 #[tactic(auto, unfolding(crate::specs::Shape::source_ports_of))]
 fn source_ports(words: &mut Words) -> Option<Option<RawPorts>>
     ensures { option_map (λ p. (p, words_of words.new.rest.now)) result
@@ -82,7 +82,7 @@ fn source_ports(words: &mut Words) -> Option<Option<RawPorts>>
     Some(Some(ports))
 }
 
-/// The ports that may stand last.
+/// Parses the optional ports at the end of the line.
 #[tactic(auto, unfolding(crate::specs::Shape::last_ports_of))]
 fn last_ports(words: &mut Words) -> Option<Option<RawPorts>>
     ensures { result ≡ last_ports_of (words_of words.old.rest.now) }
@@ -201,7 +201,7 @@ fn pipe(words: &mut Words) -> Option<RawCommand>
     }
 }
 
-/// A command about what sends.
+/// Parses a command about a sender.
 #[tactic(auto, unfolding(crate::specs::Shape::source_of))]
 fn source(verb: &[u8], words: &mut Words) -> Option<RawCommand>
     ensures { result ≡ source_of verb.now (words_of words.old.rest.now) }
@@ -247,7 +247,7 @@ fn command(words: &mut Words) -> Option<RawCommand>
     }
 }
 
-/// `steps N`, or nothing.
+/// Parses `steps N`, or nothing.
 #[tactic(auto, unfolding(crate::specs::Shape::steps_of))]
 fn steps(words: &mut Words) -> Option<Option<u128>>
     ensures { result ≡ steps_of (words_of words.old.rest.now) }
@@ -279,7 +279,7 @@ fn header<'a>(words: &mut Words<'a>) -> Option<RawHeader<'a>>
     })
 }
 
-/// The line that these words are, whatever its numbers are.
+/// Parses these words as a line, whatever its numbers are.
 #[tactic(auto, unfolding(crate::specs::Shape::shape_of))]
 pub fn line_shape<'a>(words: &mut Words<'a>) -> Option<RawLine<'a>>
     ensures { option_map view_line result ≡ shape_of (words_of words.old.rest.now) }

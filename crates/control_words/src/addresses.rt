@@ -1,4 +1,4 @@
-//! What one word says: protocols, addresses, ports and names.
+//! Parsers for single words: protocols, addresses, ports and names.
 
 ghost use Rattle.std.specs.Prelude.{◌≡◌, option_map};
 ghost use Rattle.std.specs.List.{list_all};
@@ -17,7 +17,7 @@ use crate::raw::{RawAddress, RawPorts, RawPrefix};
 use crate::text::{is, split_once};
 use emu_model::{Protocol, ProtocolMatch};
 
-/// `tcp` or `udp`. `None` for any other word (ipfw(8), proto).
+/// Parses `tcp` or `udp`. Returns `None` for any other word (ipfw(8), proto).
 #[tactic(auto, unfolding(crate::specs::Addresses::protocol_of))]
 pub fn protocol(word: &[u8]) -> Option<Protocol>
     ensures { result ≡ protocol_of word.now }
@@ -31,7 +31,8 @@ pub fn protocol(word: &[u8]) -> Option<Protocol>
     }
 }
 
-/// `ip`, which is any protocol, `tcp` or `udp`. `None` for any other word (ipfw(8), proto).
+/// Parses `ip` (which is any protocol), `tcp` or `udp`. Returns `None` for any other word (ipfw(8),
+/// proto).
 #[tactic(auto, unfolding(crate::specs::Addresses::match_of))]
 pub fn protocol_match(word: &[u8]) -> Option<ProtocolMatch>
     ensures { result ≡ match_of word.now }
@@ -47,7 +48,7 @@ pub fn protocol_match(word: &[u8]) -> Option<ProtocolMatch>
     }
 }
 
-/// Four numbers with points between. `None` for any other word (ipfw(8), addr).
+/// Parses four numbers separated by points. Returns `None` for any other word (ipfw(8), addr).
 #[tactic(auto, unfolding(crate::specs::Addresses::address_of))]
 pub fn address(word: &[u8]) -> Option<RawAddress>
     ensures { result ≡ address_of word.now }
@@ -66,8 +67,9 @@ pub fn address(word: &[u8]) -> Option<RawAddress>
     })
 }
 
-/// `any`, which is `0.0.0.0/0`, or an address, or one directly followed by `/` and how many bits of it
-/// count; without, 32. `None` for any other word (ipfw(8), addr).
+/// Parses `any` (which is `0.0.0.0/0`), or an address, or an address directly followed by `/` and
+/// the number of its bits that count, which is otherwise 32. Returns `None` for any other word
+/// (ipfw(8), addr).
 #[tactic(auto, unfolding(crate::specs::Addresses::prefix_of))]
 pub fn prefix(word: &[u8]) -> Option<RawPrefix>
     ensures { result ≡ prefix_of word.now }
@@ -96,7 +98,8 @@ pub fn prefix(word: &[u8]) -> Option<RawPrefix>
     Some(RawPrefix { address, length })
 }
 
-/// A port, or the first and the last with `-` between. `None` for any other word (ipfw(8), ports).
+/// Parses a port, or the first and the last port separated by `-`. Returns `None` for any other
+/// word (ipfw(8), ports).
 #[tactic(auto, unfolding(crate::specs::Addresses::ports_of))]
 pub fn ports(word: &[u8]) -> Option<RawPorts>
     ensures { result ≡ ports_of word.now }
@@ -128,7 +131,8 @@ fn has_name_chars(word: &[u8]) -> bool
     word.iter().all(|c| is_name_char(*c))
 }
 
-/// The word, where it is 1 to 32 of `a` to `z`, `0` to `9`, `-` and `_`. `None` for any other. Own.
+/// Returns the word if it is 1 to 32 characters of `a` to `z`, `0` to `9`, `-` and `_`, and `None`
+/// otherwise. Our choice.
 #[tactic(auto, unfolding(crate::specs::Addresses::name_of))]
 pub fn name(word: &[u8]) -> Option<&[u8]>
     ensures { option_map (λ w. w.now) result ≡ name_of word.now }

@@ -1,6 +1,6 @@
-//! What one word of a scenario says: lines and words, numbers with their units, addresses, ports and
-//! names; and the options of a pipe and of a flow, as words: in any order, each at most once (our choice, in the words
-//! of ipfw(8)). A number has up to 20 digits here, whatever its range.
+//! The words of a scenario: lines and words, numbers with their units, addresses, ports and names,
+//! and the options of a pipe and of a flow, which may be in any order, each at most once (our
+//! choice, in the terms of ipfw(8)). A number has up to 20 digits here, whatever its range.
 #![tactic(auto)]
 
 pub mod addresses;

@@ -1,4 +1,4 @@
-//! What one word says: numbers, with units and without.
+//! Parsers for single words: numbers with and without units.
 
 ghost use Rattle.std.specs.Prelude.{◌≡◌, ◌≤◌, ◌<◌, ◌^◌, ◌*◌, length, IfSome, option_map};
 ghost use Rattle.std.specs.List.{prefix_len};
@@ -43,7 +43,8 @@ fn digits(word: &[u8]) -> Option<u128>
     Some(n)
 }
 
-/// A number: `0`, or 1 to 20 digits that don't begin with `0`. `None` for any other word. Own.
+/// Parses a number: `0`, or 1 to 20 digits that don't begin with `0`. Returns `None` for any other
+/// word. Our choice.
 #[tactic(auto, unfolding(crate::specs::Numbers::number_of))]
 pub fn number(word: &[u8]) -> Option<u128>
     ensures value { result ≡ number_of word.now }
@@ -75,7 +76,7 @@ fn leading_digits(word: &[u8]) -> usize
     count
 }
 
-/// A number, and what directly follows it.
+/// Parses a leading number, and returns it with the bytes that directly follow it.
 #[tactic(auto, unfolding(crate::specs::Numbers::number_with_unit))]
 fn with_unit(word: &[u8]) -> Option<(u128, &[u8])>
     ensures value { option_map (λ x. (x.0, x.1.now)) result ≡ number_with_unit word.now }
@@ -111,8 +112,9 @@ fn bits_in(unit: &[u8]) -> Option<u128>
     }
 }
 
-/// A rate in bit/s: a number, directly followed by nothing, or by `bit/s` or `Byte/s` with `K`, `M`, `G`
-/// (each 1000 times the one before) or nothing in front. `None` for any other word (ipfw(8), bw).
+/// Parses a rate in bit/s: a number, directly followed by nothing, or by `bit/s` or `Byte/s`, which
+/// may have the prefix `K`, `M` or `G` (1000, 1000^2 and 1000^3). Returns `None` for any other word
+/// (ipfw(8), bw).
 #[tactic(auto, unfolding(crate::specs::Numbers::rate_of))]
 pub fn rate(word: &[u8]) -> Option<u128>
     ensures { result ≡ rate_of word.now }
@@ -132,7 +134,8 @@ fn milliseconds_in(unit: &[u8]) -> Option<u128>
     }
 }
 
-/// A delay in ms: a number, directly followed by nothing or `ms`. `None` for any other word (ipfw(8), delay).
+/// Parses a delay in ms: a number, directly followed by nothing or `ms`. Returns `None` for any
+/// other word (ipfw(8), delay).
 #[tactic(auto, unfolding(crate::specs::Numbers::delay_of))]
 pub fn delay(word: &[u8]) -> Option<u128>
     ensures { result ≡ delay_of word.now }
@@ -157,8 +160,8 @@ fn nanoseconds_in(unit: &[u8]) -> Option<u128>
     }
 }
 
-/// A time in ns: a number, directly followed by `s`, `ms` or `us`, or by nothing for ms. `None` for any
-/// other word (ipfw(8), codel).
+/// Parses a time in ns: a number, directly followed by `s`, `ms` or `us`, or by nothing, which
+/// means ms. Returns `None` for any other word (ipfw(8), codel).
 #[tactic(auto, unfolding(crate::specs::Numbers::time_of))]
 pub fn time(word: &[u8]) -> Option<u128>
     ensures { result ≡ time_of word.now }
@@ -182,8 +185,8 @@ fn decimals(word: &[u8]) -> Option<u128>
     Some(n * 10u128.pow(6 - word.len() as u32))
 }
 
-/// A fraction in millionths: `0` or `1`, followed by nothing, or by a point and 1 to 6 digits. `None` for
-/// any other word (ipfw(8), plr).
+/// Parses a fraction in millionths: `0` or `1`, followed by nothing, or by a point and 1 to 6
+/// digits. Returns `None` for any other word (ipfw(8), plr).
 #[tactic(auto, unfolding(crate::specs::Numbers::fraction_of))]
 pub fn fraction(word: &[u8]) -> Option<u128>
     ensures { result ≡ fraction_of word.now }
@@ -203,8 +206,8 @@ fn is_kilobytes(unit: &[u8]) -> bool
     is(unit, "KBytes") || is(unit, "Kbytes") || is(unit, "KB") || is(unit, "K")
 }
 
-/// A queue's limit: a number of slots, or one directly followed by `KBytes`, `Kbytes`, `KB` or `K`. `None`
-/// for any other word (ipfw(8), queue).
+/// Parses a queue's limit: a number of slots, or a number directly followed by `KBytes`, `Kbytes`,
+/// `KB` or `K`. Returns `None` for any other word (ipfw(8), queue).
 #[tactic(auto, unfolding(crate::specs::Numbers::queue_of))]
 pub fn queue(word: &[u8]) -> Option<RawQueue>
     ensures { result ≡ queue_of word.now }
@@ -260,7 +263,7 @@ fn some_hex_digits(word: &[u8], greatest: usize) -> Option<u128>
     hex_digits(word)
 }
 
-/// `0x`, then 1 digit to the greatest count of digits, of base 16 in either case. `None` for any other
+/// Parses `0x` and 1 to `greatest` hexadecimal digits in either case. Returns `None` for any other
 /// word (ipfw(8), mask).
 #[tactic(auto, unfolding(crate::specs::Numbers::hex_of))]
 pub fn hexadecimal(word: &[u8], greatest: usize) -> Option<u128>
@@ -273,7 +276,8 @@ pub fn hexadecimal(word: &[u8], greatest: usize) -> Option<u128>
     }
 }
 
-/// A retransmission time: a number of ms, or `adaptive`. `None` for any other word. Own.
+/// Parses a retransmission timeout: a number of ms, or `adaptive`. Returns `None` for any other
+/// word. Our choice.
 #[tactic(auto, unfolding(crate::specs::Numbers::timing_of))]
 pub fn timing(word: &[u8]) -> Option<RawTiming>
     ensures { result ≡ timing_of word.now }
@@ -284,7 +288,7 @@ pub fn timing(word: &[u8]) -> Option<RawTiming>
     Some(RawTiming::Fixed(number(word)?))
 }
 
-/// `@`, directly followed by a number of ns. `None` for any other word. Own.
+/// Parses `@`, directly followed by a number of ns. Returns `None` for any other word. Our choice.
 #[tactic(auto, unfolding(crate::specs::Numbers::moment_of))]
 pub fn moment(word: &[u8]) -> Option<u128>
     ensures { result ≡ moment_of word.now }

@@ -12,7 +12,7 @@ use crate::raw_options::{
 };
 use crate::text::{Words, is};
 
-/// Sets what isn't set.
+/// Returns the new value if there is no old one, and `None` otherwise.
 fn once<T: Copy + Drop>(old: Option<T>, value: T) -> Option<Option<T>>
     ensures { result ≡ once_of old value }
 {
@@ -43,7 +43,7 @@ fn time(key: &[u8], words: &mut Words) -> Option<Time>
     }
 }
 
-/// The next time, if one comes next.
+/// Parses the next time of CoDel, if the next word is one.
 fn next_time(words: &mut Words) -> Option<Option<Time>>
     ensures { option_map (λ t. (t, words_of words.new.rest.now)) result
         ≡ next_phrase is_time time_at (words_of words.old.rest.now) }
@@ -75,7 +75,7 @@ fn with_time(codel: RawCodel, time: Time) -> Option<RawCodel>
     }
 }
 
-/// The times of CoDel that come next.
+/// Parses the times of CoDel that follow.
 fn times(words: &mut Words, mut codel: RawCodel) -> Option<RawCodel>
     ensures { option_map (λ c. (c, words_of words.new.rest.now)) result
         ≡ times_of codel (words_of words.old.rest.now) }
@@ -117,7 +117,7 @@ fn field(key: &[u8], words: &mut Words) -> Option<Field>
     }
 }
 
-/// The next field of a mask, if one comes next.
+/// Parses the next field of a mask, if the next word is one.
 fn next_field(words: &mut Words) -> Option<Option<Field>>
     ensures { option_map (λ f. (f, words_of words.new.rest.now)) result
         ≡ next_phrase is_field field_at (words_of words.old.rest.now) }
@@ -161,7 +161,7 @@ fn with_field(fields: RawFields, field: Field) -> Option<RawFields>
     }
 }
 
-/// The fields of a mask that come next.
+/// Parses the fields of a mask that follow.
 fn more_fields(words: &mut Words, mut fields: RawFields) -> Option<RawFields>
     ensures { option_map (λ f. (f, words_of words.new.rest.now)) result
         ≡ fields_of fields (words_of words.old.rest.now) }
@@ -172,7 +172,7 @@ fn more_fields(words: &mut Words, mut fields: RawFields) -> Option<RawFields>
     Some(fields)
 }
 
-/// `all`, or one field or more.
+/// Parses `all`, or one or more fields.
 #[tactic(auto, unfolding(crate::specs::Options::mask_of))]
 fn mask(words: &mut Words) -> Option<RawMask>
     ensures { option_map (λ m. (m, words_of words.new.rest.now)) result
@@ -196,7 +196,7 @@ fn mask(words: &mut Words) -> Option<RawMask>
     Some(RawMask::Fields(fields))
 }
 
-/// The discipline without options of its own that this word names.
+/// Returns the discipline without options of its own that this word names.
 pub fn bare_discipline(key: &[u8]) -> Option<BareDiscipline>
     ensures { result ≡ bare_of key.now }
 {
@@ -207,7 +207,7 @@ pub fn bare_discipline(key: &[u8]) -> Option<BareDiscipline>
     }
 }
 
-/// The option that begins with this word.
+/// Parses the rest of the option that begins with this word.
 #[tactic(auto, unfolding(crate::specs::Options::setting_at))]
 fn setting(key: &[u8], words: &mut Words) -> Option<Setting>
     ensures { option_map (λ s. (s, words_of words.new.rest.now)) result
@@ -236,7 +236,7 @@ fn setting(key: &[u8], words: &mut Words) -> Option<Setting>
     }
 }
 
-/// The next option, if a word is left.
+/// Parses the next option, if a word is left.
 fn next_setting(words: &mut Words) -> Option<Option<Setting>>
     ensures { option_map (λ s. (s, words_of words.new.rest.now)) result
         ≡ next_phrase any_word setting_at (words_of words.old.rest.now) }
@@ -281,9 +281,10 @@ fn with_setting(config: RawConfig, setting: Setting) -> Option<RawConfig>
     }
 }
 
-/// The options of a pipe, to the line's end: `bw RATE`, `delay DELAY`, `queue LIMIT`, `plr FRACTION`, `mask`
-/// with `all` or fields, and `droptail` or `codel` with its times, in any order, each at most once. `None`
-/// where the words that are left are no such options (ipfw(8), pipe config). bit/s, ms, ns, millionths.
+/// Parses the options of a pipe, to the end of the line: `bw RATE`, `delay DELAY`, `queue LIMIT`,
+/// `plr FRACTION`, `mask` with `all` or fields, and `droptail` or `codel` with its times, in any
+/// order, each at most once. Returns `None` if the remaining words are not such options (ipfw(8),
+/// pipe config). The units are bit/s, ms, ns and millionths.
 #[tactic(auto, unfolding(crate::specs::Options::options_of))]
 pub fn pipe_options(mut words: Words) -> Option<RawConfig>
     ensures { result ≡ options_of (words_of words.entry.rest.now) }
@@ -302,7 +303,7 @@ pub fn pipe_options(mut words: Words) -> Option<RawConfig>
     Some(config)
 }
 
-/// The option that begins with this word.
+/// Parses the rest of the option that begins with this word.
 #[tactic(auto, unfolding(crate::specs::Options::flow_setting_at))]
 fn flow_setting(key: &[u8], words: &mut Words) -> Option<FlowSetting>
     ensures { option_map (λ s. (s, words_of words.new.rest.now)) result
@@ -319,7 +320,7 @@ fn flow_setting(key: &[u8], words: &mut Words) -> Option<FlowSetting>
     }
 }
 
-/// The next option, if a word is left.
+/// Parses the next option, if a word is left.
 fn next_flow_setting(words: &mut Words) -> Option<Option<FlowSetting>>
     ensures { option_map (λ s. (s, words_of words.new.rest.now)) result
         ≡ next_phrase any_word flow_setting_at (words_of words.old.rest.now) }
@@ -352,8 +353,9 @@ fn with_flow_setting(options: RawFlowOptions, setting: FlowSetting) -> Option<Ra
     }
 }
 
-/// The options of a flow, to the line's end: `ssthresh N`, `window N` and `rto TIMING`, in any order, each at
-/// most once. `None` where the words that are left are no such options. Bytes, ms. Own.
+/// Parses the options of a flow, to the end of the line: `ssthresh N`, `window N` and `rto TIMING`,
+/// in any order, each at most once. Returns `None` if the remaining words are not such options. The
+/// units are bytes and ms. Our choice.
 #[tactic(auto, unfolding(crate::specs::Options::flow_options_of))]
 pub fn flow_options(mut words: Words) -> Option<RawFlowOptions>
     ensures { result ≡ flow_options_of (words_of words.entry.rest.now) }

@@ -1,4 +1,5 @@
-//! What one word says, as it is written: numbers of up to 20 digits, whatever their range.
+//! The contents of single words as they are written: numbers of up to 20 digits, whatever their
+//! range.
 
 /// The four numbers of an address, from the left.
 #[derive(Clone, Copy)]
@@ -9,7 +10,7 @@ pub struct RawAddress {
     pub fourth: u128,
 }
 
-/// An address, and how many bits of it count, from the left.
+/// An address, and the number of its bits that count, from the left.
 #[derive(Clone, Copy)]
 pub struct RawPrefix {
     pub address: RawAddress,
@@ -30,7 +31,7 @@ pub enum RawQueue {
     KBytes(u128),
 }
 
-/// A retransmission time in ms, or that of RFC 6298.
+/// A retransmission timeout in ms, or that of RFC 6298.
 #[derive(Clone, Copy)]
 pub enum RawTiming {
     Fixed(u128),

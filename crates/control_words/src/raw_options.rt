@@ -22,7 +22,7 @@ pub struct RawFields {
     pub proto: Option<u128>,
 }
 
-/// `all`, or the fields that are said.
+/// `all`, or the fields that are given.
 #[derive(Clone, Copy)]
 pub enum RawMask {
     Everything,
@@ -67,7 +67,7 @@ pub enum Setting {
     Discipline(RawDiscipline),
 }
 
-/// The options of a pipe: bit/s, ms, millionths.
+/// The options of a pipe, in bit/s, ms and millionths.
 #[derive(Clone, Copy)]
 pub struct RawConfig {
     pub bw: Option<u128>,

@@ -7,7 +7,7 @@ ghost use Rattle.control_words.specs.Text.{parts, lines, words};
 
 use memchr::memchr;
 
-/// Whether the word is just this text. Own.
+/// Returns true if the word equals this text. Our choice.
 pub fn is(word: &[u8], text: &str) -> bool
     ensures { result ≡ bytes_eq word.now text.now }
 {
@@ -20,14 +20,15 @@ fn place_of(bytes: &[u8], separator: u8) -> Option<usize>
     bytes.iter().position(|b| *b == separator)
 }
 
-/// The same, many bytes at a time: for a separator that is likely to be far.
+/// Returns the same position as `place_of`. It scans many bytes at a time, for a separator that is
+/// likely to be far away.
 fn far_place_of(bytes: &[u8], separator: u8) -> Option<usize>
     ensures { result ≡ position (λ b. b == separator) bytes.now }
 {
     memchr(separator, bytes)
 }
 
-/// What stands before this place, and what stands behind it.
+/// Returns the bytes before this position, and the bytes after it.
 fn around(bytes: &[u8], place: usize) -> (&[u8], &[u8])
     requires { place < length bytes.now }
     ensures before { result.0.now ≡ take place bytes.now }
@@ -36,7 +37,8 @@ fn around(bytes: &[u8], place: usize) -> (&[u8], &[u8])
     (&bytes[..place], &bytes[place + 1..])
 }
 
-/// What stands before the first separator, and what follows it. `None` where there is none.
+/// Returns the bytes before the first separator, and the bytes after it, or `None` if there is no
+/// separator.
 pub fn split_once(bytes: &[u8], separator: u8) -> Option<(&[u8], &[u8])>
     ensures value { MatchOption result (parts separator bytes.now ≡ bytes.now ∷ [])
         (λ x. parts separator bytes.now ≡ x.0.now ∷ parts separator x.1.now) }
@@ -46,7 +48,8 @@ pub fn split_once(bytes: &[u8], separator: u8) -> Option<(&[u8], &[u8])>
     Some(around(bytes, end))
 }
 
-/// The first line, without its line feed, and what follows it. `None` where there is no line feed. Own.
+/// Returns the first line, without its line feed, and the bytes after it, or `None` if there is no
+/// line feed. Our choice.
 pub fn first_line(bytes: &[u8]) -> Option<(&[u8], &[u8])>
     ensures value { MatchOption result (lines bytes.now ≡ bytes.now ∷ [])
         (λ x. lines bytes.now ≡ x.0.now ∷ lines x.1.now) }
@@ -82,7 +85,7 @@ fn word_end(bytes: &[u8]) -> usize
     count
 }
 
-/// The first word, and what follows it. `None` where only spaces stand.
+/// Returns the first word, and the bytes after it, or `None` if there are only spaces.
 fn first_word(bytes: &[u8]) -> Option<(&[u8], &[u8])>
     ensures { MatchOption result (words bytes.now ≡ [])
         (λ x. words bytes.now ≡ x.0.now ∷ words x.1.now) }
@@ -94,8 +97,8 @@ fn first_word(bytes: &[u8]) -> Option<(&[u8], &[u8])>
     Some(bytes.split_at(word_end(bytes)))
 }
 
-/// The words of a line that are left, with runs of spaces between. `rest` is what is left of the line.
-/// Own.
+/// The remaining words of a line, separated by runs of spaces. `rest` is the remaining part of the
+/// line. Our choice.
 #[derive(Clone, Copy)]
 pub struct Words<'a> {
     pub rest: &'a [u8],
@@ -106,7 +109,7 @@ impl<'a> Words<'a> {
     ghost use Rattle.std.specs.Prelude.{◌≡◌, [], option_map, drop};
     ghost use Rattle.control_words.specs.Text.{words};
 
-    /// Takes the next word. `None` where no word is left. Own.
+    /// Consumes and returns the next word, or `None` if no word is left. Our choice.
     pub fn next_word(&mut self) -> Option<&'a [u8]>
         ensures value { option_map (λ w. (w.now, words self.new.rest.now)) result
             ≡ next (words self.old.rest.now) }
@@ -117,7 +120,8 @@ impl<'a> Words<'a> {
         Some(word)
     }
 
-    /// Takes the next word, whatever it is. `None` where it isn't this text, or where no word is left. Own.
+    /// Consumes the next word, whatever it is. Returns `None` if it isn't this text, or if no word
+    /// is left. Our choice.
     pub fn expect_word(&mut self, text: &str) -> Option<()>
         ensures value { option_map (λ _. words self.new.rest.now) result
             ≡ after text.now (words self.old.rest.now) }
@@ -126,7 +130,7 @@ impl<'a> Words<'a> {
         is(self.next_word()?, text).then_some(())
     }
 
-    /// Takes the next word, if one is left, and is `None` then. Own.
+    /// Consumes the next word, if one is left, and returns `None` in that case. Our choice.
     pub fn expect_end(&mut self) -> Option<()>
         ensures value { option_map (λ _. []) result ≡ none_left (words self.old.rest.now) }
         ensures left { words self.new.rest.now ≡ drop 1 (words self.old.rest.now) }

@@ -1,5 +1,5 @@
-//! `dnlab`: a link emulator in simulated time. Here are its workers, and its version, so that another one costs a short
-//! proof; all else is in `command_line`.
+//! `dnlab`: a link emulator in simulated time. This crate has its workers and its version, so that
+//! a new version costs a short proof; everything else is in `command_line`.
 #![tactic(auto)]
 
 mod version;
@@ -40,7 +40,7 @@ fn main(rt: HostRuntime) -> ExitCode {
     }
 }
 
-// Does what is asked for: a run by its workers, all else by one thread.
+// Performs a task: a run uses its workers, and every other task uses one thread.
 fn done<H, R: Inlet, W: Outlet>(
     rt: &H,
     task: &Task,
@@ -63,7 +63,7 @@ where
         ..
     } = *task
     {
-        // The words' ranges are those of a plan.
+        // The ranges of the options are those of a plan.
         if let Some(plan) = Plan::new(workers, moves) {
             let meter = Meter::new(rt, progress);
             return with_reports(run_within(
@@ -74,7 +74,7 @@ where
     by_one_thread(rt, alloc, task, reader, writer, text)
 }
 
-// The program: what it does for its words, of which the first is its name, and the exit status.
+// Runs the program for its arguments, of which the first is its name, and returns the exit status.
 fn answer<H, R: Inlet, W: Outlet, E: Outlet>(
     rt: &H,
     words: &[String],

@@ -1,5 +1,5 @@
-//! What the program says of itself. Whoever builds it writes this into the copy that is built: the commit, and by which
-//! kit it is proved.
+//! The version that the program reports. The build writes it into the copy that it builds: the
+//! commit, and the kit that proved it.
 
 /// The version, the commit and the kit.
 pub const VERSION: &str = "0.2.0 (commit unknown, not proved)";

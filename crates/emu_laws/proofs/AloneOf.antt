@@ -11,7 +11,7 @@ use Rattle.emu_model.specs.Net.{drop_record}
 use Rattle.emu_model.specs.Commands.{with_pipe}
 use Rattle.emu_model.specs.Events.{flying_in}
 use Rattle.emu_laws.specs.Happenings.{Happening, Coming, Finishing, InFlight, Configuring, Deleting, pipe_in, put_in, happen, after_all, Known, nothing, only_lines, finish_lines, deleted_lines, is_number, is_at, Standing, standing, first_held, known_of, history, told_of}
-use Rattle.emu_laws.specs.Isolation.{SameHappeningsChangeAlike, InstancesAreStrangers}
+use Rattle.emu_laws.specs.Isolation.{SameEventsSameState, InstancesAreIsolated}
 use Rattle.emu_laws.proofs.PlaceOf.{changed-here, mapped-at}
 use Rattle.emu_laws.proofs.StandingOf.{entry, at_first, first_or, put-here, none-stands, first-stands, number-found, removed-here, new-here}
 use Rattle.emu_laws.proofs.StandingAfter.{arrival, come, finished, one_left, gone, configured, new_or_configured, changed, ChangedOne, changed_one, CameTo, came_to, others_do_not_interfere}
@@ -208,7 +208,7 @@ goes-alone seed pipe k (Deleting now j) ps e =
     subst (λ x. GoesAlone seed pipe k (Deleting now x) ps) (sym (eqb-true j pipe e))
     (record { stands = removed-here pipe k ps; known = refl })
 
-pub same_events_same_state : SameHappeningsChangeAlike
+pub same_events_same_state : SameEventsSameState
 same_events_same_state seed pipe k h ps qs same at_ps at_qs =
     let p : GoesAlone seed pipe k h ps = goes-alone seed pipe k h ps at_ps in
     let q : GoesAlone seed pipe k h qs = goes-alone seed pipe k h qs at_qs in
@@ -271,7 +271,7 @@ by-history seed pipe k (h ∷ hs) ps = go (is_at pipe k h ps) refl (by-history s
           later.told ∙ ap (told_alone seed pipe k (history seed pipe k hs next)) still,
         )
 
-pub instances_are_isolated : InstancesAreStrangers
+pub instances_are_isolated : InstancesAreIsolated
 instances_are_isolated seed pipe k hs js ps qs same own =
     let p : ByHistory seed pipe k hs ps = by-history seed pipe k hs ps in
     let q : ByHistory seed pipe k js qs = by-history seed pipe k js qs in

@@ -7,7 +7,7 @@ use Rattle.emu_model.specs.Rules.{start_behind}
 use Rattle.emu_model.specs.Net.{Net, note, put_pipe, deliver, reinject}
 use Rattle.emu_model.specs.Events.{leave_pipe_some}
 use Rattle.emu_model.specs.RunLaws.{IsExtendedBy}
-use Rattle.emu_laws.specs.ExitLines.{exit_line, ExitsAreTold}
+use Rattle.emu_laws.specs.ExitLines.{exit_line, ExitsAreRecorded}
 use Rattle.emu_laws.proofs.EventWalks.{pass_rules_from-walks, take_load-walks}
 use Rattle.emu_laws.proofs.RecordsInOrder.{Adds, adds-keeps}
 use Rattle.emu_laws.proofs.StepHistory.{AnyLine, AnyNet, AnyCommand}
@@ -19,7 +19,7 @@ behind now r n m a = (a.more, a.records)
 nothing-yet : (now : ℕ) (n : Net) → Adds now n n
 nothing-yet now n = record { more = []; records = sym (append-nil n.records); moments = tt }
 
-pub exits_are_recorded : ExitsAreTold
+pub exits_are_recorded : ExitsAreRecorded
 exits_are_recorded at pipe k n p q e =
     subst (λ o. IsExtendedBy (n.records ++ exit_line at.now pipe k n.one_pass q ∷ [])
     (leave_pipe_some at pipe k o (put_pipe pipe (pipe_exit k p) n)).records) (sym e) (go n.one_pass)

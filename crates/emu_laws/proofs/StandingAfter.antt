@@ -12,7 +12,7 @@ use Rattle.emu_model.specs.Delay.{leave}
 use Rattle.emu_model.specs.Pipes.{Instance, PipeState, After, initial_instance, no_drop, drop_one, drawn_one, instance_arrive, instance_finish, instance_configure, put_instance, change_one, with_instance, draw, arrive_at, instance_for, pipe_arrive, pipe_finish, pipe_exit, pipe_configure}
 use Rattle.emu_model.specs.Commands.{with_pipe}
 use Rattle.emu_laws.specs.Happenings.{Happening, Coming, Finishing, InFlight, Configuring, Deleting, pipe_in, put_in, happen, is_number, is_at, Standing, standing}
-use Rattle.emu_laws.specs.Isolation.{StrangersChangeNothing}
+use Rattle.emu_laws.specs.Isolation.{OthersDoNotInterfere}
 use Rattle.emu_laws.proofs.PlaceOf.{changed-here, changed-other, or_else, next_instance, Opened, opened}
 use Rattle.emu_laws.proofs.StandingOf.{entry, at_first, put-other, put-here, number-found, removed-other, new-other}
 
@@ -223,7 +223,7 @@ module _ (pipe k : ℕ) (ps : List PipeState) where
       standing pipe k (happen seed (Deleting now j) ps) ≡ standing pipe k ps
   stranger-deletes seed now j e = removed-other j pipe k ps (is-not j pipe e)
 
-pub others_do_not_interfere : StrangersChangeNothing
+pub others_do_not_interfere : OthersDoNotInterfere
 others_do_not_interfere seed pipe k (Coming now j packet) ps e = stranger-comes pipe k ps seed now j packet e
 others_do_not_interfere seed pipe k (Finishing now j i) ps e = stranger-finishes pipe k ps seed now j i e
 others_do_not_interfere seed pipe k (InFlight j i) ps e = stranger-leaves pipe k ps seed j i e

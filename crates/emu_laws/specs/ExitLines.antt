@@ -15,6 +15,6 @@ exit_line now pipe k one_pass q =
     if one_pass then PacketDelivered now q.number q.load else PacketPassed now q.number pipe k
 
 -- it is the first that the exit records
-abbrev pub ExitsAreTold : Type 0
-ExitsAreTold = (at : EventContext) (pipe k : ℕ) (n : Net) (p : PipeState) (q : Packet) → flying_in k p ≡ Some q →
+abbrev pub ExitsAreRecorded : Type 0
+ExitsAreRecorded = (at : EventContext) (pipe k : ℕ) (n : Net) (p : PipeState) (q : Packet) → flying_in k p ≡ Some q →
     IsExtendedBy (n.records ++ exit_line at.now pipe k n.one_pass q ∷ []) (pipe_exits at pipe k n p).records

@@ -1,4 +1,4 @@
--- Instances are strangers (our choice: each has a queue, a server, a delay line and a loss stream of its own): what
+-- Instances are isolation (our choice: each has a queue, a server, a delay line and a loss stream of its own): what
 -- finishes, leaves and is dropped at one is a function of its pipe's configuration and of what comes to it alone.
 use Rattle.std.specs.Prelude.{◌≡◌, ℕ, ◌/◌, ◌%◌, ◌<◌, true, false, Some, List, slice_get}
 use Rattle.std.specs.List.{AllByRecursion}
@@ -17,8 +17,8 @@ use Rattle.emu_laws.specs.Happenings.{Happening, happen, after_all, is_at, stand
 
 -- what happens at another instance leaves this one as it is, its configuration, its queue, what is in service, its
 -- delay line, CoDel's state and its loss stream
-abbrev pub StrangersChangeNothing : Type 0
-StrangersChangeNothing = (seed pipe k : ℕ) (h : Happening) (ps : List PipeState) → is_at pipe k h ps ≡ false →
+abbrev pub OthersDoNotInterfere : Type 0
+OthersDoNotInterfere = (seed pipe k : ℕ) (h : Happening) (ps : List PipeState) → is_at pipe k h ps ≡ false →
     standing pipe k (happen seed h ps) ≡ standing pipe k ps
 
 -- one happening at an instance that stands alike in two states leaves it alike, and makes the same known of it
@@ -26,8 +26,8 @@ pub record ChangesAlike (seed pipe k : ℕ) (h : Happening) (ps qs : List PipeSt
   pub stands : standing pipe k (happen seed h ps) ≡ standing pipe k (happen seed h qs)
   pub known : known_of seed pipe k h ps ≡ known_of seed pipe k h qs
 
-abbrev pub SameHappeningsChangeAlike : Type 0
-SameHappeningsChangeAlike = (seed pipe k : ℕ) (h : Happening) (ps qs : List PipeState) →
+abbrev pub SameEventsSameState : Type 0
+SameEventsSameState = (seed pipe k : ℕ) (h : Happening) (ps qs : List PipeState) →
     standing pipe k ps ≡ standing pipe k qs → is_at pipe k h ps ≡ true → is_at pipe k h qs ≡ true →
     ChangesAlike seed pipe k h ps qs
 
@@ -38,8 +38,8 @@ pub record EndsAlike (seed pipe k : ℕ) (hs js : List Happening) (ps qs : List 
 
 -- two histories that are the same at an instance, from states in which it stands alike, end alike for it, whatever else
 -- they have of others and wherever it comes between
-abbrev pub InstancesAreStrangers : Type 0
-InstancesAreStrangers = (seed pipe k : ℕ) (hs js : List Happening) (ps qs : List PipeState) →
+abbrev pub InstancesAreIsolated : Type 0
+InstancesAreIsolated = (seed pipe k : ℕ) (hs js : List Happening) (ps qs : List PipeState) →
     standing pipe k ps ≡ standing pipe k qs → history seed pipe k hs ps ≡ history seed pipe k js qs →
     EndsAlike seed pipe k hs js ps qs
 

@@ -23,7 +23,7 @@ pub mod RunCauses
 pub mod SearchEnds
 pub mod SenderWindow
 pub mod ServiceMoments
-pub mod Strangers
+pub mod Isolation
 pub mod StepPackets
 pub mod WaitBound
 pub mod WorkBound

@@ -1,40 +1,42 @@
-//! Instances are strangers: none sees what happens at another.
+//! Laws about isolation: no instance sees the events at another.
 
-ghost use Rattle.emu_laws.specs.ExitLines.{ExitsAreTold};
+ghost use Rattle.emu_laws.specs.ExitLines.{ExitsAreRecorded};
 ghost use Rattle.emu_laws.specs.RunHistories.{StepsAreHistories, RunsAreHistories};
-ghost use Rattle.emu_laws.specs.Isolation.{StrangersChangeNothing, SameHappeningsChangeAlike, InstancesAreStrangers};
+ghost use Rattle.emu_laws.specs.Isolation.{OthersDoNotInterfere, SameEventsSameState, InstancesAreIsolated};
 
-/// What happens at another instance leaves this one as it is: its pipe's configuration, its queue, what is in
-/// service, its delay line, CoDel's state and its loss stream.
+/// An event at another instance leaves this one unchanged: its pipe's configuration, its queue, the
+/// packet in service, its delay line, CoDel's state and its loss stream.
 pub fn others_do_not_interfere()
-    ensures { StrangersChangeNothing }
+    ensures { OthersDoNotInterfere }
 {}
 
-/// One happening at an instance that stands alike in two states leaves it alike in both, and the same finishes,
-/// leaves and is dropped there, with the same seed.
+/// If an instance has the same state in two nets with the same seed, an event at it leaves it in
+/// the same state in both, and the same packets finish, leave and are dropped there.
 pub fn same_events_same_state()
-    ensures { SameHappeningsChangeAlike }
+    ensures { SameEventsSameState }
 {}
 
-/// Where the same happens at an instance in two histories, from states in which it stands alike, it ends alike, and the
-/// same was told of it in the same order, whatever happened at others.
+/// If an instance sees the same events in two histories, from the same state on, it ends in the
+/// same state, and the same was recorded of it in the same order, whatever happened at other
+/// instances.
 pub fn instances_are_isolated()
-    ensures { InstancesAreStrangers }
+    ensures { InstancesAreIsolated }
 {}
 
-/// Each step of a run changes the pipes by a history of happenings, which tells all that finishes in pipes in that step
-/// and is dropped by them.
+/// Each step of a run changes the pipes by a history of events, which has all packets that finish
+/// in pipes in that step or are dropped by them.
 pub fn steps_are_histories()
     ensures { StepsAreHistories }
 {}
 
-/// So does the whole run, in every state, from no pipes on: what is said of histories is said of runs.
+/// The whole run does so too, in every state, starting without pipes: what is stated about
+/// histories holds for runs.
 pub fn runs_are_histories()
     ensures { RunsAreHistories }
 {}
 
-/// What an exit of an instance records first is the packet that leaves it: that it is delivered, or, where `one_pass` is
-/// 0, that it passes on.
+/// The first record of an exit from an instance is about the packet that leaves it: it is delivered
+/// or, if `one_pass` is 0, passes on.
 pub fn exits_are_recorded()
-    ensures { ExitsAreTold }
+    ensures { ExitsAreRecorded }
 {}

@@ -1,13 +1,14 @@
-//! Laws over the definitions of `emu_model`, each the contract of a function that does nothing, so that
-//! the check proves it. Nothing stands on them: they say of the definitions what a reader expects of
-//! them, and see where a definition would say something else.
+//! Laws about the definitions of `emu_model`, each stated as the contract of a function that does
+//! nothing, so that the checker proves it. Nothing depends on them: they state what a reader
+//! expects of the definitions, and show where a definition would mean something else.
 //!
-//! Beside them worked examples and random scenarios, computed by the definitions: no code, theorems alone, in
-//! `proofs/`. Most files of these were written by `tools/definitions/spell` from a scenario and its report; in
-//! `AdaptiveSamples`, `Bounds` and those named `..Steps` stand theorems on single words, worked out
-//! by hand.
+//! There are also worked examples and random scenarios, computed by the definitions: no code, only
+//! theorems, in `proofs/`. Most of these files were written by `tools/definitions/spell` from a
+//! scenario and its report; `AdaptiveSamples`, `Bounds` and the files named `..Steps` have theorems
+//! about single words, worked out by hand.
 #![tactic(auto)]
 
+mod isolation;
 mod links;
 mod losses;
 mod making;
@@ -16,9 +17,12 @@ mod runs;
 mod searches;
 mod senders;
 mod single_states;
-mod isolation;
 mod work;
 
+pub use isolation::{
+    exits_are_recorded, instances_are_isolated, others_do_not_interfere, runs_are_histories,
+    same_events_same_state, steps_are_histories,
+};
 pub use links::{delay_is_kept, idle_takes_its_time, rate_is_kept, service_is_on_time};
 pub use losses::{
     acks_pass_the_budget, codel_drops_by_control, codel_drops_nothing, drops_after_interval,
@@ -36,9 +40,5 @@ pub use senders::{
 pub use single_states::{
     bounds_are_met, dropping_ends_in_time, least_due_is_least, missing_is_least,
     numbers_count_identifiers, search_goes_all_ways,
-};
-pub use isolation::{
-    exits_are_recorded, instances_are_isolated, runs_are_histories, same_events_same_state,
-    steps_are_histories, others_do_not_interfere,
 };
 pub use work::{held_within_budget, records_are_bounded};

@@ -1,4 +1,4 @@
-//! Nothing is invented.
+//! Laws about creation: nothing is invented.
 
 ghost use Rattle.emu_laws.specs.AcksAnswer.{AcksAnswerSegments};
 ghost use Rattle.emu_laws.specs.AcksCounted.{AcksMatchSegments};
@@ -6,20 +6,20 @@ ghost use Rattle.emu_laws.specs.EndsHeld.{EndsWereHeld};
 
 use emu_model::each_packet_once;
 
-/// In every run, the record before that of an acknowledgement's making says that a segment of the same flow
-/// was delivered, at the same moment (RFC 5681, section 4.2).
+/// In every run, the record before that of an acknowledgement's creation is that of the delivery of
+/// a segment of the same flow, at the same time (RFC 5681, section 4.2).
 pub fn acks_answer_segments()
     ensures { AcksAnswerSegments }
 {}
 
-/// In every state, of each flow as many acknowledgements are delivered, dropped or held as segments of it
-/// were delivered.
+/// In every state, for each flow, as many acknowledgements are delivered, dropped or held as
+/// segments were delivered.
 pub fn acks_match_segments()
     ensures { AcksMatchSegments }
 {}
 
-/// In each step of every run, a packet that is delivered was held as the step began, and one that is dropped
-/// was held then or is made in the step; and each ends once.
+/// In each step of every run, a packet that is delivered was held at the start of the step, and one
+/// that is dropped was held then or is created in the step; and each ends once.
 pub fn ends_were_held()
     ensures { EndsWereHeld }
 {

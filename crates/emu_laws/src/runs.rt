@@ -1,4 +1,4 @@
-//! What holds over a whole run: when its instances act, and what its records say together.
+//! Laws about whole runs: when the instances act, and what the records say together.
 
 ghost use Rattle.emu_laws.specs.DeliveryDelay.{DeliveriesWait};
 ghost use Rattle.emu_laws.specs.RecordOrder.{RecordsAreInOrder};
@@ -6,23 +6,24 @@ ghost use Rattle.emu_laws.specs.Isolation.{MomentsAreTheirOwn};
 
 use emu_model::{dues_differ, dues_stay_ahead, each_packet_once};
 
-/// In a run a packet finishes in an instance, and the first under way leaves it, just when what stands of the instance
-/// says: the moments of its happenings are no other's affair either.
+/// In a run a packet finishes in an instance, and the first one in flight leaves it, exactly when
+/// the instance's own state says so: the times of its events don't depend on anything else either.
 pub fn moments_are_their_own()
     ensures { MomentsAreTheirOwn }
 {
     dues_differ();
 }
 
-/// Where the moments of the commands don't fall, the records of a run come in order of their moments.
+/// If the times of the commands don't decrease, the records of a run are in the order of their
+/// times.
 pub fn records_are_in_order()
     ensures { RecordsAreInOrder }
 {
     dues_stay_ahead();
 }
 
-/// Where besides each `config` gives a pipe a delay at least, each packet that finishes in the pipe is delivered no
-/// sooner than after that delay, 1 ns at least.
+/// If, in addition, each `config` of a pipe sets at least a given delay, each packet that finishes
+/// in the pipe is delivered no sooner than after that delay, and after at least 1 ns.
 pub fn deliveries_wait()
     ensures { DeliveriesWait }
 {

@@ -1,14 +1,15 @@
-//! The laws on when dues can be, each the contract of a function that does nothing, so that the check
-//! proves it.
+//! The laws about the times of dues, each stated as the contract of a function with an empty body,
+//! so that the checker proves it.
 
 ghost use Rattle.emu_model.specs.DueLaws.{DuesStayAhead, DuesStayBelow};
 
-/// No due of an experiment is below the moment of its last event, nor is a command that is left.
+/// No due of an experiment, and no remaining command, is before the time of its last event.
 pub fn dues_stay_ahead()
     ensures { DuesStayAhead }
 {}
 
-/// Commands in range of at most 10^15 ns leave all dues of an experiment below 2 * 10^15 ns.
+/// If the commands are in range and at times of at most 10^15 ns, all dues of an experiment are
+/// before 2 * 10^15 ns.
 pub fn dues_stay_below()
     ensures { DuesStayBelow }
 {}

@@ -1,5 +1,5 @@
-//! The data of an emulated link: what a scenario commands, what a report records, and the
-//! definitions, in `specs/`, of what an experiment does. Each type keeps its ranges in itself.
+//! The data of an emulated link: the commands of a scenario, the records of a report, and the
+//! definitions, in `specs/`, of an experiment's behaviour. Each type includes its ranges.
 #![tactic(auto)]
 
 mod codel_laws;

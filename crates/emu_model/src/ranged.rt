@@ -1,11 +1,12 @@
-//! Whole numbers that keep their range, one struct for each width. A contract sees the number itself. Own.
+//! Integers that keep their range, one struct for each width. Contracts see the number itself. Our
+//! choice.
 
 ghost use Rattle.std.specs.Prelude.{◌≡◌, ℕ, ◌≤◌};
 ghost use Rattle.std.specs.Option.{SomeIff};
 
 use std::marker::Model;
 
-/// A whole number from LOW to HIGH that one byte holds.
+/// An integer from LOW to HIGH that fits into one byte.
 #[derive(Clone, Copy, PartialEq)]
 pub struct RangedU8<const LOW: u8, const HIGH: u8> {
     value: u8,
@@ -22,7 +23,7 @@ impl<const LOW: u8, const HIGH: u8> Model for RangedU8<LOW, HIGH> {
 }
 
 impl<const LOW: u8, const HIGH: u8> RangedU8<LOW, HIGH> {
-    /// None outside the range.
+    /// Creates the number, or returns None if the value is outside the range.
     pub fn new(value: u8) -> Option<Self>
         ensures { SomeIff result ((LOW ≤ value) × (value ≤ HIGH)) value }
     {
@@ -33,7 +34,7 @@ impl<const LOW: u8, const HIGH: u8> RangedU8<LOW, HIGH> {
         }
     }
 
-    /// The number itself.
+    /// Returns the number itself.
     pub fn get(self) -> u8
         ensures value { result ≡ self.entry }
         ensures low { LOW ≤ result }
@@ -44,7 +45,7 @@ impl<const LOW: u8, const HIGH: u8> RangedU8<LOW, HIGH> {
     }
 }
 
-/// A whole number from LOW to HIGH that two bytes hold.
+/// An integer from LOW to HIGH that fits into two bytes.
 #[derive(Clone, Copy, PartialEq)]
 pub struct RangedU16<const LOW: u16, const HIGH: u16> {
     value: u16,
@@ -61,7 +62,7 @@ impl<const LOW: u16, const HIGH: u16> Model for RangedU16<LOW, HIGH> {
 }
 
 impl<const LOW: u16, const HIGH: u16> RangedU16<LOW, HIGH> {
-    /// None outside the range.
+    /// Creates the number, or returns None if the value is outside the range.
     pub fn new(value: u16) -> Option<Self>
         ensures { SomeIff result ((LOW ≤ value) × (value ≤ HIGH)) value }
     {
@@ -72,7 +73,7 @@ impl<const LOW: u16, const HIGH: u16> RangedU16<LOW, HIGH> {
         }
     }
 
-    /// The number itself.
+    /// Returns the number itself.
     pub fn get(self) -> u16
         ensures value { result ≡ self.entry }
         ensures low { LOW ≤ result }
@@ -83,7 +84,7 @@ impl<const LOW: u16, const HIGH: u16> RangedU16<LOW, HIGH> {
     }
 }
 
-/// A whole number from LOW to HIGH that four bytes hold.
+/// An integer from LOW to HIGH that fits into four bytes.
 #[derive(Clone, Copy, PartialEq)]
 pub struct RangedU32<const LOW: u32, const HIGH: u32> {
     value: u32,
@@ -100,7 +101,7 @@ impl<const LOW: u32, const HIGH: u32> Model for RangedU32<LOW, HIGH> {
 }
 
 impl<const LOW: u32, const HIGH: u32> RangedU32<LOW, HIGH> {
-    /// None outside the range.
+    /// Creates the number, or returns None if the value is outside the range.
     pub fn new(value: u32) -> Option<Self>
         ensures { SomeIff result ((LOW ≤ value) × (value ≤ HIGH)) value }
     {
@@ -111,7 +112,7 @@ impl<const LOW: u32, const HIGH: u32> RangedU32<LOW, HIGH> {
         }
     }
 
-    /// The number itself.
+    /// Returns the number itself.
     pub fn get(self) -> u32
         ensures value { result ≡ self.entry }
         ensures low { LOW ≤ result }
@@ -122,7 +123,7 @@ impl<const LOW: u32, const HIGH: u32> RangedU32<LOW, HIGH> {
     }
 }
 
-/// A whole number from LOW to HIGH that eight bytes hold.
+/// An integer from LOW to HIGH that fits into eight bytes.
 #[derive(Clone, Copy, PartialEq)]
 pub struct RangedU64<const LOW: u64, const HIGH: u64> {
     value: u64,
@@ -139,7 +140,7 @@ impl<const LOW: u64, const HIGH: u64> Model for RangedU64<LOW, HIGH> {
 }
 
 impl<const LOW: u64, const HIGH: u64> RangedU64<LOW, HIGH> {
-    /// None outside the range.
+    /// Creates the number, or returns None if the value is outside the range.
     pub fn new(value: u64) -> Option<Self>
         ensures { SomeIff result ((LOW ≤ value) × (value ≤ HIGH)) value }
     {
@@ -150,7 +151,7 @@ impl<const LOW: u64, const HIGH: u64> RangedU64<LOW, HIGH> {
         }
     }
 
-    /// The number itself.
+    /// Returns the number itself.
     pub fn get(self) -> u64
         ensures value { result ≡ self.entry }
         ensures low { LOW ≤ result }
@@ -161,13 +162,14 @@ impl<const LOW: u64, const HIGH: u64> RangedU64<LOW, HIGH> {
     }
 }
 
-/// The bytes of a packet.
+/// The size of a packet in bytes.
 pub type Size = RangedU16<40, 1500>;
 
-/// The number of a rule as a command writes it. What is no rule's number is refused by a reply.
+/// The number of a rule as a command has it. A number that no rule can have is refused with a
+/// reply.
 pub type RuleNumber = RangedU32<0, 99999>;
 
-/// How many bits of an address a prefix compares.
+/// The number of address bits that a prefix compares.
 pub type PrefixLength = RangedU8<0, 32>;
 
 pub type PipeNumber = RangedU16<1, 65535>;
@@ -175,44 +177,44 @@ pub type PipeNumber = RangedU16<1, 65535>;
 /// The number of a flow or of a train.
 pub type FlowNumber = RangedU16<1, 65535>;
 
-/// Bits a second; 0 is unlimited.
+/// A rate in bit/s; 0 is unlimited.
 pub type Bandwidth = RangedU64<0, 10000000000>;
 
-/// Milliseconds.
+/// A delay in milliseconds.
 pub type Delay = RangedU16<0, 60000>;
 
-/// How many packets may wait.
+/// The number of packets that may wait.
 pub type SlotLimit = RangedU16<1, 1000>;
 
-/// How many times 1024 bytes may wait.
+/// The number of bytes that may wait, in units of 1024.
 pub type KByteLimit = RangedU16<1, 1024>;
 
-/// Millionths.
+/// A loss rate in millionths.
 pub type LossRate = RangedU32<0, 1000000>;
 
-/// Nanoseconds.
+/// CoDel's target or interval in nanoseconds.
 pub type CodelTime = RangedU64<1000, 60000000000>;
 
-/// The bytes of a segment, SMSS.
+/// The size of a segment in bytes (SMSS).
 pub type SegmentSize = RangedU16<64, 1460>;
 
-/// How many segments a flow sends, or packets a train.
+/// The number of segments of a flow, or of packets of a train.
 pub type Amount = RangedU32<1, 1000000>;
 
-/// Nanoseconds between two packets of a train.
+/// The time between two packets of a train, in nanoseconds.
 pub type Gap = RangedU64<0, 1000000000000>;
 
-/// Bytes: the first slow start threshold.
+/// The initial slow start threshold in bytes.
 pub type Threshold = RangedU32<1, 1000000000>;
 
-/// Bytes: what the receiver offers.
+/// The receiver's window in bytes.
 pub type Window = RangedU16<1, 65535>;
 
-/// Milliseconds.
+/// A retransmission timeout in milliseconds.
 pub type Timeout = RangedU16<1, 60000>;
 
-/// How many packets an experiment may hold.
+/// The number of packets that an experiment may hold.
 pub type PacketBudget = RangedU16<1, 65535>;
 
-/// How many steps an experiment may take.
+/// The number of steps that an experiment may make.
 pub type StepBudget = RangedU32<1, 10000000>;

@@ -1,11 +1,11 @@
-//! What a report records (our choice).
+//! The records of a report (our choice).
 
 use crate::packets::{Load, Protocol};
 use crate::pipes::PipeConfig;
 use crate::ranged::{FlowNumber, PipeNumber, Size};
 use crate::rules::Rule;
 
-/// Why a packet was dropped.
+/// The cause of a packet's drop.
 #[derive(Clone, Copy, PartialEq)]
 pub enum DropCause {
     Denied = 1,
@@ -18,7 +18,7 @@ pub enum DropCause {
     Budget = 8,
 }
 
-/// Why a command was refused.
+/// The reason why a command was refused.
 #[derive(Clone, Copy, PartialEq)]
 pub enum Refusal {
     BadNumber = 10,
@@ -33,7 +33,7 @@ pub enum Refusal {
     TooManyFlows = 25,
 }
 
-/// A line of a report but for its first and its last.
+/// A line of a report, other than its first and its last. Times are in ns.
 #[derive(Clone, Copy, PartialEq)]
 pub enum Record {
     CommandDone {
@@ -130,7 +130,7 @@ pub enum Record {
     },
 }
 
-/// The packets of an experiment; the drops by cause.
+/// The numbers of an experiment's packets, with the drops by cause.
 #[derive(Clone, Copy)]
 pub struct Counters {
     pub made: u64,
@@ -139,7 +139,7 @@ pub struct Counters {
     pub drops: [u64; 8],
 }
 
-/// How an experiment ended: by its command, by its budget of steps, or for want of memory.
+/// The ending of an experiment: by its command, by its step budget, or because memory ran out.
 #[derive(Clone, Copy)]
 pub enum Ending {
     Ended,

@@ -1,4 +1,4 @@
-//! Rules, and what a search among them answers (ipfw(8)).
+//! Rules, and the result of a search among them (ipfw(8)).
 
 ghost use Rattle.std.specs.Prelude.{◌≡◌, ◌≤◌};
 ghost use Rattle.std.specs.Option.{SomeIff};
@@ -8,7 +8,7 @@ use crate::packets::Place;
 use crate::ranged::{PipeNumber, PrefixLength, RuleNumber};
 use std::marker::Model;
 
-/// What a rule does with a packet that it matches: `allow`, `deny`, `count`, `skipto`, `pipe`.
+/// The action of a rule on a packet that it matches: `allow`, `deny`, `count`, `skipto`, `pipe`.
 #[derive(Clone, Copy, PartialEq)]
 pub enum Action {
     Allow,
@@ -47,7 +47,7 @@ impl Model for Prefix {
 }
 
 impl Prefix {
-    /// The bits of the address past the length are cleared.
+    /// Creates a prefix, and clears the bits of the address beyond the length.
     pub fn new(address: u32, len: PrefixLength) -> Self
         ensures { result ≡ address_span address len }
     {
@@ -59,7 +59,7 @@ impl Prefix {
         }
     }
 
-    /// The address, with its bits past the length cleared.
+    /// Returns the address, whose bits beyond the length are 0.
     pub fn address(self) -> u32
         ensures { result ≡ self.address }
     {
@@ -67,7 +67,7 @@ impl Prefix {
         address
     }
 
-    /// How many bits of an address are compared.
+    /// Returns the number of address bits that are compared.
     pub fn length(self) -> PrefixLength
         ensures { result ≡ self.len }
     {
@@ -97,7 +97,7 @@ impl Model for PortRange {
 }
 
 impl PortRange {
-    /// None where the first port is above the last.
+    /// Creates a range, or returns None if the first port is above the last.
     pub fn new(first: u16, last: u16) -> Option<Self>
         ensures { SomeIff result (first ≤ last) (record { first = first; last = last }) }
     {
@@ -108,7 +108,7 @@ impl PortRange {
         }
     }
 
-    /// The first port.
+    /// Returns the first port.
     pub fn first(self) -> u16
         ensures { result ≡ self.first }
     {
@@ -116,7 +116,7 @@ impl PortRange {
         first
     }
 
-    /// The last port, not below the first.
+    /// Returns the last port, which is not below the first.
     pub fn last(self) -> u16
         ensures { result ≡ self.last }
     {
@@ -137,7 +137,8 @@ pub struct Rule {
     pub dports: Option<PortRange>,
 }
 
-/// What a search among the rules answers; with a pipe, the place of the rule that sends there.
+/// The result of a search among the rules; for a pipe, with the place of the rule that sends
+/// packets there.
 #[derive(Clone, Copy)]
 pub enum Verdict {
     OverTheLink,

@@ -1,29 +1,29 @@
-//! The laws of what becomes of each packet and of what a trace says of it, each the contract of a
-//! function that does nothing, so that the check proves it.
+//! The laws about the outcome of each packet and about its trace records, each stated as the
+//! contract of a function with an empty body, so that the checker proves it.
 
 ghost use Rattle.emu_model.specs.TraceLaws.{EachPacketOnce, EachMakeOnce, MakeComesFirst, FinishesKeepOrder, ExitsKeepOrder};
 
-/// Each packet that was made is delivered, dropped or held, once in all.
+/// Each packet created is delivered, dropped or held, once in total.
 pub fn each_packet_once()
     ensures { EachPacketOnce }
 {}
 
-/// In a traced run each packet that was made has one `make`.
+/// In a traced run, each packet created has one `make`.
 pub fn each_make_once()
     ensures { EachMakeOnce }
 {}
 
-/// In a traced run whatever tells of a packet stands behind its `make`.
+/// In a traced run, every record about a packet is after its `make`.
 pub fn make_comes_first()
     ensures { MakeComesFirst }
 {}
 
-/// In a traced run what finishes in an instance comes in the order in which it arrived there.
+/// In a traced run, packets finish in an instance in the order in which they arrived there.
 pub fn finishes_keep_order()
     ensures { FinishesKeepOrder }
 {}
 
-/// What leaves an instance leaves in the order in which it finished there.
+/// Packets leave an instance in the order in which they finished there.
 pub fn exits_keep_order()
     ensures { ExitsKeepOrder }
 {}

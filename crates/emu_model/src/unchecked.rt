@@ -1,8 +1,8 @@
-//! Arms that never come, without a test for them (our choice).
+//! Arms that are never reached, without a run-time test (our choice).
 
 ghost use Rattle.std.specs.Prelude.{◌≡◌, []};
 
-/// No places.
+/// Returns an empty array.
 #[inline]
 pub fn no_places<'a>() -> [&'a mut u8; 0]
     ensures { result ≡ [] }
@@ -10,8 +10,9 @@ pub fn no_places<'a>() -> [&'a mut u8; 0]
     []
 }
 
-/// As `unreachable!()`, where packets pass: that one stays a test and a trap in the program, though its proof says that
-/// it isn't met, and this one is nothing there. The compiler sees that no arm can write to a place of none.
+/// Like `unreachable!()`, for the packet path: `unreachable!()` remains a test and a trap in the
+/// program, although its proof states that it is never reached, and this macro compiles to nothing.
+/// The compiler sees that no arm can write to an element of an empty array.
 #[macro_export]
 macro_rules! unreachable_unchecked {
     () => {{

@@ -1,5 +1,6 @@
-//! Cached searches: what whole searches found, so that a later packet of the same flow needs no walk. A cached search counts its packets
-//! itself. The rules get them when somebody looks, when rules change, and when another cached search takes its place.
+//! Cached searches: the results of whole searches, so that a later packet of the same flow needs no
+//! walk. A cached search counts its packets itself. Its counts are added to the rules when somebody
+//! reads them, when the rules change, and when another cached search takes its place.
 
 ghost use Rattle.std.specs.Prelude.{◌≡◌, ◌≢◌, ℕ, ◌<◌, List, [], false, IsTrue, OnOk, vec_len};
 ghost use Rattle.emu_model.specs.declared.packets.Packet.{Packet};
@@ -13,10 +14,11 @@ use crate::search::{Found, NO_RULE, walk_and_count};
 use emu_model::{Load, Packet, Place, Protocol, RuleNumber, Size, unreachable_unchecked};
 use std::alloc::{AllocError, Global};
 
-/// What a search from a place on found for the packets of one flow, and what it counted that the rules don't have yet.
+/// The result of a search from a place on for the packets of one flow, and the counts that the
+/// rules don't have yet.
 #[derive(Clone, Copy)]
 struct CachedSearch {
-    /// How old the cached searches were.
+    /// The age of the cache when the search was cached.
     age: u64,
     from: usize,
     proto: Protocol,
@@ -29,7 +31,7 @@ struct CachedSearch {
 }
 
 impl CachedSearch {
-    /// Whether it is the cached search of this packet from this place on.
+    /// Returns true if this is the cached search of this packet from this place on.
     #[inline(always)]
     fn is_of(&self, age: u64, from: usize, packet: &Packet) -> bool
         ensures { IsTrue result → IsSearchOf age from packet.now self.now }
@@ -43,7 +45,7 @@ impl CachedSearch {
             && self.proto == packet.proto
     }
 
-    /// The same cached search, which has counted a packet more.
+    /// Returns the cached search after it has counted one more packet.
     #[inline(always)]
     fn with_packet(&self, packet: &Packet) -> Self
         ensures { result ≡ with_one packet.now.size self.now }
@@ -54,7 +56,7 @@ impl CachedSearch {
         }
     }
 
-    /// A packet of its flow.
+    /// Returns a packet of the flow.
     fn packet(&self) -> Packet
         ensures { result ≡ flow_packet self.now }
     {
@@ -75,28 +77,29 @@ impl CachedSearch {
     }
 }
 
-/// A place for a packet's cached search, and whether it stands there.
+/// A place for a packet's cached search, and whether the search is there.
 #[derive(Clone, Copy)]
 pub(crate) struct Seat {
     pub(crate) place: usize,
     pub(crate) is_taken: bool,
 }
 
-/// The cached searches of the last flows among the same rules. Where one rule alone counts, it does so itself.
+/// The cached searches of the most recent flows among the same rules. If only one rule counts a
+/// packet, that rule counts it itself.
 #[derive(Drop)]
 pub struct RuleCache {
-    /// None yet, or as many as there are places.
+    /// Empty, or one entry for each place.
     held: Vec<Option<CachedSearch>>,
-    /// Only a cached search of this age is believed.
+    /// The age that a cached search must have to be valid.
     age: u64,
-    /// The place at which the last search was remembered, or found.
+    /// The place at which the last search was cached, or found.
     latest: usize,
-    /// Whether a cached search may have counted what the rules don't have yet.
+    /// True if a cached search may have counts that the rules don't have yet.
     is_pending: bool,
 }
 
 impl RuleCache {
-    /// None, and no places yet.
+    /// Creates an empty cache without places.
     pub fn new(alloc: Global) -> Self
         ensures true_of { (rules : List Rule) → AreTrueOf rules result }
         ensures none { result.held.items ≡ [] }
@@ -109,8 +112,8 @@ impl RuleCache {
         }
     }
 
-    /// Makes the places for searches among so many rules, unless it has them or such searches take
-    /// none; nothing that it holds is lost.
+    /// Allocates the places for searches among `rules` rules, unless they exist or such searches
+    /// use none. Keeps everything that is cached.
     pub fn make_places(&mut self, rules: usize) -> Result<(), AllocError>
         ensures kept { (all : List Rule) → AreTrueOf all self.old → AreTrueOf all self.new }
         ensures same { (cs : List Counted) → settled self.new cs ≡ settled self.old cs }
@@ -126,7 +129,7 @@ impl RuleCache {
         Ok(())
     }
 
-    /// The rules change: no cached search is believed any more. Takes no memory.
+    /// Invalidates all cached searches, because the rules change. Does not allocate.
     pub fn forget(&mut self)
         ensures forgot { (before after : List Rule) → AreTrueOf before self.old →
             AreTrueOf after self.new }
@@ -139,7 +142,8 @@ impl RuleCache {
         }
     }
 
-    /// Where the cached search of a packet stands, or would stand. A packet that was classified comes next.
+    /// Returns the place of a packet's cached search, or the place where it would be. Checks the
+    /// latest place first, because a packet that was just classified comes next.
     #[inline(always)]
     pub(crate) fn seek(&self, from: usize, packet: &Packet) -> Seat
         ensures { IsTrue result.is_taken → IsHeldAt from packet.now result.place self.now }
@@ -172,7 +176,7 @@ impl RuleCache {
         }
     }
 
-    /// Whether the cached search of a packet stands at a place.
+    /// Returns true if the cached search of a packet is at a place.
     #[inline(always)]
     fn is_at(&self, place: usize, from: usize, packet: &Packet) -> bool
         ensures { IsTrue result → IsHeldAt from packet.now place self.now }
@@ -186,7 +190,7 @@ impl RuleCache {
         path.is_of(self.age, from, packet)
     }
 
-    /// Whether no cached search stands at a place that is believed.
+    /// Returns true if there is no valid cached search at a place.
     #[inline(always)]
     fn is_free(&self, place: usize) -> bool {
         let Some(slot) = self.held.get(place) else {
@@ -198,7 +202,8 @@ impl RuleCache {
         }
     }
 
-    /// What the cached search at a place found; the next packet is of its flow, as it seems.
+    /// Returns the result of the cached search at a place, and makes it the latest, because the
+    /// next packet is probably of its flow.
     #[inline(always)]
     pub(crate) fn recall(&mut self, place: usize) -> Found
         requires { (start : ℕ) × (p : Packet) × IsHeldAt start p place self.old }
@@ -213,7 +218,8 @@ impl RuleCache {
         path.found
     }
 
-    /// The same; where more rules than one count the packet, the cached search does it for them.
+    /// Returns the result of the cached search at a place. If more than one rule counts the packet,
+    /// the cached search counts it for them.
     #[inline(always)]
     pub(crate) fn count(&mut self, place: usize, packet: &Packet) -> Found
         requires { (start : ℕ) × IsHeldAt start packet.now place self.old }
@@ -236,7 +242,7 @@ impl RuleCache {
         path.found
     }
 
-    /// Remembers at a place what a search for this packet found from a place among the rules on.
+    /// Caches, at a place, the result of a search for this packet from a place among the rules on.
     pub(crate) fn remember(
         &mut self,
         place: usize,
@@ -272,7 +278,7 @@ impl RuleCache {
         self.latest = place;
     }
 
-    /// The rules get all that the cached searches have counted.
+    /// Adds everything that the cached searches have counted to the rules.
     pub fn settle(&mut self, rules: &mut [CountedRule], jumps: &[usize])
         requires jumps { AreJumps (the_rules rules.old) jumps.now }
         requires cache { AreTrueOf (the_rules rules.old) self.old }
@@ -292,7 +298,7 @@ impl RuleCache {
     }
 }
 
-/// The rules get what a cached search has counted, and it begins anew.
+/// Adds what a cached search has counted to the rules, and returns the search without counts.
 #[inline(always)]
 fn settle_path(
     held: &Option<CachedSearch>,
@@ -315,7 +321,7 @@ fn settle_path(
     })
 }
 
-/// The rules on a cached search get what it has counted.
+/// Adds what a cached search has counted to the rules on its path.
 #[inline(never)]
 fn walk_path(rules: &mut [CountedRule], jumps: &[usize], path: &CachedSearch)
     requires { AreJumps (the_rules rules.old) jumps.now }
@@ -326,16 +332,17 @@ fn walk_path(rules: &mut [CountedRule], jumps: &[usize], path: &CachedSearch)
     walk_and_count(rules, jumps, path.from, &packet, path.counted);
 }
 
-/// So few rules are walked in no more time than a cached search takes.
+/// The number of rules up to which a walk takes no more time than a cached search.
 pub(crate) const MAX_WALKED: usize = 4;
 
-/// How many cached searches are remembered at most.
+/// The maximum number of cached searches.
 const PLACES: usize = 1024;
 
-/// At how many places a cached search may stand.
+/// The number of places at which a cached search may be.
 const TRIED: usize = 4;
 
-/// The first place at which a cached search may stand: the ten highest bits of products by odd numbers.
+/// Returns the first place at which a cached search may be: the ten highest bits of products with
+/// odd numbers.
 pub(crate) fn home_of(from: usize, packet: &Packet) -> usize {
     let ends = u64::from(packet.src) << 32 | u64::from(packet.dst);
     let rest = u64::from(packet.sport) << 48 | u64::from(packet.dport) << 32 | from as u64;

@@ -10,8 +10,8 @@ use emu_model::{
 };
 use std::marker::Model;
 
-/// A rule, how many rules were added before it, and how many packets and bytes it matched; each of
-/// the two counters stays at 2^64 - 1.
+/// A rule, the number of rules that were added before it, and the numbers of packets and bytes that
+/// it matched; each of the two counters saturates at 2^64 - 1.
 #[derive(Clone, Copy)]
 pub struct CountedRule {
     rule: Rule,
@@ -20,7 +20,7 @@ pub struct CountedRule {
     bytes: u64,
 }
 
-/// So many packets and bytes; each of the two stays at 2^64 - 1.
+/// Numbers of packets and bytes; each of the two saturates at 2^64 - 1.
 #[derive(Clone, Copy)]
 pub struct Amount {
     packets: u64,
@@ -28,7 +28,7 @@ pub struct Amount {
 }
 
 impl Amount {
-    /// None.
+    /// Returns the amount zero.
     pub(crate) fn none() -> Self
         ensures { result ≡ record { packets = 0; bytes = 0 } }
     {
@@ -38,7 +38,7 @@ impl Amount {
         }
     }
 
-    /// Whether there is a packet in it.
+    /// Returns true if the amount has a packet.
     #[inline(always)]
     pub(crate) fn is_some(&self) -> bool
         ensures { result ≡ not (self.now.packets == 0) }
@@ -46,7 +46,7 @@ impl Amount {
         self.packets != 0
     }
 
-    /// A packet more.
+    /// Returns the amount with one more packet.
     #[inline(always)]
     pub(crate) fn and(self, packet: &Packet) -> Self
         ensures { result ≡ one_more packet.now.size self }
@@ -57,7 +57,7 @@ impl Amount {
         }
     }
 
-    /// One packet.
+    /// Returns the amount of one packet.
     #[inline(always)]
     pub(crate) fn one(packet: &Packet) -> Self
         ensures { result ≡ record { packets = 1; bytes = packet.now.size } }
@@ -90,7 +90,8 @@ impl Model for CountedRule {
 }
 
 impl CountedRule {
-    /// A rule that matched no packet yet, and how many rules were added before it.
+    /// Creates a rule that has matched no packet yet, given the number of rules that were added
+    /// before it.
     pub fn new(rule: Rule, order: u64) -> Self
         ensures { result ≡ new_rule order rule }
     {
@@ -102,7 +103,7 @@ impl CountedRule {
         }
     }
 
-    /// Rule 65535: `deny ip from any to any`.
+    /// Returns rule 65535: `deny ip from any to any`.
     pub fn last() -> Self
         ensures { result ≡ default_rule }
     {
@@ -119,28 +120,28 @@ impl CountedRule {
         CountedRule::new(rule, 0)
     }
 
-    /// The rule as it was added.
+    /// Returns the rule as it was added.
     pub fn rule(&self) -> Rule
         ensures { result ≡ self.now.rule }
     {
         self.rule // as it was added
     }
 
-    /// How many packets it matched.
+    /// Returns the number of packets that the rule matched.
     pub fn packets(&self) -> u64
         ensures { result ≡ self.now.packets }
     {
         self.packets // at most 2^64 - 1
     }
 
-    /// The bytes of the packets that it matched.
+    /// Returns the bytes of the packets that the rule matched.
     pub fn bytes(&self) -> u64
         ensures { result ≡ self.now.bytes }
     {
         self.bytes // at most 2^64 - 1
     }
 
-    /// Its number, and how many rules were added before it.
+    /// Returns the rule's number, and the number of rules that were added before it.
     #[inline(always)]
     pub fn place(&self) -> Place
         ensures { result ≡ place_of self.now }
@@ -151,7 +152,7 @@ impl CountedRule {
         }
     }
 
-    /// Its number, 0 to 99999.
+    /// Returns the rule's number, 0 to 99999.
     pub fn number(&self) -> u32
         ensures number { result ≡ self.now.rule.number }
         ensures high { result ≤ 99999 }
@@ -174,7 +175,7 @@ impl CountedRule {
         self.bytes = self.bytes.saturating_add(u64::from(packet.size.get()));
     }
 
-    /// So many packets and bytes more.
+    /// Adds an amount of packets and bytes to the counters.
     #[inline(always)]
     pub(crate) fn count_more(&mut self, amount: Amount)
         ensures { self.new ≡ count_more amount self.old }
@@ -183,7 +184,7 @@ impl CountedRule {
         self.bytes = self.bytes.saturating_add(amount.bytes);
     }
 
-    /// The verdict of a search whose last match it is.
+    /// Returns the verdict of a search whose last match is this rule.
     #[inline(always)]
     pub(crate) fn verdict(&self) -> Verdict
         ensures { result ≡ verdict_by self.now.rule.action self.now }
@@ -195,7 +196,7 @@ impl CountedRule {
         }
     }
 
-    /// The verdict, if the search ends at this rule.
+    /// Returns the verdict, if a search ends at this rule.
     #[inline(always)]
     pub(crate) fn decision(&self) -> Option<Verdict>
         ensures { result ≡ decision self.now.rule.action self.now }
@@ -209,7 +210,7 @@ impl CountedRule {
     }
 }
 
-/// The number to which a rule jumps.
+/// Returns the number to which a rule jumps.
 pub(crate) fn target_of(action: Action) -> Option<u32>
     ensures { result ≡ target_of action }
 {

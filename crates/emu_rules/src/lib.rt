@@ -1,6 +1,7 @@
-//! The rule list of an emulated link (ipfw(8)): rules by number, those of one number in the order
-//! in which they were added, the default last; searched from the first or from behind a rule. Which rules match, where
-//! a search goes on, the jumps that are kept beside the rules for it, and the cached searches that it found.
+//! The rule list of an emulated link (ipfw(8)): rules by number, those with the same number in the
+//! order in which they were added, the default last; a search starts at the first rule or after a
+//! given one. The crate has the matching of rules, the place where a search continues, the
+//! precomputed jumps, and the cached searches.
 #![tactic(auto)]
 
 mod cache;

@@ -14,22 +14,22 @@ use emu_model::{Packet, Place, Refusal, Rule, RuleNumber, Verdict};
 use std::alloc::{AllocError, Global};
 use std::marker::Model;
 
-/// Why a rule wasn't added.
+/// The reason why a rule wasn't added.
 #[derive(Clone, Copy, PartialEq)]
 pub enum AddError {
     Refused(Refusal),
     NoMemory,
 }
 
-/// Rules by number, those of one number in the order in which they were added; the last is
+/// Rules by number, those with the same number in the order in which they were added; the last is
 /// rule 65535, `deny ip from any to any`.
 #[derive(Drop)]
 pub struct RuleList {
     rules: Vec<CountedRule>,
-    /// Where a search goes on that matched at each place.
+    /// For each place, the place at which a search that matched there continues.
     jumps: Vec<usize>,
     added: u64,
-    /// What searches among these rules found before, and what it counted.
+    /// The results of earlier searches among these rules, and their counts.
     cache: RuleCache,
 }
 
@@ -46,7 +46,7 @@ impl Model for RuleList {
 }
 
 impl RuleList {
-    /// The default alone.
+    /// Creates a list with only the default rule.
     pub fn new(alloc: Global) -> Result<Self, AllocError>
         ensures { IfOk result (λ list. list ≡ initial_book) }
     {
@@ -62,9 +62,10 @@ impl RuleList {
         })
     }
 
-    /// Adds a rule behind those of its number; in this order `BadNumber` outside 1 to 65534,
-    /// `BadSkip` for a jump that goes to its own number, backward or above 65535, `RulesFull` at
-    /// 256 rules or 2^64 - 1 addings, `NoMemory`. After an error the list is as it was.
+    /// Adds a rule after those with its number. Fails, in this order, with `BadNumber` outside 1 to
+    /// 65534, with `BadSkip` for a jump to its own number, backwards or above 65535, with
+    /// `RulesFull` at 256 rules or after 2^64 - 1 additions, and with `NoMemory`. After an error
+    /// the list is unchanged.
     pub fn add(&mut self, rule: Rule) -> Result<(), AddError>
         ensures ok { OnOk result (self.new ≡ book_with rule self.old) }
         ensures err { OnErr result (self.new ≡ self.old) }
@@ -79,21 +80,21 @@ impl RuleList {
         if self.rules.reserve(1).is_err() || self.jumps.reserve(1).is_err() {
             return Err(AddError::NoMemory);
         }
-        // Without places for cached searches each search is a walk.
+        // Without places for cached searches, each search is a walk.
         let _places = self.cache.make_places(self.rules.len() + 1);
-        self.cache.settle(&mut self.rules, &self.jumps); // before a rule comes
+        self.cache.settle(&mut self.rules, &self.jumps); // before a rule is added
         let place = first_from(&self.rules, counted.number() + 1);
         let Ok(()) = self.rules.insert(place, counted) else {
             unreachable!()
         };
         self.jumps.push_reserved(0);
         aim(&self.rules, &mut self.jumps);
-        self.cache.forget(); // a rule has come
+        self.cache.forget(); // a rule was added
         self.added += 1;
         Ok(())
     }
 
-    /// Why a rule isn't added, but for want of memory.
+    /// Returns the reason why a rule can't be added, apart from memory.
     fn refusal(&self, rule: &Rule) -> Option<Refusal>
         ensures { result ≡ add_refusal rule.now self.now }
     {
@@ -112,8 +113,8 @@ impl RuleList {
         None
     }
 
-    /// Deletes all rules of a number; `BadNumber` outside 1 to 65534, then `NoRule` where there is
-    /// none, and the list is as it was. Takes no memory.
+    /// Deletes all rules with a number. Fails with `BadNumber` outside 1 to 65534, then with
+    /// `NoRule` if there is none; the list is then unchanged. Does not allocate.
     pub fn delete(&mut self, number: RuleNumber) -> Result<(), Refusal>
         ensures ok { OnOk result (self.new ≡ book_without number self.old) }
         ensures err { OnErr result (self.new ≡ self.old) }
@@ -124,7 +125,7 @@ impl RuleList {
         if !is_rule_number(number) {
             return Err(Refusal::BadNumber);
         }
-        self.cache.settle(&mut self.rules, &self.jumps); // before rules go
+        self.cache.settle(&mut self.rules, &self.jumps); // before rules are deleted
         let number = number.get();
         if !self.rules.iter().any(|counted| counted.number() == number) {
             return Err(Refusal::NoRule);
@@ -132,11 +133,11 @@ impl RuleList {
         self.rules.retain(|counted| counted.number() != number);
         self.jumps.truncate(self.rules.len());
         aim(&self.rules, &mut self.jumps);
-        self.cache.forget(); // rules have gone
+        self.cache.forget(); // rules were deleted
         Ok(())
     }
 
-    /// The verdict on a packet, which each rule that matches counts. Takes no memory.
+    /// Returns the verdict on a packet, which each rule that matches counts. Does not allocate.
     pub fn verdict(&mut self, packet: &Packet) -> Verdict
         ensures verdict { result ≡ verdict 0 packet.now self.old.rules }
         ensures counted { self.new ≡ counted_book 0 packet.now self.old }
@@ -144,15 +145,15 @@ impl RuleList {
         judge_and_count(&mut self.cache, &mut self.rules, &self.jumps, 0, packet)
     }
 
-    /// The same verdict; nothing is counted.
+    /// Returns the same verdict as `verdict`, but counts nothing.
     pub fn find(&self, packet: &Packet) -> Verdict
         ensures { result ≡ verdict 0 packet.now self.now.rules }
     {
         find(&self.rules, &self.jumps, 0, packet)
     }
 
-    /// The verdict of a search that begins behind the place of a rule, which may be gone: the
-    /// packet has left the pipe to which that rule sent it (ipfw(8), one_pass).
+    /// Returns the verdict of a search that starts after the place of a rule, which may be deleted:
+    /// the packet has left the pipe to which that rule sent it (ipfw(8), one_pass).
     pub fn verdict_after(&mut self, place: Place, packet: &Packet) -> Verdict
         ensures verdict { let start = start_behind place self.old.rules in
             result ≡ verdict start packet.now self.old.rules }
@@ -163,7 +164,7 @@ impl RuleList {
         judge_and_count(&mut self.cache, &mut self.rules, &self.jumps, start, packet)
     }
 
-    /// Returns the verdict of `verdict_after` and counts nothing. Takes no memory.
+    /// Returns the same verdict as `verdict_after`, but counts nothing. Does not allocate.
     pub fn find_after(&self, place: Place, packet: &Packet) -> Verdict
         ensures { let start = start_behind place self.now.rules in
             result ≡ verdict start packet.now self.now.rules }
@@ -172,8 +173,8 @@ impl RuleList {
         find(&self.rules, &self.jumps, start, packet)
     }
 
-    /// The verdict of `find`, and by which rule; a later search for a packet of this flow goes by the
-    /// cached search that this one found. Takes no memory.
+    /// Returns the verdict of `find`, and the rule that gives it, and caches the search, so that a
+    /// later one for a packet of this flow can use it. Does not allocate.
     #[inline(always)]
     pub fn classify_rule(&mut self, packet: &Packet) -> Match
         ensures verdict { result.verdict ≡ verdict 0 packet.now self.old.rules }
@@ -184,7 +185,8 @@ impl RuleList {
         classify(&mut self.cache, &mut self.rules, &self.jumps, 0, packet)
     }
 
-    /// The same of a search behind the place of a rule.
+    /// Classifies a packet like `classify_rule`, with a search that starts after the place of a
+    /// rule.
     #[inline(always)]
     pub fn classify_rule_after(&mut self, place: Place, packet: &Packet) -> Match
         ensures verdict { let start = start_behind place self.old.rules in
@@ -197,7 +199,7 @@ impl RuleList {
         classify(&mut self.cache, &mut self.rules, &self.jumps, start, packet)
     }
 
-    /// The rule at a place counts a packet, which was classified so.
+    /// Counts a packet at the rule at a place, as it was classified.
     #[inline(always)]
     pub fn count_at(&mut self, rule: usize, packet: &Packet)
         requires { rule < length self.old.rules }
@@ -208,7 +210,7 @@ impl RuleList {
         count_at(&mut self.rules, rule, packet);
     }
 
-    /// How many rules there are, the default too.
+    /// Returns the number of rules, including the default.
     pub fn len(&self) -> usize
         ensures count { result ≡ length self.now.rules }
         ensures small { result < 2 ^ 63 }
@@ -216,7 +218,7 @@ impl RuleList {
         self.rules.len()
     }
 
-    /// The rule at a place with its counters; the default is the last. Takes no memory.
+    /// Returns the rule at a place with its counters; the default is the last. Does not allocate.
     pub fn rule_at(&mut self, place: usize) -> CountedRule
         requires { place < length self.old.rules }
         ensures rule { slice_get self.old.rules place ≡ Some result }
@@ -230,10 +232,10 @@ impl RuleList {
 /// The number of the default.
 const DEFAULT: u32 = 65535;
 
-/// How many rules there may be besides the default.
+/// The maximum number of rules, not counting the default.
 const MAX_RULES: usize = 256;
 
-/// Whether a rule may be added or deleted under a number.
+/// Returns true if a rule may be added or deleted under a number.
 fn is_rule_number(number: RuleNumber) -> bool
     ensures { result ≡ is_rule_number number }
 {

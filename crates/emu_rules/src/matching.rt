@@ -1,4 +1,4 @@
-//! Whether a rule matches a packet.
+//! The test whether a rule matches a packet.
 
 ghost use Rattle.std.specs.Prelude.{◌≡◌};
 ghost use Rattle.emu_model.specs.Rules.{rule_matches, proto_matches, address_matches, port_matches};
@@ -20,7 +20,7 @@ fn matches_protocol(wanted: ProtocolMatch, proto: Protocol) -> bool
 fn matches_address(prefix: Prefix, address: u32) -> bool
     ensures { result ≡ address_matches prefix address }
 {
-    // In 64 bits the shift by 32 of an empty prefix is one too.
+    // In 64 bits, the shift by 32 for an empty prefix is defined too.
     let shift = 32 - prefix.length().get();
     u64::from(address) >> shift == u64::from(prefix.address()) >> shift
 }
@@ -37,7 +37,7 @@ fn matches_port(ports: Option<PortRange>, port: u16) -> bool
 pub(crate) fn matches(rule: &Rule, packet: &Packet) -> bool
     ensures { result ≡ rule_matches packet.now rule.now }
 {
-    // The address comes first, since most rules that don't match differ there.
+    // The address is first, since most rules that don't match differ there.
     matches_address(rule.src, packet.src)
         && matches_protocol(rule.proto, packet.proto)
         && matches_port(rule.sports, packet.sport)

@@ -1,5 +1,5 @@
-//! The search among the rules: one walk over those that can match, by jumps that are kept, or the cached search that is
-//! remembered of it.
+//! The search among the rules: one walk over those that may match, by precomputed jumps, or the
+//! cached search.
 
 ghost use Rattle.std.specs.Prelude.{◌≡◌, ◌≢◌, ℕ, ◌<◌, ◌≤◌, ◌∷◌, [], length, slice_get, Some, None, option_and_then};
 ghost use Rattle.emu_model.specs.Rules.{Counted, the_rules, least_match, place_of_number, start_behind, verdict, verdict_of_match, count_at, counted_rules};
@@ -10,14 +10,15 @@ use crate::cache::{MAX_WALKED, RuleCache};
 use crate::counted::{Amount, CountedRule, target_of};
 use emu_model::{Packet, Place, Verdict};
 
-/// What a search finds: the last place that matches, and the same where no rule before counts the packet, else `NO_RULE`.
+/// The result of a search: the last place that matches, and that place again if no rule before it
+/// counts the packet, otherwise `NO_RULE`.
 #[derive(Clone, Copy)]
 pub struct Found {
     last: Option<usize>,
     pub(crate) rule: usize,
 }
 
-/// The least place at or after `from` whose rule matches.
+/// Returns the first place at or after `from` whose rule matches.
 #[inline(never)]
 fn next_match(rules: &[CountedRule], from: usize, packet: &Packet) -> Option<usize>
     ensures { result ≡ least_match packet.now (the_rules rules.now) from }
@@ -31,7 +32,7 @@ fn next_match(rules: &[CountedRule], from: usize, packet: &Packet) -> Option<usi
     None
 }
 
-/// The same where few rules are left.
+/// Finds a match like `next_match`, if few rules are left.
 #[inline(always)]
 fn near_match(rules: &[CountedRule], from: usize, packet: &Packet) -> Option<usize>
     ensures { result ≡ least_match packet.now (the_rules rules.now) from }
@@ -45,7 +46,7 @@ fn near_match(rules: &[CountedRule], from: usize, packet: &Packet) -> Option<usi
     None
 }
 
-/// The same: the code of a short search stands where it is called.
+/// Finds a match like `next_match`, but the code of a short search is inlined.
 #[inline(always)]
 fn first_match(rules: &[CountedRule], from: usize, packet: &Packet) -> Option<usize>
     ensures { result ≡ least_match packet.now (the_rules rules.now) from }
@@ -56,7 +57,7 @@ fn first_match(rules: &[CountedRule], from: usize, packet: &Packet) -> Option<us
     next_match(rules, from, packet)
 }
 
-/// A walk from `start` to the rule that ends the search.
+/// Walks from `start` to the rule that ends the search.
 #[inline(always)]
 fn search(rules: &[CountedRule], jumps: &[usize], start: usize, packet: &Packet) -> Found
     requires { AreJumps (the_rules rules.now) jumps.now }
@@ -84,7 +85,8 @@ fn search(rules: &[CountedRule], jumps: &[usize], start: usize, packet: &Packet)
     }
 }
 
-/// Whether a walk takes no more time than a cached search: few rules are left, or the first ends the search.
+/// Returns true if a walk takes no more time than a cached search: few rules are left, or the first
+/// one ends the search.
 #[inline(always)]
 fn is_short(rules: &[CountedRule], start: usize, packet: &Packet) -> bool {
     if rules.len().saturating_sub(start) <= MAX_WALKED {
@@ -94,7 +96,7 @@ fn is_short(rules: &[CountedRule], start: usize, packet: &Packet) -> bool {
     first.matches(packet) && first.decision().is_some()
 }
 
-/// The verdict of a search whose last match is at this place.
+/// Returns the verdict of a search whose last match is at this place.
 #[inline(always)]
 fn verdict_at(rules: &[CountedRule], last: Option<usize>) -> Verdict
     ensures { result ≡ verdict_of_match (option_and_then (slice_get rules.now) last) }
@@ -109,7 +111,7 @@ fn verdict_at(rules: &[CountedRule], last: Option<usize>) -> Verdict
     rule.verdict()
 }
 
-/// The verdict of a search that begins at `start`.
+/// Returns the verdict of a search that starts at `start`.
 pub(crate) fn find(rules: &[CountedRule], jumps: &[usize], start: usize, packet: &Packet) -> Verdict
     requires { AreJumps (the_rules rules.now) jumps.now }
     ensures { result ≡ verdict start packet.now rules.now }
@@ -118,7 +120,8 @@ pub(crate) fn find(rules: &[CountedRule], jumps: &[usize], start: usize, packet:
     verdict_at(rules, found.last)
 }
 
-/// The same verdict; each rule that matches counts so many packets and bytes besides.
+/// Returns the verdict like `find`, and adds an amount of packets and bytes to each rule that
+/// matches.
 #[inline(always)]
 pub(crate) fn walk_and_count(
     rules: &mut [CountedRule],
@@ -143,7 +146,8 @@ pub(crate) fn walk_and_count(
     Verdict::Dropped
 }
 
-/// The same verdict; each rule that matches counts the packet, or its cached search does, where one is remembered.
+/// Returns the verdict like `find`. Each rule that matches counts the packet, or its cached search
+/// does, if there is one.
 pub(crate) fn judge_and_count(
     cache: &mut RuleCache,
     rules: &mut [CountedRule],
@@ -165,7 +169,7 @@ pub(crate) fn judge_and_count(
     count_far(cache, rules, jumps, start, packet)
 }
 
-/// The same where many rules are left.
+/// Returns the verdict like `judge_and_count`, if many rules are left.
 #[inline(never)]
 fn count_far(
     cache: &mut RuleCache,
@@ -194,18 +198,18 @@ fn count_far(
     verdict
 }
 
-/// What a packet was classified as: the verdict, and the place of the rule that gives it where no rule before counts it, else
-/// `NO_RULE`.
+/// The classification of a packet: the verdict, and the place of the rule that gives it if no rule
+/// before it counts the packet, otherwise `NO_RULE`.
 #[derive(Clone, Copy)]
 pub struct Match {
     pub verdict: Verdict,
     pub rule: usize,
 }
 
-/// No rule alone counts the packet.
+/// The place that means that no rule alone counts the packet.
 pub const NO_RULE: usize = usize::MAX;
 
-/// What a search found, as a verdict and a rule.
+/// Converts the result of a search into a verdict and a rule.
 #[inline(always)]
 fn match_of(rules: &[CountedRule], found: Found) -> Match
     ensures verdict { result.verdict
@@ -218,7 +222,8 @@ fn match_of(rules: &[CountedRule], found: Found) -> Match
     }
 }
 
-/// The same verdict, and by which rule; where many rules are left, the cached search is remembered.
+/// Returns the verdict like `find`, and the rule that gives it; if many rules are left, caches the
+/// search.
 #[inline(always)]
 pub(crate) fn classify(
     cache: &mut RuleCache,
@@ -247,7 +252,7 @@ pub(crate) fn classify(
     match_of(rules, found)
 }
 
-/// The search where many rules are left: by the cached search that is remembered, else by a walk, which is remembered then.
+/// Searches if many rules are left: uses the cached search, or else walks and caches the result.
 #[inline(never)]
 fn far_search(
     cache: &mut RuleCache,
@@ -272,7 +277,7 @@ fn far_search(
     found
 }
 
-/// The rule at a place counts a packet.
+/// Counts a packet at the rule at a place.
 #[inline(always)]
 pub(crate) fn count_at(rules: &mut [CountedRule], place: usize, packet: &Packet)
     requires { place < length rules.old }
@@ -281,7 +286,7 @@ pub(crate) fn count_at(rules: &mut [CountedRule], place: usize, packet: &Packet)
     rules[place].count(packet);
 }
 
-/// The first place numbered `number` or higher.
+/// Returns the first place whose rule's number is `number` or higher.
 pub(crate) fn first_from(rules: &[CountedRule], number: u32) -> usize
     requires { IsOrdered rules.now }
     ensures within { result ≤ length rules.now }
@@ -290,7 +295,7 @@ pub(crate) fn first_from(rules: &[CountedRule], number: u32) -> usize
     rules.partition_point(|counted| counted.number() < number)
 }
 
-/// The first place behind that of a rule, which may be gone.
+/// Returns the first place after that of a rule, which may be deleted.
 pub(crate) fn first_behind(rules: &[CountedRule], place: Place) -> usize
     requires { IsOrdered rules.now }
     ensures { result ≡ start_behind place rules.now }
@@ -302,7 +307,7 @@ pub(crate) fn first_behind(rules: &[CountedRule], place: Place) -> usize
     })
 }
 
-/// Writes to each place where a search goes on that matched there.
+/// Writes, for each place, the place at which a search that matched there continues.
 pub(crate) fn aim(rules: &[CountedRule], jumps: &mut [usize])
     requires same { length jumps.old ≡ length rules.now }
     requires ordered { IsOrdered rules.now }

@@ -1,4 +1,5 @@
-//! Worked examples of the engine, from single components to one experiment: all of it is tests. Our choice.
+//! Worked examples of the engine, from single components to one experiment. The crate contains only
+//! tests. Our choice.
 #![tactic(auto)]
 
 #[cfg(test)]

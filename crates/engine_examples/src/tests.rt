@@ -1,6 +1,6 @@
-//! The tests, by what they are about.
+//! The tests, by subject.
 
-/// A condition holds, which is told as it is written where it doesn't.
+/// Checks a condition, and reports it as it is written if it is false.
 macro_rules! assert_holds {
     ($rt:expr; $cond:expr) => {
         crate::tests::wants::assert_with_message($rt, $cond, concat!("assertion failed: ", stringify!($cond)))

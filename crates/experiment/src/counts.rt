@@ -1,4 +1,4 @@
-//! How many deliveries and drops are among records that an experiment has forgotten.
+//! The numbers of deliveries and drops among the records that an experiment has discarded.
 
 ghost use Rattle.std.specs.Prelude.{◌≡◌, ◌+◌, ◌^◌, ◌<◌, ℕ, ◌++◌, List, [], slice_index_or};
 ghost use Rattle.emu_model.specs.declared.records.Record.{Record};
@@ -11,14 +11,15 @@ ghost use Rattle.experiment.specs.Written.{AreCountsOf, CanCount, all_drops_of};
 use crate::Experiment;
 use emu_model::Counters;
 
-/// How many deliveries and drops, by cause from `Denied` to `Budget`, are among records that an experiment has forgotten.
+/// The numbers of deliveries, and of drops by cause from `Denied` to `Budget`, among the records
+/// that an experiment has discarded.
 #[derive(Clone, Copy, Debug, PartialEq)]
 pub struct RecordCounts {
     pub delivered: u64,
     pub drops: [u64; 8],
 }
 
-// The drops of two parts of a run, cause by cause.
+// Returns the sum of the drops of two parts of a run, cause by cause.
 fn sum_of(first: &[u64; 8], second: &[u64; 8]) -> [u64; 8]
     requires { (k : ℕ) → slice_index_or first.now k 0 + slice_index_or second.now k 0 < 2 ^ 64 }
     ensures { (rs qs : List Record) → first.now ≡ all_drops_of rs → second.now ≡ all_drops_of qs →
@@ -37,7 +38,7 @@ fn sum_of(first: &[u64; 8], second: &[u64; 8]) -> [u64; 8]
 }
 
 impl RecordCounts {
-    /// The counts of no record.
+    /// Returns the counts of no records.
     pub fn new() -> Self
         ensures { AreCountsOf [] result }
     {
@@ -47,7 +48,7 @@ impl RecordCounts {
         }
     }
 
-    /// Counts what an experiment has recorded, which it forgets.
+    /// Counts the records of an experiment, and removes them from it.
     pub fn count(&mut self, experiment: &mut Experiment)
         requires { CanCount self.old experiment.old }
         ensures counts { (rs : List Record) → AreCountsOf rs self.old →
@@ -70,7 +71,8 @@ impl RecordCounts {
         experiment.forget_records();
     }
 
-    /// Counters of an experiment as it stands, with these counts of deliveries and drops.
+    /// Returns the counters of an experiment's current state, with these counts of deliveries and
+    /// drops.
     pub fn among(&self, standing: &Counters) -> Counters
         ensures { result ≡ record standing.now {
           delivered = self.now.delivered;
@@ -85,7 +87,7 @@ impl RecordCounts {
         }
     }
 
-    /// The counters of an experiment, those records among what it counts that it has forgotten.
+    /// Returns the counters of an experiment, including the records that it has discarded.
     pub fn counters(&self, experiment: &Experiment) -> Counters
         requires { CanCount self.now experiment.now }
         ensures { (rs : List Record) (p : Pocket) → AreCountsOf rs self.now →

@@ -1,4 +1,4 @@
-//! An experiment: commands are applied one at a time, and events are made one at a time.
+//! An experiment, which accepts one command at a time and makes one event at a time.
 
 ghost use Rattle.std.specs.Prelude.{◌≡◌, ◌≢◌, ℕ, ◌+◌, ◌^◌, ◌≤◌, ◌<◌, ◌++◌, ◌==◌, if◌then◌else◌, [], ◌∷◌, Option, Some, None, IsSome, IsOk, IfOk, OnOk, OnErr, List, is_some};
 ghost use Rattle.emu_model.specs.declared.sources.Class.TheVariants.{NextCommand, Expiry};
@@ -24,8 +24,8 @@ use packet_store::{Owner, Shelf};
 use std::alloc::{AllocError, Global};
 use std::marker::Model;
 
-/// Why a command was not taken in: the experiment has ended, its next command waits still, or the moment
-/// lies before that of the last command.
+/// The reason why a command was not accepted: the next command is still pending, the time is before
+/// that of the last command, the experiment has ended, or memory ran out.
 #[derive(Clone, Copy, Debug, PartialEq)]
 pub enum ApplyError {
     Busy = 27,
@@ -34,8 +34,8 @@ pub enum ApplyError {
     NoMemory = 99,
 }
 
-/// What a call of `event` did: a step, the last step, none for want of memory, or none since there is
-/// nothing to be done.
+/// The result of a call of `event`: a step, the last step, no step because memory ran out, or no
+/// step because there is nothing to do.
 #[derive(Clone, Copy, Debug, PartialEq)]
 pub enum Event {
     Ran,
@@ -44,7 +44,8 @@ pub enum Event {
     Still,
 }
 
-/// Rules, pipes, sources and what they hold; the commands that came, and the next of them.
+/// The rules, pipes and sources with everything that they hold, the commands so far, and the next
+/// command.
 #[derive(Drop)]
 pub struct Experiment {
     pub(crate) spec: Spec,
@@ -55,12 +56,12 @@ pub struct Experiment {
     pub(crate) clock: u64,
     pub(crate) steps: u64,
     pub(crate) ending: Option<Ending>,
-    // The moment of the last command.
+    // The time of the last command.
     latest: u64,
-    // What was due when it was noted last, and room for what is due now.
+    // The dues when they were last noted, and room for the current ones.
     pub(crate) noted: Vec<Due>,
     pub(crate) fresh: Vec<Due>,
-    // How many packets are on the shelf.
+    // The number of packets on the shelf.
     pub(crate) held: u64,
 }
 
@@ -98,7 +99,7 @@ impl Model for Experiment {
 }
 
 impl Experiment {
-    /// An experiment to which no command came.
+    /// Creates an experiment without commands.
     pub fn new(alloc: Global, spec: Spec) -> Result<Self, AllocError>
         ensures opening { IfOk result (λ e. (p : Pocket) → view p e ≡ initial_state spec []) }
         ensures alone { IfOk result (λ e. (p : Pocket) → IsAlone p e) }
@@ -127,7 +128,8 @@ impl Experiment {
         })
     }
 
-    /// Makes room for one command more, and changes nothing else: the next `apply` needs no memory then.
+    /// Reserves memory for one more command, so that the next `apply` needs no allocation. Nothing
+    /// else changes.
     pub fn apply_ready(&mut self) -> Result<(), AllocError>
         ensures ready { OnOk result (0 < self.new.spare) }
         ensures same { self.new ≡ record self.old { spare = self.new.spare } }
@@ -137,9 +139,9 @@ impl Experiment {
         Ok(())
     }
 
-    /// Makes a command the next one. Refused in this order as `Over` where the experiment has ended,
-    /// `Busy` where it has a next command, `Backward` where the moment lies before that of the last, and
-    /// for want of memory; nothing has changed then.
+    /// Makes a command the next one. Fails, in this order, with `Over` if the experiment has ended,
+    /// with `Busy` if it has a next command, with `Backward` if the time is before that of the last
+    /// command, and with `NoMemory` if memory runs out; after an error nothing has changed.
     pub fn apply(&mut self, command: &Timed) -> Result<(), ApplyError>
         requires { command.now.moment ≤ 10 ^ 15 }
         ensures ok { OnOk result
@@ -191,9 +193,9 @@ impl Experiment {
         Ok(())
     }
 
-    /// Makes the next event: one step of the definitions. `Ran` and `Ended` where the step was made,
-    /// `Still` without a next command or after the end, `Halted` for want of memory: the experiment
-    /// stands then as before, and ends so.
+    /// Makes the next event: one step of the definitions. Returns `Ran` or `Ended` if the step was
+    /// made, `Still` if there is no next command or the experiment has ended, and `Halted` if
+    /// memory runs out: the state is then as before the step, and the experiment is over.
     #[tactic(auto, using(crate::proofs::AloneFacts::alone_counted, crate::proofs::AloneFacts::after_counted))]
     #[inline(always)]
     pub fn event<S: Shelf>(&mut self, shelf: &mut S, owner: Owner) -> Event
@@ -245,7 +247,8 @@ impl Experiment {
         self.made()
     }
 
-    // What came of a step that was made. It was within the budget.
+    // Returns the result of a step that was made. The contract also states that the step was within
+    // the budget.
     #[inline(always)]
     fn made(&self) -> Event
         ensures event { result ≡ (if is_some self.now.ending then Event.Ended else Event.Ran) }
@@ -257,7 +260,7 @@ impl Experiment {
         Event::Ran
     }
 
-    // The next event, where this is the next command.
+    // Returns the next event's due, given the next command.
     pub(crate) fn least_due(&self, command: &Timed) -> Due
         ensures least { (p : Pocket) → result ≡ next_event (view p self.now) command.now }
         ensures moment { result.moment ≤ command.now.moment }
@@ -266,7 +269,7 @@ impl Experiment {
         self.net.earliest(self.clock, command_due(command))
     }
 
-    // The next command comes, as the step's event.
+    // Executes the next command as one step.
     #[inline(never)]
     fn take_command<S: Shelf>(
         &mut self,
@@ -311,7 +314,7 @@ impl Experiment {
         Ok(())
     }
 
-    // Something else that is due comes, as the step's event.
+    // Makes an event other than the next command as one step.
     #[inline(always)]
     pub(crate) fn take_event<S: Shelf>(
         &mut self,
@@ -351,14 +354,14 @@ impl Experiment {
     }
 }
 
-// The range of a budget of steps.
+// Shows the prover the range of a step budget.
 fn few_steps(spec: &Spec)
     ensures { spec.now.budget.steps ≤ 10 ^ 7 }
 {
     let _high = spec.budget.steps.get();
 }
 
-// What an event knows besides, at a moment (ns).
+// Returns the context of an event at a time (ns).
 fn setting_of(spec: &Spec, now: u64) -> EventContext
     ensures { result ≡ record {
       seed = spec.now.seed;
@@ -373,7 +376,7 @@ fn setting_of(spec: &Spec, now: u64) -> EventContext
     }
 }
 
-// How a command ends the experiment.
+// Returns the ending that a command causes, if any.
 fn ending_by(command: &Command) -> Option<Ending>
     ensures { result ≡ (if is_end command.now then Some Ended else None) }
 {
@@ -383,7 +386,7 @@ fn ending_by(command: &Command) -> Option<Ending>
     }
 }
 
-// The last step of the budget ends an experiment that hasn't ended.
+// Ends an experiment at the last step of its budget, unless it has already ended.
 #[inline(always)]
 fn close(
     net: &mut Network,

@@ -1,5 +1,5 @@
-//! The report of an experiment whose lines are made when it is written. Until then its records are kept in sixteen bytes
-//! each, where a line has some forty.
+//! The report of an experiment whose lines are built when it is written. Until then its records
+//! take sixteen bytes each, where a line takes about forty.
 
 ghost use Rattle.std.specs.Prelude.{◌≡◌, ℕ, ◌++◌, List, [], flat_map, IfOk, OnOk};
 ghost use Rattle.emu_model.specs.declared.records.Record.{Record};
@@ -15,11 +15,12 @@ use report::{Archive, Moments, write_counters, write_heading, write_source};
 use std::alloc::{AllocError, Global};
 use std::marker::Model;
 
-/// So many records are kept or written together: they are still in the processor's caches.
+/// The number of records that are stored or written together: they are still in the processor's
+/// caches.
 pub const BATCH: usize = 256;
 
-/// The line of the name, the records so far, and how many deliveries and drops, by cause, are among them. A contract sees
-/// their lines.
+/// The line with the name, the records so far, and the numbers of deliveries and of drops by cause
+/// among them. Contracts see the lines.
 #[derive(Drop)]
 pub struct ReportKeeper {
     alloc: Global,
@@ -43,7 +44,7 @@ impl Model for ReportKeeper {
 }
 
 impl ReportKeeper {
-    /// The line of an experiment's name.
+    /// Creates a report that has only the line with an experiment's name.
     pub fn new(alloc: Global, name: &[u8]) -> Result<Self, AllocError>
         ensures { IfOk result (HasWritten (heading_of name.now) []) }
     {
@@ -57,7 +58,8 @@ impl ReportKeeper {
         })
     }
 
-    /// Keeps what an experiment has recorded, which it forgets. `AllocError` where it has no room.
+    /// Moves the records from an experiment to this report. Fails with `AllocError` if memory runs
+    /// out.
     #[tactic(auto, using(crate::proofs::CallerLemmas::writes_more))]
     pub fn keep(&mut self, experiment: &mut Experiment) -> Result<(), AllocError>
         requires { CanWrite self.old experiment.old }
@@ -79,7 +81,8 @@ impl ReportKeeper {
         Ok(())
     }
 
-    /// The report: the line of the counters comes last, of which some are those of the experiment as it stands.
+    /// Completes the report with the line of the counters: deliveries and drops as counted here,
+    /// the rest from `standing`.
     pub fn into_report(self, standing: &Counters) -> Result<Report, AllocError>
         ensures { IfOk result (λ r. r ≡ self.text ++ counters_of (record standing.now {
           delivered = self.delivered;
@@ -103,7 +106,7 @@ impl ReportKeeper {
     }
 }
 
-/// A report whose lines are made when it is written. A contract sees its text.
+/// A report whose lines are built when it is written. Contracts see its text.
 #[derive(Drop)]
 pub struct Report {
     heading: Vec<u8>,
@@ -121,7 +124,8 @@ impl Model for Report {
 }
 
 impl Report {
-    /// The report of records with these counters behind. `AllocError` where it has no room.
+    /// Creates the report of archived records, followed by these counters. Fails with `AllocError`
+    /// if memory runs out.
     pub fn of(
         alloc: Global,
         name: &[u8],
@@ -141,14 +145,14 @@ impl Report {
         })
     }
 
-    /// Its first line, the records of those that follow, and its last line.
+    /// Returns the first line, the records of the lines that follow, and the last line.
     pub fn parts(&self) -> (&[u8], &Archive, &[u8])
         ensures { result.0.now ++ (flat_map line_of result.1.now ++ result.2.now) ≡ self.now }
     {
         (self.heading.as_slice(), &self.archive, self.last.as_slice())
     }
 
-    /// Its text. `AllocError` where it has no room.
+    /// Returns the text of the report. Fails with `AllocError` if memory runs out.
     pub fn text(&self, alloc: Global) -> Result<Vec<u8>, AllocError>
         ensures { IfOk result (λ text. text.items ≡ self.now) }
     {

@@ -1,6 +1,6 @@
-//! One experiment by itself, over any shelf of packets: its commands at their moments, its events, and how it ends; its
-//! report, while it runs or packed until it is written; and laws of an experiment whose next command isn't known yet, which
-//! sessions rest on. Our choice.
+//! One experiment on its own, over any shelf of packets: its commands at their times, its events,
+//! and its ending; its report, written while it runs or packed until it is written; and laws about
+//! an experiment whose next command isn't known yet, which sessions rely on. Our choice.
 #![tactic(auto)]
 
 mod counts;

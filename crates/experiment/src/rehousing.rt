@@ -1,4 +1,4 @@
-//! An experiment's packets move from one shelf to another.
+//! The move of an experiment's packets from one shelf to another.
 
 ghost use Rattle.std.specs.Prelude.{◌≡◌, ◌≤◌, length};
 ghost use Rattle.packet_store.specs.Pocket.{empty_pocket, OthersStay};
@@ -9,9 +9,9 @@ use crate::Experiment;
 use packet_store::{Owner, Shelf};
 
 impl Experiment {
-    /// Moves all packets from one shelf to another, where the other owner has none, may hold as many as
-    /// the experiment was given, and there is room for them. The experiment shows then what it showed
-    /// before. Takes no memory.
+    /// Moves all packets from one shelf to another, where the other owner must have none and a
+    /// budget at least as large as the experiment's, and there must be room for them. The
+    /// experiment's state is unchanged. Does not allocate.
     pub fn rehouse<S: Shelf, T: Shelf>(
         &mut self,
         from: &mut S,

@@ -1,4 +1,4 @@
-//! Reports that are put into a room of the caller's, without a text of their own on the way.
+//! Reports that are written into a buffer of the caller's, without an intermediate text.
 
 ghost use Rattle.std.specs.Prelude.{◌≡◌, ◌+◌, ◌<◌, ◌≤◌, flat_map, length, take, drop, IfOk};
 ghost use Rattle.report.specs.Lines.{line_of};
@@ -8,12 +8,13 @@ use crate::keeper::Report;
 use report::{Archive, Moments, Source, write_some};
 use std::alloc::{AllocError, Global};
 
-// Puts bytes from a place on, where there is room for all of them, and returns where they end.
+// Writes bytes from a place on if all of them fit, and returns their end in either case.
 fn put_bytes(room: &mut [u8], at: usize, bytes: &[u8]) -> Result<usize, AllocError>
     ensures put { IfOk result (IsPutAt bytes.now at room.old room.new) }
     ensures room { length room.new ≡ length room.old }
 {
-    // All ends lie in memory, so that each has 64 bits; nothing says so here.
+    // An end always fits into 64 bits, because everything is in memory, but no contract here says
+    // so.
     let Some(end) = at.checked_add(bytes.len()) else {
         return Err(AllocError);
     };
@@ -23,7 +24,7 @@ fn put_bytes(room: &mut [u8], at: usize, bytes: &[u8]) -> Result<usize, AllocErr
     Ok(end)
 }
 
-// Puts the lines of some records, made on a sheet, and returns of how many and where they end.
+// Writes the lines of some records, built on a sheet, and returns their number and their end.
 fn put_some(
     room: &mut [u8],
     at: usize,
@@ -44,7 +45,7 @@ fn put_some(
     Ok((count, end))
 }
 
-// Puts the lines of records, and returns where they end.
+// Writes the lines of records, and returns their end.
 #[tactic(auto, using(crate::proofs::Rooms::put_none))]
 fn put_lines(
     room: &mut [u8],
@@ -66,7 +67,7 @@ fn put_lines(
     Ok(end)
 }
 
-// Puts a report, and returns where it ends.
+// Writes a report, and returns its end.
 #[tactic(auto, using(crate::proofs::Rooms::put_last))]
 fn put_report(
     room: &mut [u8],
@@ -84,8 +85,9 @@ fn put_report(
     put_bytes(room, end, last)
 }
 
-/// Puts reports into a room, one after the other, as far as they fit, and returns how long they are (bytes), which may be
-/// more than the room has. `AllocError` where the sheet on which lines are made has no room.
+/// Writes reports into a buffer, one after the other, as far as they fit, and returns their total
+/// length (bytes), which may exceed the buffer. Fails with `AllocError` if there is no memory for
+/// the sheet on which lines are built.
 #[tactic(auto, using(crate::proofs::Rooms::put_none, crate::proofs::Rooms::put_piece))]
 pub fn put_reports(alloc: Global, reports: &[Report], room: &mut [u8]) -> Result<usize, AllocError>
     ensures put { IfOk result (IsPutAt (flat_map (λ r. r) reports.now) 0 room.old room.new) }

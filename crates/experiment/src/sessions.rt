@@ -1,18 +1,18 @@
-//! Sessions: the laws of `waits`, over any list of deeds.
+//! Sessions: the laws of `waits`, for any list of actions.
 
 ghost use Rattle.experiment.specs.Sessions.{SessionsAreAlone, EndedSessionsAreWhole, TranscriptsAreWhole, EndedStatesAreWhole};
 
 use emu_model::later_commands_wait;
 
-/// Whatever was done in a session, its state is that of running alone the commands that came and any that come then or
-/// later.
+/// Whatever is done in a session, its state is that of running alone on the commands so far,
+/// followed by any that arrive then or later.
 pub fn sessions_are_alone()
     ensures { SessionsAreAlone }
 {
     later_commands_wait();
 }
 
-/// A session that has ended has shown the whole trace of any transcript that goes on from there.
+/// A session that has ended has shown the whole trace of any transcript that continues from there.
 pub fn ended_sessions_are_whole()
     ensures { EndedSessionsAreWhole }
 {
@@ -26,7 +26,7 @@ pub fn transcripts_are_whole()
     later_commands_wait();
 }
 
-/// A state that has ended has the whole trace, whatever commands come after it.
+/// A state that has ended has the whole trace, whatever commands follow.
 pub fn ended_states_are_whole()
     ensures { EndedStatesAreWhole }
 {}

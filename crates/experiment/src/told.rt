@@ -1,4 +1,4 @@
-//! What is told of an experiment.
+//! The observable state of an experiment.
 
 ghost use Rattle.std.specs.Prelude.{◌≡◌, ℕ, ◌*◌, ◌^◌, ◌<◌, ◌≤◌, ◌++◌, [], List, is_some, option_to_list, IfOk, IfSome, OnOk, OnErr};
 ghost use Rattle.std.specs.List.{AllByRecursion};
@@ -20,15 +20,15 @@ use network::Network;
 use std::alloc::{AllocError, Global};
 
 impl Experiment {
-    /// What was recorded.
+    /// Returns the records.
     pub fn records(&self) -> &[Record]
         ensures { result.now ≡ self.now.net.log.records }
     {
         self.net.records()
     }
 
-    /// What was recorded is forgotten, as if it had been written down; its room stays. Each event goes on as it would
-    /// have gone on.
+    /// Removes the records, as if they had been written down. Keeps the allocation. Later events
+    /// are not affected.
     #[tactic(auto, using(crate::proofs::AloneFacts::after_forgotten, crate::proofs::PassFacts::waits_forgotten))]
     pub fn forget_records(&mut self)
         ensures rest { self.new
@@ -44,14 +44,14 @@ impl Experiment {
         self.net.forget_records();
     }
 
-    /// The commands that came, the next one among them.
+    /// Returns the commands so far, including the next one.
     pub fn consumed(&self) -> &[Timed]
         ensures { result.now ≡ self.now.consumed }
     {
         self.consumed.as_slice()
     }
 
-    /// The packets that were made, delivered, are held, and were dropped by cause.
+    /// Returns the counters: the packets created, delivered, held, and dropped by cause.
     pub fn counters(&self) -> Counters
         ensures { (p : Pocket) → IsHousedIn p self.now →
             result ≡ counters_of (view p self.now).net }
@@ -59,49 +59,49 @@ impl Experiment {
         self.net.counters(self.held)
     }
 
-    /// How many packets are on the shelf.
+    /// Returns the number of packets on the shelf.
     pub fn packet_count(&self) -> u64
         ensures { (p : Pocket) → IsHousedIn p self.now → result ≡ p.count }
     {
         self.held
     }
 
-    /// How it ended, if it has.
+    /// Returns the ending, if the experiment has ended.
     pub fn ending(&self) -> Option<Ending>
         ensures { result ≡ self.now.ending }
     {
         self.ending
     }
 
-    /// What it was given.
+    /// Returns the specification of the experiment.
     pub fn spec(&self) -> Spec
         ensures { result ≡ self.now.spec }
     {
         self.spec
     }
 
-    /// How many steps were made.
+    /// Returns the number of steps made.
     pub fn events(&self) -> u64
         ensures { result ≡ self.now.steps }
     {
         self.steps
     }
 
-    /// The moment of the last event (ns), 0 before the first.
+    /// Returns the time of the last event (ns), or 0 before the first.
     pub fn clock(&self) -> u64
         ensures { result ≡ self.now.clock }
     {
         self.clock
     }
 
-    /// Whether a command is the next one.
+    /// Returns true if there is a next command.
     pub fn has_next(&self) -> bool
         ensures { result ≡ is_some self.now.next }
     {
         self.next.is_some()
     }
 
-    /// The commands that came, and the records. Takes no memory.
+    /// Returns the commands so far, and the records. Does not allocate.
     pub fn into_lists(self) -> (Vec<Timed>, Vec<Record>)
         ensures consumed { result.0.items ≡ self.consumed }
         ensures records { result.1.items ≡ self.net.log.records }
@@ -110,8 +110,8 @@ impl Experiment {
         (consumed, net.into_records())
     }
 
-    /// What is due: the next command, if there is one, and then all events, also where the experiment
-    /// has ended.
+    /// Returns the dues: that of the next command, if there is one, and then those of all events,
+    /// even if the experiment has ended.
     pub fn dues(&self, alloc: Global) -> Result<Vec<Due>, AllocError>
         ensures { IfOk result (λ dues. (p : Pocket) → dues.items ≡ dues_in (view p self.now)) }
     {
@@ -120,8 +120,8 @@ impl Experiment {
         Ok(dues)
     }
 
-    /// What comes next, and when (ns): the least of what is due, the next command among it. None without a next
-    /// command.
+    /// Returns the earliest due (its time in ns), including that of the next command, or None if
+    /// there is no next command.
     pub fn next_due(&self) -> Option<Due>
         ensures due { (p : Pocket) → result ≡ next_due_in (view p self.now) }
         ensures early { IfSome result (λ d. d.moment ≤ 10 ^ 15) }
@@ -135,7 +135,8 @@ impl Experiment {
         }
     }
 
-    /// What is due lies not before the moment of the last event, and before 2 * 10^15 ns.
+    /// Reveals that no due is before the time of the last event, and that every due is before 2 *
+    /// 10^15 ns.
     pub fn dues_in_time(&self)
         ensures { (p : Pocket) → IsAlone p self.now →
             AllByRecursion (λ d. (self.now.clock ≤ d.moment) × IsMoment d.moment)
@@ -146,7 +147,7 @@ impl Experiment {
         dues_stay_below();
     }
 
-    /// Appends what is due, or leaves `dues` as it was.
+    /// Appends the dues. If allocation fails, `dues` is unchanged.
     pub fn add_dues(&self, dues: &mut Vec<Due>) -> Result<(), AllocError>
         ensures ok { OnOk result
             ((p : Pocket) → dues.new.items ≡ dues.old.items ++ dues_in (view p self.now)) }
@@ -156,7 +157,7 @@ impl Experiment {
     }
 }
 
-/// The due of a command that is the next one.
+/// Returns the due of a command that is the next one.
 pub(crate) fn command_due(command: &Timed) -> Due
     ensures { result ≡ record {
       moment = command.now.moment;
@@ -169,8 +170,8 @@ pub(crate) fn command_due(command: &Timed) -> Due
     }
 }
 
-// Appends the due of the next command and those of all events, where the last one was at the moment
-// `clock` (ns), or leaves `dues` as it was.
+// Appends the due of the next command and those of all events, given that the last event was at
+// `clock` (ns). If allocation fails, `dues` is unchanged.
 pub(crate) fn append_dues(
     net: &Network,
     next: Option<Timed>,

@@ -1,4 +1,4 @@
-//! Which sources have other dues than when that was noted last.
+//! The sources whose dues have changed since they were last noted.
 
 ghost use Rattle.std.specs.Prelude.{◌≡◌, ◌+◌, ◌<◌, ◌≤◌, length, vec_len, vec_capacity, OnOk, OnErr};
 ghost use Rattle.packet_store.specs.Pocket.{Pocket};
@@ -12,9 +12,9 @@ use std::alloc::AllocError;
 use std::mem;
 
 impl Experiment {
-    /// Notes what is due, and puts into `sources`, in place of what it held, each source whose dues differ
-    /// from those that were noted before; none were in a new experiment. May name others that have dues, and
-    /// one twice. Refused memory, it leaves all as it was.
+    /// Notes the current dues, and replaces the contents of `sources` with each source whose dues
+    /// differ from those noted before; a new experiment has noted none. It may also list other
+    /// sources that have dues, and list a source twice. If allocation fails, nothing changes.
     pub fn touched(&mut self, sources: &mut Vec<Source>) -> Result<(), AllocError>
         ensures covers { OnOk result (Covers self.old.noted self.new.noted sources.new.items) }
         ensures no_other { OnOk result
@@ -31,7 +31,7 @@ impl Experiment {
         Ok(())
     }
 
-    /// What was due when that was noted last.
+    /// Returns the dues when they were last noted.
     pub fn noted_dues(&self) -> &[Due]
         ensures { result.now ≡ self.now.noted }
     {
@@ -39,7 +39,7 @@ impl Experiment {
     }
 }
 
-// The sources of what differs between two lists, as both are gone through side by side.
+// Lists the sources of the dues that differ between two lists, which are traversed side by side.
 fn name_changed(old: &[Due], new: &[Due], sources: &mut Vec<Source>) -> Result<(), AllocError>
     ensures covers { OnOk result (Covers old.now new.now sources.new.items) }
     ensures no_other { OnOk result (NamesNoOther old.now new.now sources.new.items) }
@@ -64,7 +64,7 @@ fn name_changed(old: &[Due], new: &[Due], sources: &mut Vec<Source>) -> Result<(
     Ok(())
 }
 
-// Whether a place of a list is of a source.
+// Returns true if the due at a place of a list is that of a source.
 fn is_of(dues: &[Due], place: usize, source: Source) -> bool {
     match dues.get(place) {
         Some(due) => due.source == source,
@@ -72,8 +72,9 @@ fn is_of(dues: &[Due], place: usize, source: Source) -> bool {
     }
 }
 
-// Compares a due of one list with one of another, names what differs, and says where to go on. Where a due came
-// in between or went away, the other list waits at its place: so what follows is compared again.
+// Compares a due of one list with a due of the other, lists what differs, and returns the places at
+// which to continue. If a due was inserted or removed, the other list stays at its place, so that
+// what follows is compared again.
 fn compare(
     old: &[Due],
     new: &[Due],

@@ -17,14 +17,15 @@ use crate::{Event, Experiment};
 use emu_model::{Class, Due, Source};
 use packet_store::{Owner, Shelf};
 
-/// What every due lies below (ns).
+/// A time (ns) after every due.
 const PAST_ALL: u64 = 2_000_000_000_000_000;
 
 impl Experiment {
-    /// Makes the event that is due first, where that is below a moment (ns) and no command is the next one: just the
-    /// step that `event` would make, were the next command at that moment or later. `Ran` and `Ended` where the step was
-    /// made, `Still` where nothing is due below the moment or after the end, `Halted` for want of memory: the experiment
-    /// stands then as before, and ends so.
+    /// Makes the earliest event, if it is due before a time (ns); there must be no next command. It
+    /// is the same step that `event` would make if the next command were at that time or later.
+    /// Returns `Ran` or `Ended` if the step was made, `Still` if nothing is due before that time or
+    /// the experiment has ended, and `Halted` if memory runs out: the state is then as before the
+    /// step, and the experiment is over.
     #[inline(always)]
     pub fn event_before<S: Shelf>(&mut self, shelf: &mut S, owner: Owner, limit: u64) -> Event
         requires housed { IsHousedIn (S.pocket shelf.old owner) self.old }
@@ -72,7 +73,8 @@ impl Experiment {
         Event::Ran
     }
 
-    /// When the event is due (ns) that is due first, if there is one, whatever the next command is.
+    /// Returns the time (ns) of the earliest event that is due, if there is one, whatever the next
+    /// command is.
     pub fn next_moment(&self) -> Option<u64>
         ensures some { IfSome result (λ m. (p : Pocket) →
             m ≡ (least_due (2 * 10 ^ 15) (dues_of self.now.clock (net_of p self.now.net))).moment) }
@@ -90,7 +92,7 @@ impl Experiment {
         Some(due.moment)
     }
 
-    /// How many packets were made.
+    /// Returns the number of packets created.
     pub fn made_count(&self) -> u64
         ensures { (p : Pocket) → IsHousedIn p self.now → result ≡ (view p self.now).net.made }
     {

@@ -1,58 +1,62 @@
-//! Events that are made before the next command is known, each the contract of a function that does nothing.
+//! Laws about events that are made before the next command is known, each stated as the contract of
+//! a function that does nothing.
 
 ghost use Rattle.experiment.specs.Waits.{StepsBeforeWait, WaitsAgree, WaitsPassEvents, WaitsReadNoRecords, WaitsSettle, CommandsComeAlone, WaitsBegin, WaitsRise, CommandsGoOn};
 
 use emu_model::{later_commands_wait, records_are_not_read};
 
-/// What is due below a moment may happen before it is known which command comes then or later.
+/// Events that are due before a time may be made before it is known which command arrives then or
+/// later.
 pub fn steps_before_wait()
     ensures { StepsBeforeWait }
 {}
 
-/// Behind it, a command at that moment or later finds the experiment as running all commands alone has it.
+/// After such events, a command at that time or later finds the experiment in the state of running
+/// alone on all commands.
 pub fn commands_come_alone()
     ensures { CommandsComeAlone }
 {}
 
-/// Where no command is left, what runs alone waits for a command at any moment.
+/// If no command is left, an experiment that runs alone waits for a command at any time.
 pub fn waits_begin()
     ensures { WaitsBegin }
 {
     later_commands_wait();
 }
 
-/// What waits for a command at a moment or later waits for one at a later moment.
+/// An experiment that waits for a command at a time or later also waits for one at a later time.
 pub fn waits_rise()
     ensures { WaitsRise }
 {}
 
-/// Where nothing is due before a command, it is taken next: what stands then is what running alone has, and it waits for
-/// commands at its moment or later.
+/// If nothing is due before a command, the command is executed next: the state after it is that of
+/// running alone, and the experiment waits for commands at that time or later.
 pub fn commands_go_on()
     ensures { CommandsGoOn }
 {
     later_commands_wait();
 }
 
-/// What was recorded before, and may be forgotten, changes nothing of an event that is made before the next command is
-/// known.
+/// Earlier records, which may have been discarded, don't affect an event that is made before the
+/// next command is known.
 pub fn waits_read_no_records()
     ensures { WaitsReadNoRecords }
 {
     records_are_not_read();
 }
 
-/// Waits past the moment of the event that is due first make that event alike, however far they go.
+/// Two waits that extend past the time of the earliest event make the same event, however far they
+/// extend.
 pub fn waits_agree()
     ensures { WaitsAgree }
 {}
 
-/// An event that is made before the next command is known lies below the moment that is waited for.
+/// An event that is made before the next command is known is before the time that is waited for.
 pub fn waits_pass_events()
     ensures { WaitsPassEvents }
 {}
 
-/// Where no event is due first below a moment, none is due below it.
+/// If the earliest due is not an event before a time, no event is due before that time.
 pub fn waits_settle()
     ensures { WaitsSettle }
 {}

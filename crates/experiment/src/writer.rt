@@ -1,4 +1,4 @@
-//! The report of an experiment while it runs: its records become lines on the way, and are forgotten.
+//! The report of an experiment while it runs: its records are written as lines, and then discarded.
 
 ghost use Rattle.std.specs.Prelude.{◌≡◌, ℕ, ◌++◌, List, [], flat_map, IfOk, OnOk, OnErr};
 ghost use Rattle.emu_model.specs.declared.records.Record.{Record};
@@ -14,11 +14,12 @@ use report::{Moments, write_counters, write_heading, write_record, write_records
 use std::alloc::{AllocError, Global};
 use std::marker::Model;
 
-/// The lines so far, behind that of the name, and how many deliveries and drops, by cause, are among them.
+/// The lines so far, after the one with the name, and the numbers of deliveries and of drops by
+/// cause among them.
 #[derive(Drop)]
 pub struct ReportWriter {
     text: Vec<u8>,
-    // What the lines so far leave of their moments for the next one.
+    // The cache that the lines so far pass on to the next one.
     moments: Moments,
     counts: RecordCounts,
 }
@@ -36,7 +37,7 @@ impl Model for ReportWriter {
 }
 
 impl ReportWriter {
-    /// The line of an experiment's name.
+    /// Creates a report that has only the line with an experiment's name.
     pub fn new(alloc: Global, name: &[u8]) -> Result<Self, AllocError>
         ensures { IfOk result (HasWritten (heading_of name.now) []) }
     {
@@ -49,7 +50,8 @@ impl ReportWriter {
         })
     }
 
-    /// Writes what an experiment has recorded, which it forgets. `AllocError` where the lines have no room.
+    /// Writes the records of an experiment, and removes them from it. Fails with `AllocError` if
+    /// memory runs out.
     pub fn write(&mut self, experiment: &mut Experiment) -> Result<(), AllocError>
         requires { CanWrite self.old experiment.old }
         ensures text { OnOk result
@@ -77,7 +79,8 @@ impl ReportWriter {
         Ok(())
     }
 
-    /// Appends the line of a record, which isn't counted. `AllocError` where it has no room.
+    /// Appends the line of a record, without counting the record. Fails with `AllocError` if memory
+    /// runs out.
     pub fn put(&mut self, line: &Record) -> Result<(), AllocError>
         ensures ok { OnOk result
             (self.new ≡ record self.old { text = self.old.text ++ line_of line.now }) }
@@ -85,7 +88,7 @@ impl ReportWriter {
         write_record(&mut self.text, &mut self.moments, line)
     }
 
-    /// Counts what an experiment has recorded, which it forgets, and writes nothing.
+    /// Counts the records of an experiment, and removes them from it without writing them.
     pub fn count(&mut self, experiment: &mut Experiment)
         requires { CanWrite self.old experiment.old }
         ensures text { self.new.text ≡ self.old.text }
@@ -106,8 +109,8 @@ impl ReportWriter {
         self.counts.count(experiment);
     }
 
-    /// Appends the text so far, which is then empty; the counts stay. `AllocError` where it has no room there: the text
-    /// stays then.
+    /// Moves the text so far to the end of `out`; the counts stay. If allocation fails, nothing
+    /// changes.
     pub fn hand_out(&mut self, out: &mut Vec<u8>) -> Result<(), AllocError>
         ensures ok { OnOk result
             ((out.new.items ≡ out.old.items ++ self.old.text)
@@ -120,8 +123,8 @@ impl ReportWriter {
         Ok(())
     }
 
-    /// Appends the line of the counters, of which some are those of the experiment as it stands. `AllocError` leaves what
-    /// was written of it.
+    /// Appends the line of the counters: deliveries and drops as counted here, the rest from
+    /// `standing`. After `AllocError` a part of the line may have been written.
     pub fn write_counters(&mut self, standing: &Counters) -> Result<(), AllocError>
         ensures { OnOk result
             (self.new ≡ record self.old {

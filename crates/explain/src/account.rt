@@ -1,4 +1,5 @@
-//! What the records of reports say that is told: which commands were refused, and what else is counted.
+//! The facts in the records of reports that are explained: the commands that were refused, and what
+//! else is counted.
 
 ghost use Rattle.std.specs.Prelude.{◌≡◌, ◌++◌, [], flat_map, OnOk};
 ghost use Rattle.report.specs.Words.{code_of};
@@ -11,8 +12,8 @@ use report::{Archive, Source};
 use std::alloc::{AllocError, Global};
 use std::marker::Model;
 
-/// A command that was refused: the number of its experiment in the scenario, from 1, its own number there, from 0, and
-/// the code.
+/// A command that was refused: the number of its experiment in the scenario (from 1), its own
+/// number in the experiment (from 0), and the code.
 #[derive(Clone, Copy, Debug, PartialEq)]
 pub struct RefusedCommand {
     pub experiment: u64,
@@ -20,7 +21,7 @@ pub struct RefusedCommand {
     pub code: u64,
 }
 
-/// The refusals of reports, and what else was counted of them, in the order of the reports.
+/// The refusals in reports, and what else was counted, in the order of the reports.
 #[derive(Drop)]
 pub struct Account {
     alloc: Global,
@@ -42,7 +43,7 @@ fn code_of(why: Refusal) -> u64
     u64::from(why as u8)
 }
 
-// Adds the refusal that a record of the experiment with this number is, if it is one.
+// Adds the refusal if a record of the experiment with this number is one.
 fn add_refusal(
     refusals: &mut Vec<RefusedCommand>,
     experiment: u64,
@@ -67,7 +68,7 @@ fn add_refusal(
 }
 
 impl Account {
-    /// Of no report.
+    /// Creates the account of no reports.
     pub fn new(alloc: Global) -> Account
         ensures { result ≡ record { refusals = []; notes = [] } }
     {
@@ -78,22 +79,22 @@ impl Account {
         }
     }
 
-    /// The commands that were refused, in the order of the reports.
+    /// Returns the commands that were refused, in the order of the reports.
     pub fn refusals(&self) -> &[RefusedCommand]
         ensures { result.now ≡ self.now.refusals }
     {
         self.refusals.as_slice()
     }
 
-    /// What else was counted, report by report.
+    /// Returns what else was counted, report by report.
     pub fn notes(&self) -> &[Note]
         ensures { result.now ≡ self.now.notes }
     {
         self.notes.as_slice()
     }
 
-    /// Takes the records of the experiment with this number, from 1. `AllocError` leaves of its refusals the first ones,
-    /// and nothing else. Own.
+    /// Adds the records of the experiment with this number, from 1. `AllocError` leaves a prefix of
+    /// its refusals, and nothing else. Our choice.
     pub fn take(&mut self, experiment: u64, records: &Archive) -> Result<(), AllocError>
         ensures refusals { OnOk result (self.new.refusals
             ≡ self.old.refusals ++ flat_map (refusals_by experiment) records.now) }

@@ -1,4 +1,4 @@
-//! What there is to say of a fault.
+//! The explanation of a fault.
 
 ghost use Rattle.std.specs.Prelude.{◌≡◌, ℕ, List, Some, IfSome, option_map};
 ghost use Rattle.std.specs.List.{prefix_len};
@@ -19,10 +19,10 @@ ghost use Rattle.explain.specs.Past.{IsBefore, IsPastOf, line_for};
 use crate::past::{Earlier, Past, name_in, past_of};
 use crate::span::{Span, line_at, part, span_of_word};
 use control::{Cause, Check, Fault, blame};
-use explain_line::{byte_hint, hint, range_hint, expected_at};
+use explain_line::{byte_hint, expected_at, hint, range_hint};
 
-/// What is found in a line: where the first word at fault stands, what was expected there, an example, and what to
-/// write instead.
+/// The finding in a line: where the first faulty word is, what was expected there, an example, and
+/// what to write instead.
 #[derive(Clone, Copy)]
 pub struct Inside {
     pub place: Option<Span>,
@@ -31,8 +31,8 @@ pub struct Inside {
     pub hint: Option<&'static str>,
 }
 
-/// What there is to say of a fault: its line, if that has a byte; what is found in it; and a line before it, if the
-/// fault goes by one.
+/// The explanation of a fault: its line, if that has a byte, the finding in the line, and an
+/// earlier line, if the fault depends on one.
 #[derive(Clone, Copy)]
 pub struct Finding<'a> {
     pub line: Option<&'a [u8]>,
@@ -40,7 +40,7 @@ pub struct Finding<'a> {
     pub before: Option<Earlier<'a>>,
 }
 
-// Of the whole line.
+// Returns a finding about the whole line.
 fn inside_of_line(expected: &'static str, hint: Option<&'static str>) -> Inside
     ensures { result.place ≡ None }
 {
@@ -52,7 +52,7 @@ fn inside_of_line(expected: &'static str, hint: Option<&'static str>) -> Inside
     }
 }
 
-// Of the word with this number.
+// Returns a finding about the word with this number.
 fn at_word(
     line: &[u8],
     index: usize,
@@ -70,7 +70,7 @@ fn at_word(
     }
 }
 
-// A byte that isn't one of 32 to 126.
+// Returns the finding for a byte outside 32 to 126.
 fn bad_byte(line: &[u8]) -> Inside
     ensures within { IsWithin result.place line.now }
     ensures first { IfSome result.place (λ p. p.start ≡ prefix_len is_printable line.now) }
@@ -89,7 +89,7 @@ fn bad_byte(line: &[u8]) -> Inside
     inside_of_line(expected, None)
 }
 
-// A word without the form that is wanted, or a number outside its range.
+// Returns the finding for a word without the expected form, or for a number outside its range.
 fn bad_word(line: &[u8], check: Check) -> Inside
     ensures within { IsWithin result.place line.now }
     ensures word { MarksWord check result.place line.now }
@@ -116,7 +116,7 @@ fn bad_word(line: &[u8], check: Check) -> Inside
     }
 }
 
-// The last line has no line feed.
+// Returns the finding for a last line without a line feed.
 fn cut_off(line: &[u8]) -> Inside
     ensures { IsWithin result.place line.now }
 {
@@ -142,7 +142,7 @@ const AFTER_END: &str = "an experiment's line: the experiment before has its `en
 
 const BACKWARDS: &str = "a moment not below that of the command before it";
 
-// By the cause.
+// Returns the finding for a cause.
 fn in_line(line: &[u8], cause: Cause) -> Inside
     ensures within { IsWithin result.place line.now }
     ensures marks { Marks (marked_word cause) result.place line.now }
@@ -180,7 +180,7 @@ fn in_line(line: &[u8], cause: Cause) -> Inside
     }
 }
 
-// The line that the fault goes by.
+// Returns the earlier line that the fault depends on.
 fn earlier_line<'a>(past: &Past<'a>, cause: Cause) -> Option<Earlier<'a>>
     ensures before { (ls : List (List ℕ)) (n : ℕ) → IsPastOf ls n past.now → IsBefore ls n result }
     ensures which { result ≡ line_for cause past.now }
@@ -193,7 +193,7 @@ fn earlier_line<'a>(past: &Past<'a>, cause: Cause) -> Option<Earlier<'a>>
     }
 }
 
-// Whether a fault goes by the lines before.
+// Returns true if a fault depends on earlier lines.
 fn goes_by_past(cause: Cause) -> bool {
     match cause {
         Cause::NoEnd | Cause::SameName | Cause::AfterEnd | Cause::Backwards => true,
@@ -201,7 +201,7 @@ fn goes_by_past(cause: Cause) -> bool {
     }
 }
 
-// The line before that the fault of this line goes by.
+// Returns the earlier line that the fault of this line depends on.
 fn before<'a>(text: &'a [u8], line: &[u8], fault: &Fault) -> Option<Earlier<'a>>
     ensures { IsBefore (lines text.now) fault.now.line result }
 {
@@ -218,8 +218,9 @@ fn with_a_byte(line: &[u8]) -> Option<&[u8]>
     if line.is_empty() { None } else { Some(line) }
 }
 
-/// What there is to say of the fault of a text. It takes the fault's word for it, and takes no memory. One pass over
-/// the lines up to it, and one more where the fault goes by those before. Own.
+/// Returns the explanation of the fault of a text. Trusts that the text has this fault, and does
+/// not allocate. Makes one pass over the lines up to the fault, and a second one if the fault
+/// depends on earlier lines. Our choice.
 pub fn find<'a>(text: &'a [u8], fault: &Fault) -> Finding<'a>
     ensures line { option_map (λ l. l.now) result.line
         ≡ nonempty (nth_line fault.now.line (lines text.now)) }

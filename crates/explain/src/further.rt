@@ -1,4 +1,4 @@
-//! Faulty lines behind the first.
+//! Faulty lines after the first.
 
 ghost use Rattle.std.specs.Prelude.{◌≡◌, ◌≤◌, ◌++◌, IfOk, OnOk, vec_len};
 ghost use Rattle.control_words.specs.Text.{lines};
@@ -11,7 +11,7 @@ use control_lines::{LineEntry, LineFault, read_line};
 use control_words::first_line;
 use std::alloc::{AllocError, Global};
 
-/// So many faults are told behind the first at most.
+/// The maximum number of faults that are reported after the first.
 const MAX_BEHIND: usize = 9;
 
 fn put_text(out: &mut Vec<u8>, text: &str) -> Result<(), AllocError>
@@ -20,7 +20,7 @@ fn put_text(out: &mut Vec<u8>, text: &str) -> Result<(), AllocError>
     out.extend_from_slice(text.as_bytes())
 }
 
-// The cause of a fault that is a line's own.
+// Returns the cause for a fault of a single line.
 fn cause_alone(fault: LineFault) -> Cause
     ensures { result ≡ cause_alone fault }
 {
@@ -32,7 +32,8 @@ fn cause_alone(fault: LineFault) -> Cause
     }
 }
 
-// The last line, which has no line feed, if it stands behind the line with this number and has a byte.
+// Returns the fault of a last line without a line feed, if the line has a byte and follows the line
+// with number `after`.
 fn cut_behind(line: &[u8], before: u64, after: u64) -> Option<Fault>
     ensures { IsCut before after line.now result }
 {
@@ -46,7 +47,8 @@ fn cut_behind(line: &[u8], before: u64, after: u64) -> Option<Fault>
     })
 }
 
-// The fault of a text whose first line stands behind so many others, if it stands behind the line with this number.
+// Returns the fault of a text that follows `before` other lines, if the fault is after the line
+// with number `after`.
 fn fault_behind(
     alloc: Global,
     text: &[u8],
@@ -72,8 +74,9 @@ fn fault_behind(
     }))
 }
 
-/// The next faulty line behind one of this number: up to the next line that begins an experiment one that is faulty by
-/// itself, from there on the fault of what is left, read as a text of its own. Memory is wanted for reading it. Own.
+/// Returns the next faulty line after the one with this number. Up to the next line that begins an
+/// experiment, it is a line that is faulty by itself; from there on, it is the fault of the
+/// remaining text, parsed as a text of its own. Parsing allocates. Our choice.
 pub fn next_fault(alloc: Global, text: &[u8], after: u64) -> Result<Option<Fault>, AllocError>
     ensures { IfOk result (λ f. IsTold (lines text.now) after f) }
 {
@@ -101,7 +104,7 @@ pub fn next_fault(alloc: Global, text: &[u8], after: u64) -> Result<Option<Fault
     Ok(cut_behind(rest, before, after))
 }
 
-// The word of a cause, as `line L: CAUSE` has it.
+// Returns the word for a cause, as in `line L: CAUSE`.
 fn cause_word(cause: Cause) -> &'static str
     ensures { result.now ≡ cause_word cause }
 {
@@ -121,7 +124,7 @@ fn cause_word(cause: Cause) -> &'static str
     }
 }
 
-// The fault behind another, if that isn't of the whole text.
+// Returns the fault after another one, unless that is about the whole text.
 fn fault_after(alloc: Global, text: &[u8], fault: Fault) -> Result<Option<Fault>, AllocError>
     ensures { IfOk result (λ f. IsTold (lines text.now) fault.line f) }
 {
@@ -131,8 +134,8 @@ fn fault_after(alloc: Global, text: &[u8], fault: Fault) -> Result<Option<Fault>
     }
 }
 
-/// The faults behind the first of a text that are told: at most nine, each the next behind the one before
-/// (`next_fault`); none behind `toobig`. Own.
+/// Returns the faults after the first fault of a text that are reported: at most nine, each the
+/// next after the previous one (`next_fault`), and none after `toobig`. Our choice.
 pub fn faults_behind(alloc: Global, text: &[u8], first: &Fault) -> Result<Vec<Fault>, AllocError>
     ensures told { IfOk result (λ out. AreTold (lines text.now) first.now.line out.items) }
     ensures few { IfOk result (λ out. vec_len out ≤ 9) }
@@ -149,7 +152,8 @@ pub fn faults_behind(alloc: Global, text: &[u8], first: &Fault) -> Result<Vec<Fa
     Ok(out)
 }
 
-/// What is printed of a fault behind the first: its `line L: CAUSE`, and what is printed of the first behind that. Own.
+/// Returns the text for a fault after the first: its `line L: CAUSE`, and then the text as for the
+/// first fault. Our choice.
 pub fn show_found(alloc: Global, fault: &Fault, finding: &Finding) -> Result<Vec<u8>, AllocError>
     ensures { IfOk result (λ out. out.items ≡ found_text fault.now finding.now) }
 {

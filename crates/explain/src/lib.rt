@@ -1,5 +1,6 @@
-//! Why a text is no scenario, and why a command was refused, in words for its author: the line, a mark under
-//! the first word at fault, what was expected there, an example, and what stood before. Own.
+//! Explains to the author why a text is not a scenario and why a command was refused: the line, a
+//! mark under the first faulty word, what was expected there, an example, and the earlier line that
+//! matters. Our choice.
 #![tactic(auto)]
 
 mod account;

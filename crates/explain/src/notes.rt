@@ -1,4 +1,5 @@
-//! What reports say besides refused commands: steps used up, packets dropped by the rules and for the budget.
+//! The facts in reports other than refused commands: steps that were spent, and packets that the
+//! rules and the budget dropped.
 
 ghost use Rattle.std.specs.Prelude.{◌≡◌, ◌<◌, length, vec_len, position, slice_get, IfSome, OnOk};
 ghost use Rattle.explain.specs.Notes.{denied, dropped, is_same, more_at, noted, noted_if, noted_by};
@@ -6,16 +7,16 @@ ghost use Rattle.explain.specs.Notes.{denied, dropped, is_same, more_at, noted, 
 use emu_model::{DropCause, Load, Record};
 use std::alloc::AllocError;
 
-/// What is counted of an experiment.
+/// The kind of event that is counted for an experiment.
 #[derive(Clone, Copy, Debug, PartialEq)]
 pub enum Subject {
-    /// Its steps were used up.
+    /// Its steps were spent.
     Spent,
-    /// A packet was dropped for the budget.
+    /// A packet was dropped because of the budget.
     OverBudget,
-    /// A packet was dropped since its pipe wasn't there.
+    /// A packet was dropped because its pipe didn't exist.
     NoPipe,
-    /// A packet of a train or of a single command was denied.
+    /// A packet of a train or an `inject` was denied.
     DeniedPlain,
     /// A segment of this flow was denied.
     DeniedData(u64),
@@ -23,7 +24,8 @@ pub enum Subject {
     DeniedAck(u64),
 }
 
-/// How often something happened in the experiment with this number in the scenario, from 1, and when first (ns).
+/// The number of events of one kind in the experiment with this number in the scenario (from 1),
+/// and the time of the first (ns).
 #[derive(Clone, Copy, Debug, PartialEq)]
 pub struct Note {
     pub experiment: u64,
@@ -42,7 +44,7 @@ fn subject_of_denial(load: Load) -> Subject
     }
 }
 
-// What is counted of a drop.
+// Returns the kind of event that a drop counts as.
 fn subject_of_drop(cause: DropCause, load: Load) -> Option<Subject>
     ensures { result ≡ dropped cause load }
 {
@@ -68,7 +70,7 @@ fn is_same(one: Subject, other: Subject) -> bool
     }
 }
 
-// The place of what is counted already.
+// Returns the index of the note with this subject.
 fn place_of(notes: &[Note], subject: Subject) -> Option<usize>
     ensures value { result ≡ position (λ n. is_same subject n.subject) notes.now }
     ensures within { IfSome result (λ k. k < length notes.now) }
@@ -84,7 +86,7 @@ fn count_again(notes: &mut Vec<Note>, place: usize)
     notes[place].count = count;
 }
 
-// Counts something once more.
+// Counts an event once more.
 fn put_note(
     notes: &mut Vec<Note>,
     experiment: u64,
@@ -106,7 +108,7 @@ fn put_note(
     Ok(())
 }
 
-// Counts something once more, if there is something.
+// Counts an event once more, if there is one.
 fn put_if(
     notes: &mut Vec<Note>,
     experiment: u64,
@@ -121,7 +123,7 @@ fn put_if(
     }
 }
 
-/// Counts what a record of the experiment with this number says.
+/// Counts the event, if any, in a record of the experiment with this number.
 pub(crate) fn count_record(
     notes: &mut Vec<Note>,
     experiment: u64,

@@ -1,4 +1,4 @@
-//! What stood before a line.
+//! The context before a line.
 
 ghost use Rattle.std.specs.Prelude.{◌≡◌};
 ghost use Rattle.emu_model.specs.Commands.{is_end};
@@ -9,27 +9,27 @@ use control_lines::{LineEntry, read_line};
 use control_words::first_line;
 use emu_model::Command;
 
-/// A line that stood before, and its number, from 1.
+/// An earlier line, and its number, from 1.
 #[derive(Clone, Copy)]
 pub struct Earlier<'a> {
     pub number: u64,
     pub line: &'a [u8],
 }
 
-/// What the lines before one say, as far as its fault goes by them.
+/// The facts from the lines before a line that its fault can depend on.
 #[derive(Clone, Copy)]
 pub struct Past<'a> {
     /// The line of the experiment that began last.
     pub begun: Option<Earlier<'a>>,
-    /// Its last command.
+    /// The last command of that experiment.
     pub command: Option<Earlier<'a>>,
-    /// Whether that is an end.
+    /// True if that command is `end`.
     pub has_ended: bool,
-    /// The first experiment of the name that is looked for.
+    /// The first experiment with the given name.
     pub named: Option<Earlier<'a>>,
 }
 
-/// The name of the experiment that begins in a line.
+/// Returns the name of the experiment that begins in a line.
 pub fn name_in(line: &[u8]) -> Option<&[u8]> {
     match read_line(line) {
         Ok(LineEntry::Begins { name, .. }) => Some(name),
@@ -61,7 +61,8 @@ impl<'a> Past<'a> {
         }
     }
 
-    // The first experiment of the name that is looked for, where one of another name begins in a line.
+    // Returns the first experiment with the name `name`, given a line that begins an experiment
+    // with the name `other`.
     fn named_with(
         &self,
         earlier: Earlier<'a>,
@@ -77,7 +78,7 @@ impl<'a> Past<'a> {
         }
     }
 
-    // An experiment of another name begins in a line.
+    // Begins an experiment with the name `other`.
     fn begin(&mut self, earlier: Earlier<'a>, other: &[u8], name: Option<&[u8]>)
         ensures { self.new
             ≡ with_begin earlier.entry other.now (option_map (λ n. n.now) name.entry) self.old }
@@ -88,7 +89,7 @@ impl<'a> Past<'a> {
         self.has_ended = false;
     }
 
-    // A line is a command.
+    // Adds a command.
     fn add(&mut self, earlier: Earlier<'a>, command: &Command)
         ensures { self.new ≡ with_command earlier.entry command.now self.old }
     {
@@ -108,8 +109,8 @@ impl<'a> Past<'a> {
     }
 }
 
-/// What stands before the line with this number, from 1; the first experiment of that name besides. One pass over
-/// the lines before. Own.
+/// Returns the context before the line with this number (from 1), including the first experiment
+/// with that name. Makes one pass over the lines before. Our choice.
 pub fn past_of<'a>(text: &'a [u8], before: u64, name: Option<&[u8]>) -> Past<'a>
     ensures { IsPastOf (lines text.now) before result }
 {

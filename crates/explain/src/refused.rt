@@ -1,17 +1,18 @@
-//! Where in a scenario a refused command stands, and what its code means.
+//! The location of a refused command in a scenario, and the meaning of its code.
 
 use crate::account::RefusedCommand;
 use control_lines::{LineEntry, read_line};
 use control_words::first_line;
 
-/// What a code means, and what to do.
+/// The meaning of a code, and what to do.
 #[derive(Clone, Copy)]
 pub struct Meaning {
     pub text: &'static str,
     pub hint: &'static str,
 }
 
-/// A refused command: the number of its line, from 1, the line, the name of its experiment, the code and its meaning.
+/// A refused command: the number of its line (from 1), the line, the name of its experiment, the
+/// code and its meaning.
 #[derive(Clone, Copy)]
 pub struct Refused<'a> {
     pub number: u64,
@@ -21,7 +22,7 @@ pub struct Refused<'a> {
     pub meaning: Meaning,
 }
 
-/// A line of a scenario, its number, from 1, and the name of its experiment.
+/// A line of a scenario, its number (from 1), and the name of its experiment.
 #[derive(Clone, Copy)]
 pub struct Stand<'a> {
     pub number: u64,
@@ -96,7 +97,7 @@ const UNKNOWN: Meaning = Meaning {
     hint: "docs/reference/report.md lists the codes",
 };
 
-/// What a code of the report means. Own.
+/// Returns the meaning of a code in the report. Our choice.
 pub fn meaning_of(code: u64) -> Meaning {
     of_rules(code)
         .or(of_pipes(code))
@@ -104,16 +105,16 @@ pub fn meaning_of(code: u64) -> Meaning {
         .unwrap_or(UNKNOWN)
 }
 
-/// A scenario's text from some line on, and how many experiments and commands came before.
+/// The rest of a scenario's text, and the numbers of experiments and commands before it.
 #[derive(Clone, Copy)]
 pub struct Text<'a> {
     rest: &'a [u8],
     // The number of the next line.
     number: u64,
-    // How many experiments began, and the name of the last.
+    // The number of experiments that have begun, and the name of the last.
     experiments: u64,
     name: &'a [u8],
-    // How many commands it has so far.
+    // The number of commands of the last experiment so far.
     commands: u64,
 }
 
@@ -121,7 +122,7 @@ impl<'a> Text<'a> {
     ghost use Rattle.std.specs.Prelude.{◌≡◌};
     ghost use Rattle.explain.specs.Sought.{count_of, begun, passed, has_number};
 
-    /// All of a text.
+    /// Creates the state at the start of a text.
     pub fn new(text: &'a [u8]) -> Text<'a> {
         Text {
             rest: text,
@@ -132,7 +133,7 @@ impl<'a> Text<'a> {
         }
     }
 
-    // An experiment begins.
+    // Begins an experiment.
     fn begin(&mut self, name: &'a [u8])
         ensures { count_of self.new ≡ begun name.now (count_of self.old) }
     {
@@ -141,7 +142,7 @@ impl<'a> Text<'a> {
         self.commands = 0;
     }
 
-    // A command of it, of which it says whether it has the number that is wanted.
+    // Counts a command, and returns true if it has the given number.
     fn pass(&mut self, command: Option<u64>) -> bool
         ensures passed { count_of self.new ≡ passed (count_of self.old) }
         ensures value { result ≡ has_number (count_of self.old).commands command }
@@ -154,7 +155,8 @@ impl<'a> Text<'a> {
         }
     }
 
-    // Takes a line, and says whether it is the command with this number of that experiment, or its first line.
+    // Processes a line, and returns true if it is the command with this number of that experiment
+    // or, without a number, the experiment's first line.
     fn is_at(&mut self, line: &'a [u8], experiment: u64, command: Option<u64>) -> bool {
         match read_line(line) {
             Ok(LineEntry::Begins { name, .. }) => {
@@ -166,8 +168,9 @@ impl<'a> Text<'a> {
         }
     }
 
-    /// Goes on to a command, by the numbers of its experiment, from 1, and its own, from 0; without one to the
-    /// experiment's first line. `None` where it doesn't stand in what is left; then that experiment is passed. Own.
+    /// Advances to a command, given by the number of its experiment (from 1) and its own number
+    /// (from 0), or without the latter to the experiment's first line. Returns `None` if it isn't
+    /// in the rest of the text, which then begins after that experiment. Our choice.
     pub fn seek(&mut self, experiment: u64, command: Option<u64>) -> Option<Stand<'a>> {
         let mut rest = self.rest;
         while self.experiments <= experiment
@@ -188,8 +191,9 @@ impl<'a> Text<'a> {
         None
     }
 
-    /// Goes on to the command that was refused. `None` where it doesn't stand in what is left. The refusals of a report
-    /// come in the order of the text, so one pass finds them all. Own.
+    /// Advances to the command that was refused. Returns `None` if it isn't in the rest of the
+    /// text. The refusals in a report are in the order of the text, so one pass finds them all. Our
+    /// choice.
     pub fn find(&mut self, refusal: &RefusedCommand) -> Option<Refused<'a>> {
         let stand = self.seek(refusal.experiment, Some(refusal.command))?;
         Some(Refused {

@@ -1,4 +1,4 @@
-//! What is printed of a fault and of a refused command.
+//! The text for a fault and for a refused command.
 
 ghost use Rattle.std.specs.Prelude.{◌≡◌, ◌≤◌, ◌++◌, length, map, take, replicate, decimal, option_map, OnOk, IfOk};
 ghost use Rattle.explain.specs.Shown.{shown_byte, row, marks, marked_line, earlier_row, before_row, line_rows, optional_row, finding_text, refused_text};
@@ -10,12 +10,13 @@ use crate::span::Span;
 use itoa::Buffer as Digits;
 use std::alloc::{AllocError, Global};
 
-/// No line of a scenario is longer, so of a longer one only the beginning is shown.
+/// The maximum length of a line that is shown whole, which is that of a scenario; a longer line is
+/// cut to its beginning.
 const LONGEST: usize = 512;
 
 const BEGINNING: usize = 64;
 
-// Bytes as they are printed: those that aren't printable ASCII as `?`.
+// Appends bytes, with `?` for those that aren't printable ASCII.
 fn put_plain(out: &mut Vec<u8>, bytes: &[u8]) -> Result<(), AllocError>
     ensures { OnOk result (out.new.items ≡ out.old.items ++ map shown_byte bytes.now) }
 {
@@ -46,8 +47,8 @@ fn beginning(text: &[u8]) -> &[u8]
     text.split_at(BEGINNING).0
 }
 
-/// A label, bytes of a text as they are printed, and a line feed: bytes outside 32 to 126 as `?`, and of more than 512 the
-/// first 64.
+/// Appends a label, the bytes of a text and a line feed. Bytes outside 32 to 126 become `?`, and a
+/// text of more than 512 bytes is cut to the first 64.
 pub fn put_row(out: &mut Vec<u8>, label: &str, text: &[u8]) -> Result<(), AllocError>
     ensures { OnOk result (out.new.items ≡ out.old.items ++ row label.now text.now) }
 {
@@ -62,7 +63,7 @@ pub fn put_row(out: &mut Vec<u8>, label: &str, text: &[u8]) -> Result<(), AllocE
     Ok(())
 }
 
-// The marks under a part of a line.
+// Appends the marks under a part of a line.
 fn put_marks(out: &mut Vec<u8>, place: Span) -> Result<(), AllocError>
     ensures { OnOk result (out.new.items ≡ out.old.items ++ marks place) }
 {
@@ -73,7 +74,7 @@ fn put_marks(out: &mut Vec<u8>, place: Span) -> Result<(), AllocError>
     Ok(())
 }
 
-// The line, and marks beneath it.
+// Appends the line, and marks beneath it.
 fn put_line(out: &mut Vec<u8>, line: &[u8], place: Option<Span>) -> Result<(), AllocError>
     ensures { OnOk result (out.new.items ≡ out.old.items ++ marked_line line.now place) }
 {
@@ -84,7 +85,7 @@ fn put_line(out: &mut Vec<u8>, line: &[u8], place: Option<Span>) -> Result<(), A
     }
 }
 
-// The line, if there is one, and marks beneath it.
+// Appends the line, if there is one, and marks beneath it.
 fn put_lines(out: &mut Vec<u8>, line: Option<&[u8]>, place: Option<Span>) -> Result<(), AllocError>
     ensures { OnOk result
         (out.new.items ≡ out.old.items ++ line_rows (option_map (λ l. l.now) line.entry) place) }
@@ -106,7 +107,7 @@ fn put_optional(out: &mut Vec<u8>, label: &str, text: Option<&str>) -> Result<()
     }
 }
 
-/// A number in digits.
+/// Appends a number in decimal digits.
 pub fn put_number(out: &mut Vec<u8>, number: u64) -> Result<(), AllocError>
     ensures { OnOk result (out.new.items ≡ out.old.items ++ decimal number) }
 {
@@ -114,7 +115,7 @@ pub fn put_number(out: &mut Vec<u8>, number: u64) -> Result<(), AllocError>
     out.extend_from_slice(digits.format(number).as_bytes())
 }
 
-// A line before, and its number.
+// Appends an earlier line and its number.
 fn put_earlier(out: &mut Vec<u8>, earlier: Earlier) -> Result<(), AllocError>
     ensures { OnOk result (out.new.items ≡ out.old.items ++ earlier_row earlier.entry) }
 {
@@ -133,9 +134,10 @@ fn put_before(out: &mut Vec<u8>, before: Option<Earlier>) -> Result<(), AllocErr
     }
 }
 
-/// What is printed of a fault behind its `line L: CAUSE`: the line, marks under the first word at fault, what was
-/// expected, an example, what to write instead, and the line before that it goes by. ASCII, each row with two spaces
-/// in front and a line feed behind. Own.
+/// Returns the text for a fault that follows its `line L: CAUSE`: the line, marks under the first
+/// faulty word, what was expected, an example, what to write instead, and the earlier line that it
+/// depends on. The text is ASCII; each row begins with two spaces and ends with a line feed. Our
+/// choice.
 pub fn show_finding(alloc: Global, finding: &Finding) -> Result<Vec<u8>, AllocError>
     ensures { IfOk result
         (λ out. out.items
@@ -154,8 +156,8 @@ pub fn show_finding(alloc: Global, finding: &Finding) -> Result<Vec<u8>, AllocEr
     Ok(out)
 }
 
-/// What is printed of a refused command: `line L: refused CODE`, the line, its experiment, what the code means and
-/// what to do. Own.
+/// Returns the text for a refused command: `line L: refused CODE`, the line, its experiment, what
+/// the code means and what to do. Our choice.
 pub fn show_refused(alloc: Global, refused: &Refused) -> Result<Vec<u8>, AllocError>
     ensures { IfOk result (λ out. out.items ≡ refused_text refused.now) }
 {

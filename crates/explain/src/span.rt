@@ -1,4 +1,4 @@
-//! Lines of a text, and places in a line.
+//! Lines of a text, and parts of a line.
 
 ghost use Rattle.std.specs.Prelude.{◌≡◌, ◌+◌, ◌≤◌, ◌==◌, length, take, drop, option_map};
 ghost use Rattle.std.specs.List.{prefix_len, position_or_len};
@@ -7,15 +7,15 @@ ghost use Rattle.explain.specs.Lines.{nth_line, IsFirstAt, IsPastWord};
 
 use control_words::first_line;
 
-/// A part of a line: where it begins, in bytes from 0, and how many it has.
+/// A part of a line: its start in bytes, from 0, and its width in bytes.
 #[derive(Clone, Copy, Debug, PartialEq)]
 pub struct Span {
     pub start: usize,
     pub width: usize,
 }
 
-/// The line with this number, counted from 1, without its line feed; what follows the last line feed is a
-/// line too. `None` where there is none. Own.
+/// Returns the line with this number (from 1), without its line feed. The bytes after the last line
+/// feed are a line too. Returns `None` if there is no such line. Our choice.
 pub fn line_at(text: &[u8], number: u64) -> Option<&[u8]>
     ensures { option_map (λ l. l.now) result ≡ nth_line number (lines text.now) }
 {
@@ -38,7 +38,7 @@ fn tail(line: &[u8], from: usize) -> &[u8]
     line.split_at(from).1
 }
 
-// How many spaces stand in front.
+// Returns the number of leading spaces.
 fn leading_spaces(bytes: &[u8]) -> usize
     ensures value { result ≡ prefix_len (λ b. b == 32) bytes.now }
     ensures within { result ≤ length bytes.now }
@@ -53,7 +53,7 @@ fn leading_spaces(bytes: &[u8]) -> usize
     count
 }
 
-// Where the first space is, or the end.
+// Returns the position of the first space, or the length if there is none.
 fn word_end(bytes: &[u8]) -> usize
     ensures value { result ≡ position_or_len (λ b. b == 32) bytes.now }
     ensures within { result ≤ length bytes.now }
@@ -68,7 +68,7 @@ fn word_end(bytes: &[u8]) -> usize
     count
 }
 
-// Behind the word that begins here, and the spaces behind it.
+// Returns the position after the word that begins here and after the spaces that follow it.
 fn past_word(line: &[u8], start: usize) -> usize
     requires { start ≤ length line.now }
     ensures { IsPastWord line.now start result }
@@ -77,8 +77,8 @@ fn past_word(line: &[u8], start: usize) -> usize
     end + leading_spaces(tail(line, end))
 }
 
-/// Where the word with this number stands, counted from 0; behind the line's last byte, without width, where
-/// there are fewer words. Own.
+/// Returns the position of the word with this number, from 0. If there are fewer words, the span is
+/// after the line's last byte and has no width. Our choice.
 pub fn span_of_word(line: &[u8], index: usize) -> Span
     ensures within { result.start + result.width ≤ length line.now }
     ensures word { IsFirstAt (drop index (words line.now)) line.now result }
@@ -94,7 +94,7 @@ pub fn span_of_word(line: &[u8], index: usize) -> Span
     }
 }
 
-/// The bytes of a place. Own.
+/// Returns the bytes of a span. Our choice.
 pub fn part(line: &[u8], place: Span) -> &[u8]
     requires { place.start + place.width ≤ length line.now }
     ensures { result.now ≡ take place.width (drop place.start line.now) }

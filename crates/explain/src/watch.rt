@@ -1,4 +1,5 @@
-//! What records say of each flow: what its sender has heard, and for how long its window held it back.
+//! The facts in the records about each flow: what its sender has received, and for how long its
+//! window limited it.
 
 ghost use Rattle.std.specs.Prelude.{◌≡◌, ◌==◌, ℕ, ◌<◌, ◌≤◌, Some, None, IfOk, OnOk, if◌then◌else◌, length, slice_get, slice_index_or, option_map};
 ghost use Rattle.emu_model.specs.Reno.{initial_window};
@@ -8,24 +9,25 @@ use emu_model::{Command, FlowNumber, FlowSpec, Load, Record, Timed};
 use report::{Archive, Source};
 use std::alloc::{AllocError, Global};
 
-/// A flow of an experiment: the number of its command, from 0, what that says of segments and of the receiver's window, and
-/// what the records say of it.
+/// A flow of an experiment: the number of its command (from 0), the command's values for the
+/// segments and the receiver's window, and what the records show of the flow.
 #[derive(Clone, Copy, Debug, PartialEq)]
 pub struct Watch {
     pub command: u64,
     pub smss: u64,
     pub segments: u64,
     pub window: u64,
-    /// When it began, and when its sender last heard an acknowledgement or its timer (ns).
+    /// The times (ns) at which the flow began, and at which its sender last received an
+    /// acknowledgement or its timer expired.
     pub begin: u64,
     pub last: u64,
-    /// Whether cwnd has let more segments out than the receiver's window since then.
+    /// True if cwnd has allowed more segments than the receiver's window since then.
     pub is_held: bool,
     /// How long that was so before (ns).
     pub held: u64,
-    /// The bytes that are acknowledged.
+    /// The number of bytes that are acknowledged.
     pub acked: u64,
-    /// Whether a command has stopped it.
+    /// True if a command has stopped the flow.
     pub is_stopped: bool,
 }
 
@@ -55,7 +57,7 @@ fn new_watch(command: u64, moment: u64, flow: &FlowSpec) -> Watch
     }
 }
 
-// Whether the window, and not cwnd, says how many whole segments go out.
+// Returns true if the window, and not cwnd, limits the number of whole segments.
 fn is_held(window: u64, smss: u64, cwnd: u64) -> bool
     ensures { result ≡ is_held window smss cwnd }
 {
@@ -66,7 +68,8 @@ fn is_held(window: u64, smss: u64, cwnd: u64) -> bool
 }
 
 impl Watch {
-    // Its sender has heard something at a moment, and has this cwnd from then on.
+    // Returns the flow after its sender received something at a time, and has this cwnd from then
+    // on.
     fn timed(&self, moment: u64, cwnd: u64) -> Watch
         ensures { result ≡ timed moment cwnd self.now }
     {
@@ -83,7 +86,7 @@ impl Watch {
         }
     }
 
-    // An acknowledgement of all bytes below `upto` has come back.
+    // Returns the flow after an acknowledgement of all bytes below `upto` has arrived.
     fn heard(&self, upto: u64) -> Watch
         ensures { result ≡ heard upto self.now }
     {
@@ -103,7 +106,7 @@ impl Watch {
     }
 }
 
-// What is known of the flow with this number.
+// Returns the entry for the flow with this number.
 fn entry_at(watches: &[Option<Watch>], number: u16) -> Option<Watch>
     ensures { result ≡ slice_index_or watches.now number None }
 {
@@ -113,7 +116,7 @@ fn entry_at(watches: &[Option<Watch>], number: u16) -> Option<Watch>
     }
 }
 
-// Makes an entry for a number and for all below it.
+// Adds entries up to and including this number.
 fn make_room(watches: &mut Vec<Option<Watch>>, number: u16) -> Result<(), AllocError>
     ensures same { (n : ℕ) → slice_index_or watches.new.items n None
         ≡ slice_index_or watches.old.items n None }
@@ -126,7 +129,7 @@ fn make_room(watches: &mut Vec<Option<Watch>>, number: u16) -> Result<(), AllocE
     watches.resize(entries, None)
 }
 
-// A flow begins, and what was known of its number is forgotten.
+// Sets the entry for a new flow, and discards that of an earlier flow with its number.
 fn put_begin(watches: &mut Vec<Option<Watch>>, number: u16, watch: Watch) -> Result<(), AllocError>
     ensures { OnOk result ((n : ℕ) → slice_index_or watches.new.items n None
         ≡ (if number == n then Some watch else slice_index_or watches.old.items n None)) }
@@ -136,7 +139,7 @@ fn put_begin(watches: &mut Vec<Option<Watch>>, number: u16, watch: Watch) -> Res
     Ok(())
 }
 
-// Puts another entry in the place of the one of a flow that is known.
+// Replaces the entry for a flow, if there is one.
 fn put_known(watches: &mut Vec<Option<Watch>>, number: u16, watch: Watch)
     ensures { (n : ℕ) → slice_index_or watches.new.items n None
         ≡ (if number == n then option_map (λ _. watch) (slice_index_or watches.old.items n None)
@@ -174,7 +177,7 @@ fn put_stop(watches: &mut Vec<Option<Watch>>, flow: FlowNumber)
     }
 }
 
-// This command, whose number is counted from 0, was done.
+// Updates the entries for a command that was done. Its number is counted from 0.
 fn put_done(
     watches: &mut Vec<Option<Watch>>,
     moment: u64,
@@ -197,7 +200,7 @@ fn put_done(
     }
 }
 
-// The command with this number was done.
+// Updates the entries for the command with this number, which was done.
 fn put_command(
     watches: &mut Vec<Option<Watch>>,
     commands: &[Timed],
@@ -247,8 +250,8 @@ fn put_record(
     Ok(())
 }
 
-/// Returns what the records of an experiment with these commands say of each flow, by its number. One pass, and 5 MB at
-/// most. Own.
+/// Returns what the records of an experiment with these commands show about each flow, indexed by
+/// its number. Makes one pass, and allocates at most 5 MB. Our choice.
 pub fn watch_flows(
     alloc: Global,
     commands: &[Timed],

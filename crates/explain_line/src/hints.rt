@@ -1,8 +1,8 @@
-//! What people write where something else is wanted, and what to write instead.
+//! Hints for words that people write in place of others.
 
 use crate::slips::{
     ACTIONS, FIRSTS, FOR_NUMBERS, FOR_STEPS, LINK, MOMENT, OPTIONS, OWN_ACTIONS, OWN_FIRSTS,
-    OWN_FLOW_OPTIONS, OWN_OPTIONS, OWN_SEEDS, OWN_VERBS, VERBS, hint_for, said_of,
+    OWN_FLOW_OPTIONS, OWN_OPTIONS, OWN_SEEDS, OWN_VERBS, VERBS, hint_for, hint_for_typo,
 };
 use control::{
     Expected, FlowWord, Form, Keyword, PipeWord, RuleWord, TrainWord, stood_before, value_at,
@@ -28,7 +28,7 @@ fn has_letter(word: &[u8]) -> bool {
     word.iter().any(|b| b.is_ascii_alphabetic())
 }
 
-fn has_zero_in_front(word: &[u8]) -> bool {
+fn has_leading_zero(word: &[u8]) -> bool {
     match word {
         [b'0', second, ..] => second.is_ascii_digit(),
         _ => false,
@@ -42,7 +42,7 @@ fn is_base_16(word: &[u8]) -> bool {
     }
 }
 
-// Whether something stands between a number's digits, as in 1_000 and 1'000.
+// Returns true if a number has a separator between its digits, as in 1_000 and 1'000.
 fn is_grouped(word: &[u8]) -> bool {
     begins_with_digit(word) && (has(word, b'_') || has(word, b'\''))
 }
@@ -55,12 +55,12 @@ fn ends_with(word: &[u8], unit: &str) -> bool {
     word.ends_with(unit.as_bytes())
 }
 
-/// No number has more digits.
-const MOST_DIGITS: usize = 20;
+/// The maximum number of digits in a number.
+const MAX_DIGITS: usize = 20;
 
 fn has_too_many_digits(word: &[u8]) -> bool {
     let digits = word.iter().take_while(|b| b.is_ascii_digit()).count();
-    digits > MOST_DIGITS
+    digits > MAX_DIGITS
 }
 
 const ZERO: &str = "a number doesn't begin with 0: 007 is 7";
@@ -90,7 +90,7 @@ const TEMPLATE: &str = "this is a template: tools/sweep fills in its settings";
 
 const BOUNDS: &str = "bounds aren't part of a scenario: tools/expect judges a report by them";
 
-// What is wrong with any number, whatever its unit is.
+// Returns the hint for a mistake that any number can have, whatever its unit is.
 fn digits_hint(word: &[u8]) -> Option<&'static str> {
     if has_sign(word) {
         Some(SIGN)
@@ -100,7 +100,7 @@ fn digits_hint(word: &[u8]) -> Option<&'static str> {
         Some(COMMA)
     } else if is_grouped(word) {
         Some(BETWEEN)
-    } else if has_zero_in_front(word) {
+    } else if has_leading_zero(word) {
         Some(ZERO)
     } else {
         None
@@ -108,8 +108,8 @@ fn digits_hint(word: &[u8]) -> Option<&'static str> {
 }
 
 fn number_hint(word: &[u8]) -> Option<&'static str> {
-    if said_of(&FOR_NUMBERS, word).is_some() {
-        said_of(&FOR_NUMBERS, word)
+    if hint_for(&FOR_NUMBERS, word).is_some() {
+        hint_for(&FOR_NUMBERS, word)
     } else if has_sign(word) {
         Some(SIGN)
     } else if addresses::address(word).is_some() {
@@ -126,7 +126,7 @@ fn number_hint(word: &[u8]) -> Option<&'static str> {
         Some("digits alone: neither a unit nor an exponent stands here")
     } else if has_letter(word) {
         Some("a number stands here, not a word")
-    } else if has_zero_in_front(word) {
+    } else if has_leading_zero(word) {
         Some(ZERO)
     } else if has_too_many_digits(word) {
         Some(TOO_MANY_DIGITS)
@@ -142,12 +142,12 @@ fn is_foreign_comment(word: &[u8]) -> bool {
     }
 }
 
-// Whether a word is of a programming language, or of JSON.
+// Returns true if a word is from a programming language, or from JSON.
 fn is_code(word: &[u8]) -> bool {
     has(word, b'(') || has(word, b'{') || has(word, b'}') || has(word, b'"')
 }
 
-// Whether a word opens a place that a template of Jinja leaves open.
+// Returns true if a word opens a placeholder or a tag of a Jinja template.
 fn is_of_a_template(word: &[u8]) -> bool {
     match word {
         [b'{', b'{' | b'%', ..] => true,
@@ -155,18 +155,18 @@ fn is_of_a_template(word: &[u8]) -> bool {
     }
 }
 
-// Whether a word is written as the experiment and the row of a bound.
+// Returns true if a word has the form of the experiment and the row of a bound.
 fn is_of_bounds(word: &[u8]) -> bool {
     has(word, b'/') && word.first().is_some_and(|b| b.is_ascii_lowercase())
 }
 
-// Whether a word of more than a unit's two letters directly follows digits.
+// Returns true if digits are directly followed by a word longer than the two letters of a unit.
 fn is_run_together(word: &[u8]) -> bool {
     let letters = word.iter().filter(|b| b.is_ascii_lowercase()).count();
     begins_with_digit(word) && letters > 2
 }
 
-// Whether a line begins as one for the shell.
+// Returns true if a line begins like a shell command.
 fn is_of_ipfw(word: &[u8]) -> bool {
     is(word, "ipfw") || is(word, "/sbin/ipfw") || is(word, "sudo") || word.first() == Some(&b'$')
 }
@@ -190,8 +190,8 @@ fn moment_hint(word: &[u8]) -> Option<&'static str> {
             }
         }
         _ => {
-            if said_of(&FIRSTS, word).is_some() {
-                said_of(&FIRSTS, word)
+            if hint_for(&FIRSTS, word).is_some() {
+                hint_for(&FIRSTS, word)
             } else if word.first() == Some(&b'`') {
                 Some("Markdown's ``` isn't part of a scenario: copy the lines between")
             } else if word.starts_with(b"mm-") {
@@ -209,7 +209,7 @@ fn moment_hint(word: &[u8]) -> Option<&'static str> {
             } else if has_capital(word) {
                 Some(LOWER)
             } else {
-                hint_for(&OWN_FIRSTS, word).or(Some(
+                hint_for_typo(&OWN_FIRSTS, word).or(Some(
                     "a command has its moment in front of it: @0 pipe 1 config bw 10Mbit/s",
                 ))
             }
@@ -217,7 +217,7 @@ fn moment_hint(word: &[u8]) -> Option<&'static str> {
     }
 }
 
-// Whether a rate is written with an exponent, as 1e6.
+// Returns true if a rate is written with an exponent, as in 1e6.
 fn has_exponent(word: &[u8]) -> bool {
     begins_with_digit(word) && has(word, b'e') && !has(word, b'/')
 }
@@ -236,7 +236,7 @@ fn rate_unit_hint(word: &[u8]) -> &'static str {
     }
 }
 
-// Whether an option's name stands where the value of the one before is wanted.
+// Returns true if the word in the place of an option's value is the name of an option.
 fn is_option(word: &[u8]) -> bool {
     OWN_OPTIONS.iter().any(|says| is(word, says.0))
 }
@@ -377,10 +377,10 @@ fn match_hint(word: &[u8]) -> Option<&'static str> {
     }
 }
 
-// A zero in front of one of an address's numbers, as in 010.0.0.1.
+// Returns true if one of an address's numbers has a leading zero, as in 010.0.0.1.
 fn has_zero_in_a_part(word: &[u8]) -> bool {
     word.split(|b| *b == b'.')
-        .any(|part| has_zero_in_front(part))
+        .any(|part| has_leading_zero(part))
 }
 
 fn prefix_hint(word: &[u8]) -> Option<&'static str> {
@@ -415,7 +415,7 @@ fn colons(word: &[u8]) -> usize {
     word.iter().filter(|b| **b == b':').count()
 }
 
-// How many points a word has.
+// Returns the number of points in a word.
 fn points(word: &[u8]) -> usize {
     word.iter().filter(|b| **b == b'.').count()
 }
@@ -441,7 +441,7 @@ fn address_hint(word: &[u8]) -> Option<&'static str> {
 const NO_INTERFACE: &str =
     "a packet passes the rules once, and comes over no interface: choose it by its addresses";
 
-// Whether a word begins what ipfw says of interfaces and directions.
+// Returns true if a word begins an ipfw option about interfaces or directions.
 fn is_of_an_interface(word: &[u8]) -> bool {
     is(word, "in") || is(word, "out") || is(word, "via") || is(word, "recv") || is(word, "xmit")
 }
@@ -488,11 +488,11 @@ fn verb_hint(word: &[u8]) -> Option<&'static str> {
     if word.first() == Some(&b'$') {
         return Some("leave `ipfw` out: @0 pipe 1 config bw 10Mbit/s");
     }
-    said_of(&VERBS, word).or(hint_for(&OWN_VERBS, word))
+    hint_for(&VERBS, word).or(hint_for_typo(&OWN_VERBS, word))
 }
 
 fn action_hint(word: &[u8]) -> Option<&'static str> {
-    said_of(&ACTIONS, word).or(hint_for(&OWN_ACTIONS, word))
+    hint_for(&ACTIONS, word).or(hint_for_typo(&OWN_ACTIONS, word))
 }
 
 fn is_unit(word: &[u8]) -> bool {
@@ -519,7 +519,7 @@ fn option_hint(word: &[u8]) -> Option<&'static str> {
     } else if begins_with_digit(word) {
         Some("an option is a word and one value: bw 10Mbit/s delay 20; there is no jitter")
     } else {
-        said_of(&OPTIONS, word).or(hint_for(&OWN_OPTIONS, word))
+        hint_for(&OPTIONS, word).or(hint_for_typo(&OWN_OPTIONS, word))
     }
 }
 
@@ -539,11 +539,11 @@ fn flow_option_hint(word: &[u8]) -> Option<&'static str> {
     } else if is(word, "ms") || is(word, "s") {
         Some("`rto` is in milliseconds without a unit: rto 200")
     } else {
-        hint_for(&OWN_FLOW_OPTIONS, word)
+        hint_for_typo(&OWN_FLOW_OPTIONS, word)
     }
 }
 
-// What stands behind the end of a line.
+// Returns the hint for a word after the end of a line.
 fn end_hint(word: &[u8]) -> Option<&'static str> {
     if is(word, ";") {
         Some(NO_SEMICOLON)
@@ -568,7 +568,7 @@ fn end_hint(word: &[u8]) -> Option<&'static str> {
     }
 }
 
-// One of several words is expected, or the end of the line.
+// Returns the hint where one of several words, or the end of the line, is expected.
 fn choice_hint(expected: Expected, word: &[u8]) -> Option<&'static str> {
     if stood_before(expected, word) {
         return None;
@@ -587,7 +587,7 @@ fn choice_hint(expected: Expected, word: &[u8]) -> Option<&'static str> {
     own.or(has_capital(word).then_some(LOWER))
 }
 
-// Where the word `config` is wanted, behind a pipe's number.
+// Returns the hint where the word `config` is expected, after a pipe's number.
 fn config_hint(word: &[u8]) -> Option<&'static str> {
     if is(word, "show") {
         Some("all pipes are listed at once: pipe show")
@@ -608,17 +608,17 @@ fn seed_hint(word: &[u8]) -> Option<&'static str> {
     } else if has_capital(word) {
         Some(LOWER)
     } else {
-        hint_for(&OWN_SEEDS, word).or(Some(
+        hint_for_typo(&OWN_SEEDS, word).or(Some(
             "a name has no space in it, and `seed` follows: experiment drop-tail seed 1 budget 1000",
         ))
     }
 }
 
-// What is said of a word in the place of a keyword, by that keyword alone.
+// Returns the hint for a word in the place of a keyword that is specific to that keyword.
 fn own_hint(wanted: Keyword, word: &[u8]) -> Option<&'static str> {
     match wanted {
         Keyword::Seed => seed_hint(word),
-        Keyword::Steps => said_of(&FOR_STEPS, word),
+        Keyword::Steps => hint_for(&FOR_STEPS, word),
         Keyword::From if is(word, "to") => {
             Some("the source stands before the destination: ip from any to any")
         }
@@ -646,7 +646,7 @@ fn word_hint(wanted: Keyword, word: &[u8]) -> Option<&'static str> {
     own.or(has_capital(word).then_some(LOWER))
 }
 
-// By the form that is wanted.
+// Returns the hint for the expected form.
 fn form_hint(form: Form, word: &[u8]) -> Option<&'static str> {
     match form {
         Form::Word(wanted) => word_hint(wanted, word),
@@ -668,7 +668,7 @@ fn form_hint(form: Form, word: &[u8]) -> Option<&'static str> {
     }
 }
 
-// What is said of a train's gap with a unit.
+// Returns the hint for a train's gap with a unit.
 fn gap_hint(expected: Expected, word: &[u8]) -> Option<&'static str> {
     let is_with_a_unit = begins_with_digit(word) && has_letter(word) && !is_base_16(word);
     match expected {
@@ -679,7 +679,8 @@ fn gap_hint(expected: Expected, word: &[u8]) -> Option<&'static str> {
     }
 }
 
-/// What to write in place of a word that hasn't the form that is wanted, where something is known of it. Own.
+/// Returns what to write in place of a word that doesn't have the expected form, if there is a hint
+/// for it. Our choice.
 pub fn hint(expected: Expected, word: &[u8]) -> Option<&'static str> {
     if word.first() == Some(&b'#') {
         return Some("a comment has a line of its own");
@@ -696,7 +697,8 @@ pub fn hint(expected: Expected, word: &[u8]) -> Option<&'static str> {
     }
 }
 
-/// What to say of a number outside its range, where there is more to say than the range. Own.
+/// Returns the hint for a number outside its range, if there is more to say than the range. Our
+/// choice.
 pub fn range_hint(expected: Expected, word: &[u8]) -> Option<&'static str> {
     match value_at(expected)?.form {
         Form::Ports => ports_hint(word),
@@ -722,7 +724,8 @@ const BYTE_ORDER_MARK: &str = "the file begins with a byte order mark: save it w
 const NO_ASCII: &str =
     "it isn't ASCII: perhaps a typographic quote or dash, a no-break space, or a byte order mark";
 
-// What a character is that people paste or type, by the bytes of UTF-8 that begin with it.
+// Returns the hint for a character that people paste or type, given the UTF-8 bytes that begin with
+// it.
 fn character_hint(bytes: &[u8]) -> &'static str {
     match bytes {
         [0xef, 0xbb, 0xbf, ..] => BYTE_ORDER_MARK,
@@ -745,7 +748,8 @@ fn character_hint(bytes: &[u8]) -> &'static str {
     }
 }
 
-/// What to say of a byte that isn't one of 32 to 126, by what stands from it on in its line. Own.
+/// Returns the hint for a byte outside 32 to 126, given the rest of its line from that byte on. Our
+/// choice.
 pub fn byte_hint(bytes: &[u8]) -> &'static str {
     match bytes {
         [b'\t', ..] => "it is a tab: put spaces between words",

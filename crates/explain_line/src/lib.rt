@@ -1,4 +1,5 @@
-//! What is wanted in the place of a word at fault, and what to write instead. Own.
+//! The words that are expected in the place of a faulty word, and what to write instead. Our
+//! choice.
 #![tactic(auto)]
 
 mod hints;

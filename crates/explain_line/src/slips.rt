@@ -1,8 +1,8 @@
-//! Words of other programs, and slips of the finger: what to write in their place. Own, in the words of ipfw(8).
+//! Hints for words of other programs and for typing errors. Our choice, in the terms of ipfw(8).
 
 use control_words::is;
 
-/// A word that people write, and what is said of it.
+/// A word that people write, and the hint for it.
 pub type Says = (&'static str, &'static str);
 
 const EMPTY: &str = "a scenario begins with no rules and no pipes: leave this line out";
@@ -18,7 +18,7 @@ const ORDER: &str = "the action stands before the protocol: add 100 pipe 1 ip fr
 
 const NO_OPTION: &str = "this option of dummynet isn't here: leave it out";
 
-/// What stands for a link of other programs.
+/// The hint for a link of other programs.
 pub const LINK: &str =
     "a link is a pipe, and a rule hands packets to it: @0 pipe 1 config bw 10Mbit/s delay 20";
 
@@ -26,7 +26,7 @@ const LASTS: &str = "an experiment goes on to its last command: @5000000000 end"
 
 const WAITS: &str = "nothing waits here: each command says its own moment, as @5000000000 end";
 
-/// What a moment is.
+/// The hint for a time.
 pub const MOMENT: &str =
     "a moment is a whole number of nanoseconds without a unit: 1.5 ms is @1500000";
 
@@ -44,7 +44,7 @@ const NO_SUCH_DAMAGE: &str =
 
 const RULE: &str = "a rule begins with `add` and its number: add 100 allow ip from any to any";
 
-/// Where a line's first word is wanted.
+/// The hints where a line's first word is expected.
 pub const FIRSTS: [Says; 17] = [
     ("tc", LINK),
     ("$ns", LINK),
@@ -65,13 +65,13 @@ pub const FIRSTS: [Says; 17] = [
     ("from", PROGRAM),
 ];
 
-/// The word that begins an experiment, for slips.
+/// The word that begins an experiment, for typing errors.
 pub const OWN_FIRSTS: [Says; 1] = [("experiment", "did you mean `experiment`?")];
 
-/// The word behind an experiment's name, for slips.
+/// The word after an experiment's name, for typing errors.
 pub const OWN_SEEDS: [Says; 1] = [("seed", "did you mean `seed`?")];
 
-/// Where `steps` is wanted, or the end of an experiment's line.
+/// The hints where `steps` or the end of an experiment's line is expected.
 pub const FOR_STEPS: [Says; 5] = [
     ("duration", LASTS),
     ("time", LASTS),
@@ -80,7 +80,7 @@ pub const FOR_STEPS: [Says; 5] = [
     ("{", LASTS),
 ];
 
-/// Where a command's first word is wanted.
+/// The hints where a command's first word is expected.
 pub const VERBS: [Says; 41] = [
     ("queue", "ipfw's queue, sched, table and nat aren't here"),
     ("sched", "ipfw's queue, sched, table and nat aren't here"),
@@ -146,7 +146,7 @@ pub const VERBS: [Says; 41] = [
     ),
 ];
 
-/// The verbs themselves, for slips.
+/// The verbs themselves, for typing errors.
 pub const OWN_VERBS: [Says; 11] = [
     ("add", "did you mean `add`?"),
     ("delete", "did you mean `delete`?"),
@@ -161,7 +161,7 @@ pub const OWN_VERBS: [Says; 11] = [
     ("end", "did you mean `end`?"),
 ];
 
-/// Where a rule's action is wanted.
+/// The hints where a rule's action is expected.
 pub const ACTIONS: [Says; 26] = [
     ("accept", "it is spelled `allow` here"),
     ("pass", "it is spelled `allow` here"),
@@ -215,7 +215,7 @@ pub const ACTIONS: [Says; 26] = [
     ),
 ];
 
-/// The actions themselves, for slips.
+/// The actions themselves, for typing errors.
 pub const OWN_ACTIONS: [Says; 5] = [
     ("allow", "did you mean `allow`?"),
     ("deny", "did you mean `deny`?"),
@@ -224,7 +224,7 @@ pub const OWN_ACTIONS: [Says; 5] = [
     ("pipe", "did you mean `pipe`?"),
 ];
 
-/// Where an option of a pipe is wanted.
+/// The hints where an option of a pipe is expected.
 pub const OPTIONS: [Says; 35] = [
     ("target", "`target` and `interval` directly follow `codel`"),
     (
@@ -269,7 +269,7 @@ pub const OPTIONS: [Says; 35] = [
     ("corrupt", NO_SUCH_DAMAGE),
 ];
 
-/// The options themselves, for slips.
+/// The options themselves, for typing errors.
 pub const OWN_OPTIONS: [Says; 7] = [
     ("delay", "did you mean `delay`?"),
     ("queue", "did you mean `queue`?"),
@@ -280,14 +280,14 @@ pub const OWN_OPTIONS: [Says; 7] = [
     ("bw", "did you mean `bw`?"),
 ];
 
-/// The options of a flow, for slips.
+/// The options of a flow, for typing errors.
 pub const OWN_FLOW_OPTIONS: [Says; 3] = [
     ("ssthresh", "did you mean `ssthresh`?"),
     ("window", "did you mean `window`?"),
     ("rto", "did you mean `rto`?"),
 ];
 
-/// Where a number is wanted, and a word stands that names a command.
+/// The hints for the name of a command where a number is expected.
 pub const FOR_NUMBERS: [Says; 8] = [
     ("flush", EMPTY),
     ("list", "all pipes are listed at once: pipe show"),
@@ -308,8 +308,8 @@ pub const FOR_NUMBERS: [Says; 8] = [
     ),
 ];
 
-/// What is said of a word, if it is one of these.
-pub fn said_of(table: &[Says], word: &[u8]) -> Option<&'static str> {
+/// Returns the hint for a word in the table.
+pub fn hint_for(table: &[Says], word: &[u8]) -> Option<&'static str> {
     for says in table {
         if is(word, says.0) {
             return Some(says.1);
@@ -318,9 +318,9 @@ pub fn said_of(table: &[Says], word: &[u8]) -> Option<&'static str> {
     None
 }
 
-/// What is said of a word that is one of these but for a slip: a letter wrong, missing or too much, two turned round, or
-/// another ending behind the first three letters.
-pub fn hint_for(table: &[Says], word: &[u8]) -> Option<&'static str> {
+/// Returns the hint for a word that has a typing error of a word in the table: a wrong, missing or
+/// extra letter, two swapped letters, or another ending after the first three letters.
+pub fn hint_for_typo(table: &[Says], word: &[u8]) -> Option<&'static str> {
     if word.len() < 2 {
         return None;
     }
@@ -332,7 +332,7 @@ pub fn hint_for(table: &[Says], word: &[u8]) -> Option<&'static str> {
     None
 }
 
-// How many letters are the same at the front.
+// Returns the number of letters in the common prefix.
 fn same_front(first: &[u8], second: &[u8]) -> usize {
     let mut count = 0usize;
     for (a, b) in first.iter().zip(second) {
@@ -344,7 +344,7 @@ fn same_front(first: &[u8], second: &[u8]) -> usize {
     count
 }
 
-// How many letters are the same at the back.
+// Returns the number of letters in the common suffix.
 fn same_back(first: &[u8], second: &[u8]) -> usize {
     let mut count = 0usize;
     for (a, b) in first.iter().rev().zip(second.iter().rev()) {
@@ -356,7 +356,7 @@ fn same_back(first: &[u8], second: &[u8]) -> usize {
     count
 }
 
-// Whether the first two letters are the same two, turned round.
+// Returns true if the first two letters are swapped.
 fn are_turned(first: &[u8], second: &[u8]) -> bool {
     match (first, second) {
         ([a, b, ..], [c, d, ..]) => *a == *d && *b == *c,
@@ -364,13 +364,13 @@ fn are_turned(first: &[u8], second: &[u8]) -> bool {
     }
 }
 
-// What stands from a place on, if that is within a word.
+// Returns the rest of a word from a position on, which is empty past its end.
 fn rest_of(word: &[u8], from: usize) -> &[u8] {
     let start = from.min(word.len());
     &word[start..]
 }
 
-// Whether two words differ by one slip or in their endings, and are not the same.
+// Returns true if two words differ by one typing error or in their endings, and are not equal.
 fn is_near(word: &[u8], known: &[u8]) -> bool {
     let front = same_front(word, known);
     let first = rest_of(word, front);

@@ -1,4 +1,4 @@
-//! What is expected at each place of a line, with its range and an example.
+//! The expected words at each place of a line, with their ranges and an example.
 
 use control::{
     EndsWord, Expected, FlowWord, HeaderWord, PacketWord, PipeWord, RuleWord, TrainWord,
@@ -6,7 +6,7 @@ use control::{
 };
 use control_words::is;
 
-/// What may stand at a place of a line, in words for its author.
+/// The words that may be at a place of a line, described for its author.
 #[derive(Clone, Copy)]
 pub struct Wanted {
     pub expected: &'static str,
@@ -288,7 +288,7 @@ const TRACE: Wanted = Wanted {
     example: "@0 trace 1",
 };
 
-// Whether the word is an option of which one alone may stand in a line.
+// Returns true if the word is a queue discipline, of which a line may have only one.
 fn is_discipline(word: &[u8]) -> bool {
     is(word, "droptail") || is(word, "codel")
 }
@@ -335,7 +335,7 @@ fn packet_wanted(place: PacketWord) -> Wanted {
     }
 }
 
-// What a command shares with others, with an example of its own.
+// Returns a description that commands share, with an example for one command.
 fn with_example(wanted: Wanted, own: Wanted) -> Wanted {
     Wanted {
         example: own.example,
@@ -387,7 +387,7 @@ fn pipe_wanted(place: PipeWord) -> Wanted {
     }
 }
 
-/// What is wanted where a word is at fault, or is lacking. Own.
+/// Returns what is expected in the place of a faulty or missing word. Our choice.
 pub fn expected_at(expected: Expected, word: &[u8]) -> Wanted {
     if stood_before(expected, word) {
         return if is_discipline(word) {

@@ -1,4 +1,4 @@
-//! What reports hold: the commands that they say were refused, and what else is counted of them.
+//! The contents of reports: the commands that were refused, and what else is counted.
 
 ghost use Rattle.std.specs.Prelude.{◌≡◌, ◌<◌, ◌==◌, length, position, IfOk, IfSome};
 ghost use Rattle.explain_text.specs.Accounts.{IsAccountOf, is_one_line};
@@ -7,7 +7,7 @@ use experiment::Report;
 use explain::Account;
 use std::alloc::{AllocError, Global};
 
-// The place of the first line feed.
+// Returns the position of the first line feed.
 fn first_feed(text: &[u8]) -> Option<usize>
     ensures value { result ≡ position (λ b. b == 10) text.now }
     ensures within { IfSome result (λ k. k < length text.now) }
@@ -15,7 +15,7 @@ fn first_feed(text: &[u8]) -> Option<usize>
     text.iter().position(|byte| *byte == b'\n')
 }
 
-// Whether a text is one line, with its line feed.
+// Returns true if a text is one line, with its line feed.
 fn is_one_line(text: &[u8]) -> bool
     ensures { result ≡ is_one_line text.now }
 {
@@ -25,9 +25,10 @@ fn is_one_line(text: &[u8]) -> bool
     }
 }
 
-/// Returns what the reports of a scenario hold: the refused commands, and what else is counted, of each by the records whose
-/// lines are all of its lines but the first and the last. `AllocError` where memory was refused; or a report had no such
-/// lines, which none is made without.
+/// Returns the refused commands and the other counts of a scenario's reports, each from the records
+/// whose lines are all lines of the report except the first and the last. Returns `AllocError` if
+/// an allocation fails, or if the first or the last part of a report isn't exactly one line, which
+/// never happens.
 pub fn account_of(alloc: Global, reports: &[Report]) -> Result<Account, AllocError>
     ensures { IfOk result (λ told. IsAccountOf reports.now told) }
 {

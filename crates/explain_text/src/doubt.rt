@@ -1,11 +1,12 @@
-//! What is likely not meant, though it does what it says: the kinds, and what is printed of each.
+//! Commands that do what they say but are probably not meant: the kinds, and the text that is
+//! printed for each.
 
 use emu_model::PipeNumber;
 use explain::{Stand, put_row};
 use itoa::Buffer as Digits;
 use std::alloc::{AllocError, Global};
 
-/// An option of a pipe that a later `config` may forget.
+/// An option of a pipe that a later `config` may leave out.
 #[derive(Clone, Copy, PartialEq)]
 pub enum Setting {
     Bw,
@@ -14,47 +15,47 @@ pub enum Setting {
     Plr,
 }
 
-/// What is likely not meant in a command. Times are in nanoseconds, sizes in bytes.
+/// A property of a command that is probably not meant. Times are in nanoseconds, sizes in bytes.
 #[derive(Clone, Copy, PartialEq)]
 pub enum Doubt {
-    /// Its moment looks like milliseconds.
+    /// The command's time looks like milliseconds.
     EarlyMoment(u64),
     /// A train's gap looks like milliseconds.
     ShortGap(u64),
-    /// The last packet of a train is due at this moment, and the experiment ends before it.
+    /// The last packet of a train is due at `last`, and the experiment ends before that.
     CutTrain { last: u64, end: u64 },
     /// A rate (bit/s) looks as if its unit was left out.
     LowRate(u64),
     /// A pipe's delay is as long as the experiment.
     LongDelay { delay: u64, end: u64 },
-    /// A pipe loses all packets, always.
+    /// A pipe always loses all packets.
     LosesAll(PipeNumber),
-    /// A receiver's window has no room for a segment.
+    /// A receiver's window is smaller than a segment.
     SmallWindow { window: u64, smss: u64 },
-    /// A later `config` of a pipe leaves out an option that each one before gave.
+    /// A later `config` of a pipe leaves out an option that every earlier one gave.
     Forgets { pipe: PipeNumber, setting: Setting },
     /// The segments and the acknowledgements of a flow wait in one pipe.
     SharedPipe(PipeNumber),
     /// No packet meets a rule.
     UnusedRule,
-    /// No packet comes to a pipe.
+    /// No packet enters a pipe.
     UnusedPipe(PipeNumber),
     /// The listings of the experiment may have up to this many bytes.
     LongListings { bytes: u64 },
     /// The experiment ended when `acked` of the `bytes` of a flow were acknowledged.
     Unfinished { acked: u64, bytes: u64 },
-    /// A flow's window, and not cwnd, held it back for this share of its time (%).
+    /// A flow was limited by its window, and not by cwnd, for this share of its time (%).
     WindowLimited { window: u64, share: u64 },
 }
 
-/// What is likely not meant, and the number of its command, from 0.
+/// A doubt, and the number of its command, from 0.
 #[derive(Clone, Copy, PartialEq)]
 pub struct Doubtful {
     pub command: u64,
     pub doubt: Doubt,
 }
 
-/// The most warnings of a kind that are given for an experiment.
+/// The maximum number of warnings of one kind for an experiment.
 const MAX_OF_A_KIND: usize = 10;
 
 /// Returns the first ten of each kind.
@@ -79,14 +80,14 @@ fn put_number(out: &mut Vec<u8>, number: u64) -> Result<(), AllocError> {
     out.extend_from_slice(digits.format(number).as_bytes())
 }
 
-// A text with a number between two parts.
+// Appends a text with a number between two parts.
 fn put_with(out: &mut Vec<u8>, before: &str, number: u64, behind: &str) -> Result<(), AllocError> {
     put(out, before)?;
     put_number(out, number)?;
     put(out, behind)
 }
 
-// A time in the unit that fits it.
+// Appends a time in the largest unit that shows it exactly.
 fn put_time(out: &mut Vec<u8>, time: u64) -> Result<(), AllocError> {
     if time % 1_000_000_000 == 0 {
         put_with(out, "", time / 1_000_000_000, " s")
@@ -108,7 +109,7 @@ fn setting_word(setting: Setting) -> &'static str {
     }
 }
 
-// What an option is that is left out.
+// Returns the value of an option that is left out.
 fn default_word(setting: Setting) -> &'static str {
     match setting {
         Setting::Bw => "no limit",
@@ -167,7 +168,7 @@ fn put_forgotten(out: &mut Vec<u8>, pipe: PipeNumber, setting: Setting) -> Resul
     put(out, default_word(setting))
 }
 
-// What is said of a flow behind a run.
+// Appends the meaning of a doubt about a flow after a run.
 fn put_of_run(out: &mut Vec<u8>, doubt: &Doubt) -> Result<(), AllocError> {
     match doubt {
         Doubt::Unfinished { acked, bytes } => {
@@ -249,7 +250,7 @@ fn put_meaning(out: &mut Vec<u8>, doubt: &Doubt) -> Result<(), AllocError> {
     }
 }
 
-// So many milliseconds, and how many nanoseconds they are.
+// Appends a number of milliseconds and the same time in nanoseconds.
 fn put_milliseconds(out: &mut Vec<u8>, number: u64, mark: &str) -> Result<(), AllocError> {
     put_with(out, "", number, " ms is ")?;
     put_with(out, mark, number.saturating_mul(1_000_000), "")
@@ -309,8 +310,8 @@ fn put_hint(out: &mut Vec<u8>, doubt: &Doubt) -> Result<(), AllocError> {
     }
 }
 
-/// Returns what is printed of a doubt about a line: `line L: KIND`, the line, its experiment, what is meant and what to do.
-/// ASCII, with a line feed at the end of each row. Own.
+/// Returns the text of a doubt about a line: `line L: KIND`, the line, its experiment, the meaning
+/// and what to do. The text is ASCII, with a line feed at the end of each row. Our choice.
 pub fn show_doubt(alloc: Global, doubt: &Doubt, stand: &Stand) -> Result<Vec<u8>, AllocError> {
     let mut out = Vec::new(alloc);
     put_with(&mut out, "line ", stand.number, ": ")?;

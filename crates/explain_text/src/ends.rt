@@ -1,11 +1,11 @@
-//! Where packets come from and where they go to.
+//! The sources and destinations of packets.
 
 ghost use Rattle.std.specs.Prelude.{◌≡◌};
 ghost use Rattle.explain_text.specs.Ways.{sent_ends, segment_ends, turned, packet_of};
 
 use emu_model::{FlowSpec, Load, Packet, Place, Protocol, RuleNumber, SendSpec, Size};
 
-/// The protocol of packets, their source and their destination with the ports.
+/// The protocol of packets, and their source and destination with the ports.
 #[derive(Clone, Copy, PartialEq)]
 pub struct Ends {
     pub proto: Protocol,
@@ -15,7 +15,7 @@ pub struct Ends {
     pub dport: u16,
 }
 
-/// Of what a train or a single command sends.
+/// Returns the ends of the packets that a train or an `inject` sends.
 pub fn sent_ends(send: &SendSpec) -> Ends
     ensures { result ≡ sent_ends send.now }
 {
@@ -28,7 +28,7 @@ pub fn sent_ends(send: &SendSpec) -> Ends
     }
 }
 
-/// Of a flow's segments.
+/// Returns the ends of a flow's segments.
 pub fn segment_ends(flow: &FlowSpec) -> Ends
     ensures { result ≡ segment_ends flow.now }
 {
@@ -41,7 +41,7 @@ pub fn segment_ends(flow: &FlowSpec) -> Ends
     }
 }
 
-/// The other direction.
+/// Returns the ends of the other direction.
 pub fn reverse_of(ends: Ends) -> Ends
     ensures { result ≡ turned ends }
 {
@@ -54,7 +54,7 @@ pub fn reverse_of(ends: Ends) -> Ends
     }
 }
 
-/// A packet of these ends, for a search among rules, which looks at nothing else.
+/// Returns a packet with these ends, for a search among the rules, which uses nothing else of it.
 pub fn packet_of(ends: &Ends) -> Packet
     ensures { result ≡ packet_of ends.now }
 {

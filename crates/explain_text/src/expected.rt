@@ -10,7 +10,8 @@ use explain::RefusedCommand;
 use packet_store::OwnShelf;
 use std::alloc::{AllocError, Global};
 
-// Whether a command can be refused, or can have another be refused: it changes rules, pipes, flows or trains.
+// Returns true if a command can be refused or can cause the refusal of another: it changes rules,
+// pipes, flows or trains.
 fn counts(command: &Command) -> bool {
     match command {
         Command::Inject(_) | Command::Show | Command::PipeShow => false,
@@ -19,8 +20,8 @@ fn counts(command: &Command) -> bool {
     }
 }
 
-// Takes one command at moment 0, and says its code if it is refused. No packet is made at the moments of commands, so
-// that rules, pipes and sources stand as the commands alone leave them.
+// Applies one command at time 0, and returns its code if it is refused. No packet is created when
+// the commands are applied, so the rules, pipes and sources are as the commands alone leave them.
 fn code_of(
     experiment: &mut Experiment,
     shelf: &mut OwnShelf,
@@ -45,7 +46,7 @@ fn code_of(
     Ok(code)
 }
 
-// Those of the experiment with this number.
+// Appends the refused commands of the experiment with this number.
 fn expect_of(
     out: &mut Vec<RefusedCommand>,
     alloc: Global,
@@ -69,9 +70,10 @@ fn expect_of(
     Ok(())
 }
 
-/// The commands of a scenario that are refused whatever the packets do, in its order: rules, pipes, flows and trains with
-/// numbers that don't serve, are taken, or that nobody has. One that goes by packets (a mask of a pipe that holds some) is
-/// found by a run alone.
+/// Returns the commands of a scenario that are refused whatever the packets do, in the order of the
+/// scenario: rules, pipes, flows and trains whose numbers are invalid, already in use, or unknown.
+/// A refusal that depends on packets (a new mask for a pipe that holds some) is found only by a
+/// run.
 pub fn refusals_expected(
     alloc: Global,
     scripts: &[Script],
@@ -83,7 +85,8 @@ pub fn refusals_expected(
     Ok(out)
 }
 
-/// Returns the commands that are refused whatever the packets do of a text that is a scenario; none of another.
+/// Returns the commands of a text that are refused whatever the packets do. If the text is not a
+/// scenario, there are none.
 pub fn refusals_of(alloc: Global, text: &[u8]) -> Result<Vec<RefusedCommand>, AllocError> {
     match parse_scenario(alloc, text) {
         Ok(scenario) => refusals_expected(alloc, scenario.experiments()),

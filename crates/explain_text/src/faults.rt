@@ -1,14 +1,15 @@
-//! What is said of a text that is no scenario.
+//! The explanation of a text that is not a scenario.
 
 use control::{Behind, Blamed, Cause, Check, Fault, blame, blame_behind};
 use explain::{faults_behind, find, line_at, put_row, show_finding, show_found, span_of_word};
 use explain_line::expected_at;
 use std::alloc::{AllocError, Global};
 
-/// A line with more words at fault than these has its words in another order, and only the first is told.
+/// The maximum number of faulty words in a line. If there are more, the words are taken to be in
+/// another order, and only the first is reported.
 const MAX_WORDS: usize = 5;
 
-// The word at fault that is told first, if the fault is one of a word.
+// Returns the index of the faulty word that is reported first, if the fault is in a word.
 fn told_word(line: &[u8], cause: Cause) -> Option<usize> {
     match cause {
         Cause::BadWord => Some(blame(line, Check::Forms)?.index),
@@ -17,7 +18,8 @@ fn told_word(line: &[u8], cause: Cause) -> Option<usize> {
     }
 }
 
-// A row for another word at fault: the word, and what was expected. Whether there is such a word.
+// Appends a row for another faulty word: the word, and what was expected. Returns false if there is
+// no such word.
 fn put_word(out: &mut Vec<u8>, line: &[u8], blamed: &Blamed) -> Result<bool, AllocError> {
     let place = span_of_word(line, blamed.index);
     let word = &line[place.start..place.start + place.width];
@@ -28,7 +30,8 @@ fn put_word(out: &mut Vec<u8>, line: &[u8], blamed: &Blamed) -> Result<bool, All
     Ok(!word.is_empty())
 }
 
-// The other words at fault of a line. None where the line's words may stand at other places than they seem to.
+// Returns the rows for the other faulty words of a line. Returns no rows if the words may belong to
+// other places than they seem to.
 fn others_in(alloc: Global, line: &[u8], told: usize) -> Result<Vec<u8>, AllocError> {
     let mut out = Vec::new(alloc);
     let mut next = blame(line, Check::Ranges);
@@ -48,7 +51,7 @@ fn others_in(alloc: Global, line: &[u8], told: usize) -> Result<Vec<u8>, AllocEr
     Ok(Vec::new(alloc))
 }
 
-// The other words at fault of the line of a fault.
+// Appends the rows for the other faulty words of the line with a fault.
 fn put_others(
     out: &mut Vec<u8>,
     alloc: Global,
@@ -65,7 +68,8 @@ fn put_others(
     out.extend_from_slice(others.as_slice())
 }
 
-/// What is said of the first fault of a text behind its line, and of those behind it.
+/// Returns the explanation of the first fault of a text, which follows the line of the fault, and
+/// of the later faults.
 pub fn faults_text(alloc: Global, text: &[u8], first: &Fault) -> Result<Vec<u8>, AllocError> {
     let mut out = show_finding(alloc, &find(text, first))?;
     put_others(&mut out, alloc, text, first)?;

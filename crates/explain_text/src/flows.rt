@@ -1,4 +1,4 @@
-//! What the records of a run say of its flows that is likely not meant.
+//! Flows that, according to the records of a run, probably didn't do what was meant.
 
 ghost use Rattle.std.specs.Prelude.{◌≡◌, ◌++◌, OnOk, IfOk};
 ghost use Rattle.explain_text.specs.Flows.{unfinished, limited, of_flows, of_watch};
@@ -8,7 +8,7 @@ use crate::likely::put_doubt;
 use explain::Watch;
 use std::alloc::{AllocError, Global};
 
-/// A flow of this many segments, the most that a scenario allows, is one without end.
+/// The number of segments, the maximum that a scenario allows, that counts as a flow without end.
 const ENDLESS: u64 = 1_000_000;
 
 fn unfinished(watch: &Watch, is_spent: bool) -> Option<Doubt>
@@ -52,8 +52,9 @@ fn put_watch(
     put_doubt(out, watch.command, limited(watch))
 }
 
-/// Returns the flows that the experiment's end cut off, unless its steps were spent before, and those whose window held
-/// them back for 1 % of their time or more. In the order of the flows' numbers. Own.
+/// Returns the flows that the experiment's end cut off, unless its steps were spent before, and
+/// those that their window limited for at least 1 % of their time, in the order of the flows'
+/// numbers. Our choice.
 pub fn of_flows(
     alloc: Global,
     watches: &[Option<Watch>],

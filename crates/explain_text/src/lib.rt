@@ -1,6 +1,7 @@
-//! What `--explain` says, as text: of the faults of a scenario, of the commands that were refused, and of what goes wrong
-//! without a refusal: steps that run out before an experiment's end, packets that the budget or the rules drop, rules that
-//! name no pipe, units that are likely not meant, rules that nobody meets. Our choice.
+//! The text of `--explain`: about the faults of a scenario, the commands that were refused, and
+//! what goes wrong without a refusal: steps that run out before an experiment's end, packets that
+//! the budget or the rules drop, rules that name no pipe, units that are probably not meant, and
+//! rules that no packet meets. Our choice.
 #![tactic(auto)]
 
 mod accounts;
@@ -31,8 +32,9 @@ use std::alloc::{AllocError, Global};
 pub use texts::{Run, refusals_text, warnings_text};
 pub use warning::{Concern, Sent, Warning, warnings};
 
-/// What is said of a scenario, with its text: the commands that were refused, or without a run will be, and what is likely
-/// wrong. `run` is what a run of it has found. `AllocError` where memory was refused.
+/// Returns the explanation of a scenario and its text: the commands that were refused (or, without
+/// a run, that will be), and what is probably wrong. `run` has the results of a run. Returns
+/// `AllocError` if an allocation fails.
 pub fn scenario_explained(
     alloc: Global,
     text: &[u8],
@@ -51,8 +53,8 @@ pub fn scenario_explained(
     Ok(out)
 }
 
-/// What is said of a text and of its reports, where it was run: its first faults, else what is said of the scenario.
-/// `AllocError` where memory was refused.
+/// Returns the explanation of a text and, if it was run, of its reports: its first faults, or if it
+/// has none, the explanation of the scenario. Returns `AllocError` if an allocation fails.
 pub fn explanation(
     alloc: Global,
     text: &[u8],

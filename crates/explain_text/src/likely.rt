@@ -1,4 +1,4 @@
-//! What is likely not meant in a command, seen from the command and from the end of its experiment.
+//! Probable mistakes in a command, judged by the command and by the end of its experiment.
 
 ghost use Rattle.std.specs.Prelude.{◌≡◌, ◌++◌, OnOk, IfOk};
 ghost use Rattle.explain_text.specs.Likely.{sends, has_sender, early, of_train, of_config, of_flow, doubt_in, doubts_at, likely};
@@ -8,10 +8,11 @@ use crate::survey::last_moment;
 use emu_model::{Command, FlowSpec, PipeConfig, Timed, TrainSpec};
 use std::alloc::{AllocError, Global};
 
-/// Moments from 10 to 999 ns look like milliseconds in an experiment of a millisecond or more.
+/// The length in ns from which an experiment makes command times of 10 to 999 ns look like
+/// milliseconds.
 const LONG: u64 = 1_000_000;
 
-/// A rate below 1000 bit/s looks as if its unit was left out.
+/// The rate in bit/s below which the unit looks as if it was left out.
 const SLOW: u64 = 1000;
 
 fn sends(command: &Command) -> bool
@@ -23,7 +24,7 @@ fn sends(command: &Command) -> bool
     }
 }
 
-/// Returns true if a packet, a train or a flow is sent.
+/// Returns true if a command sends a packet, a train or a flow.
 pub fn has_sender(commands: &[Timed]) -> bool
     ensures { result ≡ has_sender commands.now }
 {
@@ -106,9 +107,9 @@ pub(crate) fn put_doubt(
     Ok(())
 }
 
-/// Returns what is likely not meant in each command by itself: moments, gaps and rates that look like another unit, a train
-/// or a pipe's delay that the experiment's end cuts off, and a window without room for a segment. In the order of the
-/// commands. Own.
+/// Returns the probable mistakes of each command by itself: times, gaps and rates that look like
+/// another unit, a train or a pipe's delay that the experiment's end cuts off, and a window that is
+/// smaller than a segment. They are in the order of the commands. Our choice.
 pub fn likely(alloc: Global, commands: &[Timed]) -> Result<Vec<Doubtful>, AllocError>
     ensures { IfOk result (λ out. out.items ≡ likely commands.now) }
 {

@@ -1,4 +1,5 @@
-//! What is likely not meant in the configurations of a pipe: one that loses all, and a later one that forgets an option.
+//! Probable mistakes in the configurations of a pipe: one that loses all packets, and a later one
+//! that leaves out an option.
 
 ghost use Rattle.std.specs.Prelude.{◌≡◌, ℕ, List, ◌==◌, ◌||◌, ◌++◌, if◌then◌else◌, is_some, OnOk, IfOk};
 ghost use Rattle.due_index.specs.Table.{place_in};
@@ -15,7 +16,7 @@ use std::alloc::{AllocError, Global};
 /// A loss rate of 1, in millionths.
 const ALL: u32 = 1_000_000;
 
-// The pipe has a configuration that doesn't lose all.
+// Adds a pipe to the table if the command configures it not to lose all packets.
 fn note_open(table: &mut NumberTable, command: &Command) -> Result<(), AllocError>
     ensures { OnOk result ((n : ℕ) → is_some (place_in table.new n)
         ≡ (lets n command.now || is_some (place_in table.old n))) }
@@ -29,7 +30,7 @@ fn note_open(table: &mut NumberTable, command: &Command) -> Result<(), AllocErro
     Ok(())
 }
 
-// The numbers of the pipes with a configuration that doesn't lose all.
+// Returns the numbers of the pipes with a configuration that doesn't lose all packets.
 fn open_pipes(alloc: Global, commands: &[Timed]) -> Result<NumberTable, AllocError>
     ensures { IfOk result (λ t. (n : ℕ) → is_some (place_in t n) ≡ is_open commands.now n) }
 {
@@ -40,7 +41,7 @@ fn open_pipes(alloc: Global, commands: &[Timed]) -> Result<NumberTable, AllocErr
     Ok(table)
 }
 
-// A pipe that is configured, and always loses all.
+// Returns the doubt about a command that configures a pipe that always loses all packets.
 fn closed_in(table: &NumberTable, command: &Command) -> Option<Doubt>
     ensures { (all : List Timed) → ((n : ℕ) → is_some (place_in table.now n) ≡ is_open all n) →
         result ≡ closed_by (is_open all) command.now }
@@ -74,7 +75,8 @@ fn gives_queue(queue: &QueueLimit) -> bool
     }
 }
 
-// Whether a configuration has another value than the default. A loss of all is an outage, which ends so.
+// Returns true if a configuration has a value other than the default. A loss rate of 1 doesn't
+// count: it is an outage, which ends when the option is left out.
 fn gives(setting: Setting, config: &PipeConfig) -> bool
     ensures { result ≡ gives setting config.now }
 {
@@ -86,7 +88,8 @@ fn gives(setting: Setting, config: &PipeConfig) -> bool
     }
 }
 
-// What is noted of a pipe: whether each of its configurations since it was made gave an option.
+// Returns the state of a pipe: true if each of its configurations since its creation gave the
+// option, and `None` if it has none.
 fn state_of(table: &NumberTable, pipe: PipeNumber) -> Option<bool>
     ensures { result ≡ decoded (place_in table.now pipe) }
 {
@@ -115,7 +118,7 @@ fn put_state(
     Ok(())
 }
 
-// Notes what a command says of a pipe.
+// Updates the state of the pipe that a command configures or deletes.
 fn note_setting(
     table: &mut NumberTable,
     setting: Setting,
@@ -134,7 +137,7 @@ fn note_setting(
     }
 }
 
-// A configuration leaves out what each one before gave.
+// Returns the doubt about a configuration that leaves out an option that every earlier one gave.
 fn forgotten_in(table: &NumberTable, setting: Setting, command: &Command) -> Option<Doubt>
     ensures { (cs : List Timed) → ((n : ℕ) → decoded (place_in table.now n) ≡ state setting cs n) →
         result ≡ forgotten_by setting (state setting cs) command.now }
@@ -151,7 +154,8 @@ fn forgotten_in(table: &NumberTable, setting: Setting, command: &Command) -> Opt
     }
 }
 
-/// Returns the commands that configure a pipe again and leave out an option that all its earlier ones gave.
+/// Returns the commands that configure a pipe again and leave out an option that all its earlier
+/// configurations gave.
 pub fn forgets(
     alloc: Global,
     setting: Setting,

@@ -18,14 +18,14 @@ fn is_deny(verdict: &Verdict) -> bool
     }
 }
 
-/// Whether the rules drop packets of these ends.
+/// Returns true if the rules drop packets with these ends.
 pub fn is_denied(rules: &RuleList, ends: &Ends) -> bool
     ensures { result ≡ is_denied rules.now ends.now }
 {
     is_deny(&rules.find(&packet_of(ends)))
 }
 
-/// What a command does to the rules; a refused one does nothing.
+/// Applies a command to the rules. A refused command changes nothing.
 pub fn apply(rules: &mut RuleList, command: &Command) -> Result<(), AllocError>
     ensures { OnOk result (rules.new ≡ after command.now rules.old) }
 {
@@ -43,7 +43,8 @@ pub fn apply(rules: &mut RuleList, command: &Command) -> Result<(), AllocError>
     }
 }
 
-/// Takes commands from this number on, up to a moment and with those of it, and says how many were taken then.
+/// Applies the commands from number `taken` on whose time is at most `moment`. Returns the number
+/// of the first command that is left.
 pub fn apply_until(
     rules: &mut RuleList,
     commands: &[Timed],

@@ -14,14 +14,15 @@ use emu_model::{Command, Mask, PipeConfig, PipeNumber, Timed, Verdict};
 use emu_rules::RuleList;
 use std::alloc::{AllocError, Global};
 
-// Whether a mask has neither an address nor a port, so that both directions of a flow come to one instance.
+// Returns true if a mask has neither an address nor a port, so that both directions of a flow use
+// one instance.
 fn is_two_way(mask: &Mask) -> bool
     ensures { result ≡ is_two_way mask.now }
 {
     mask.src == 0 && mask.dst == 0 && mask.sport == 0 && mask.dport == 0
 }
 
-// Whether both directions of a flow wait in one queue.
+// Returns true if both directions of a flow wait in one queue.
 fn serves(config: &PipeConfig) -> bool
     ensures { result ≡ serves config.now }
 {
@@ -41,7 +42,7 @@ fn note_serving(table: &mut NumberTable, command: &Command) -> Result<(), AllocE
     Ok(())
 }
 
-// The numbers of the pipes in which both directions of a flow wait in one queue.
+// Returns the numbers of the pipes in which both directions of a flow wait in one queue.
 fn serving_pipes(alloc: Global, commands: &[Timed]) -> Result<NumberTable, AllocError>
     ensures { IfOk result (λ t. (n : ℕ) → is_some (place_in t n) ≡ is_serving commands.now n) }
 {
@@ -52,7 +53,7 @@ fn serving_pipes(alloc: Global, commands: &[Timed]) -> Result<NumberTable, Alloc
     Ok(table)
 }
 
-// The pipe that the rules hand packets of these ends to.
+// Returns the pipe that the rules choose for packets with these ends.
 fn pipe_of(rules: &RuleList, ends: &Ends) -> Option<PipeNumber>
     ensures { result ≡ pipe_of rules.now ends.now }
 {
@@ -85,7 +86,8 @@ fn shared_in(table: &NumberTable, rules: &RuleList, command: &Command) -> Option
     }
 }
 
-/// Returns the flows that the rules behind all commands of their moment hand to one pipe with a rate, there and back.
+/// Returns the flows for which the rules choose the same pipe, with a rate, in both directions. The
+/// rules are those after all commands with the flow's time.
 pub fn shared(alloc: Global, commands: &[Timed]) -> Result<Vec<Doubtful>, AllocError>
     ensures { IfOk result (λ out. out.items ≡ shared commands.now) }
 {

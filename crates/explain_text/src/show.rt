@@ -1,4 +1,4 @@
-//! What is printed of a warning.
+//! The text of a warning.
 
 ghost use Rattle.std.specs.Prelude.{◌≡◌, ◌++◌, decimal, OnOk, IfOk};
 ghost use Rattle.explain_text.specs.Shown.{with_address, protocol_word, with_ends, sent_word, with_spent, with_dropped, with_denied, with_way, with_meaning, with_advice, with_hint, kind_word, with_heading, warning_text};
@@ -23,7 +23,7 @@ fn put_number(out: &mut Vec<u8>, number: u64) -> Result<(), AllocError>
     out.extend_from_slice(digits.format(number).as_bytes())
 }
 
-// An address with its points.
+// Appends an address in dotted decimal notation.
 fn put_address(out: &mut Vec<u8>, address: u32) -> Result<(), AllocError>
     ensures { OnOk result (out.new.items ≡ with_address out.old.items address) }
 {
@@ -45,7 +45,7 @@ fn protocol_word(proto: Protocol) -> &'static str
     }
 }
 
-// As a rule says it: tcp from A PORT to A PORT.
+// Appends the ends in the form of a rule: tcp from A PORT to A PORT.
 fn put_ends(out: &mut Vec<u8>, ends: &Ends) -> Result<(), AllocError>
     ensures { OnOk result (out.new.items ≡ with_ends out.old.items ends.now) }
 {
@@ -80,7 +80,7 @@ fn put_spent(out: &mut Vec<u8>, moment: u64, end: u64) -> Result<(), AllocError>
     put(out, " ns")
 }
 
-// Which packets, how many, and when first.
+// Appends the kind of the packets, their number, and the time of the first.
 fn put_dropped(out: &mut Vec<u8>, packets: &str, count: u64, first: u64) -> Result<(), AllocError>
     ensures { OnOk result (out.new.items ≡ with_dropped out.old.items packets.now count first) }
 {
@@ -111,7 +111,7 @@ fn put_way(out: &mut Vec<u8>, ends: &Ends, sent: Sent, count: Option<u64>) -> Re
     put_ends(out, ends)
 }
 
-// What a warning means.
+// Appends the meaning of a warning.
 fn put_meaning(out: &mut Vec<u8>, concern: &Concern) -> Result<(), AllocError>
     ensures { OnOk result (out.new.items ≡ with_meaning out.old.items concern.now) }
 {
@@ -146,7 +146,7 @@ fn put_meaning(out: &mut Vec<u8>, concern: &Concern) -> Result<(), AllocError>
     }
 }
 
-// A rule that would let packets of these ends through.
+// Appends a rule that would let packets with these ends through.
 fn put_advice(out: &mut Vec<u8>, advice: &str, ends: &Ends) -> Result<(), AllocError>
     ensures { OnOk result (out.new.items ≡ with_advice out.old.items advice.now ends.now) }
 {
@@ -155,7 +155,7 @@ fn put_advice(out: &mut Vec<u8>, advice: &str, ends: &Ends) -> Result<(), AllocE
     put_ends(out, ends)
 }
 
-// What to do about a warning.
+// Appends what to do about a warning.
 fn put_hint(out: &mut Vec<u8>, concern: &Concern) -> Result<(), AllocError>
     ensures { OnOk result (out.new.items ≡ with_hint out.old.items concern.now) }
 {
@@ -213,7 +213,7 @@ fn kind_word(concern: &Concern) -> &'static str
     }
 }
 
-// The line that a warning is about, and its experiment.
+// Appends the line that a warning is about, and its experiment.
 fn put_heading(out: &mut Vec<u8>, concern: &Concern, stand: &Stand) -> Result<(), AllocError>
     ensures { OnOk result (out.new.items ≡ with_heading out.old.items concern.now stand.now) }
 {
@@ -224,8 +224,8 @@ fn put_heading(out: &mut Vec<u8>, concern: &Concern, stand: &Stand) -> Result<()
     put_row(out, "  experiment: ", stand.experiment)
 }
 
-/// What is printed of a warning about a line: `line L: KIND`, the line, its experiment, what is meant and what to do.
-/// ASCII, each row with a line feed behind. Own.
+/// Returns the text of a warning about a line: `line L: KIND`, the line, its experiment, the
+/// meaning and what to do. The text is ASCII, with a line feed at the end of each row. Our choice.
 pub fn show_warning(alloc: Global, concern: &Concern, stand: &Stand) -> Result<Vec<u8>, AllocError>
     ensures { IfOk result (λ out. out.items ≡ warning_text concern.now stand.now) }
 {

@@ -1,4 +1,4 @@
-//! How long the listings of an experiment may become, which no step bounds.
+//! The maximum size of an experiment's listings, which no step bounds.
 
 ghost use Rattle.std.specs.Prelude.{◌≡◌, ◌+◌, ◌*◌, min};
 ghost use Rattle.explain_text.specs.Sizes.{is_masked, listed_by, listed_from, listed_bytes, rules_bytes, pipes_bytes, nothing};
@@ -6,17 +6,18 @@ ghost use Rattle.explain_text.specs.Sizes.{is_masked, listed_by, listed_from, li
 use crate::doubt::{Doubt, Doubtful};
 use emu_model::{Command, Mask, Timed};
 
-/// What the lines of a listing have at most, in bytes.
+/// The maximum lengths of the lines of a listing for a rule, a pipe and an instance, in bytes.
 const RULE: u64 = 160;
 
 const PIPE: u64 = 180;
 
 const INSTANCE: u64 = 90;
 
-/// Below this many bytes there is no warning.
+/// The number of bytes up to which there is no warning.
 const LONG: u64 = 100_000_000;
 
-/// What commands have made that a listing shows, and how many bytes the listings so far may have.
+/// The objects created by the commands so far that a listing shows, and the maximum number of bytes
+/// in the listings so far.
 #[derive(Clone, Copy)]
 pub struct Listed {
     pub adds: u64,
@@ -32,7 +33,7 @@ fn is_masked(mask: &Mask) -> bool
 }
 
 impl Listed {
-    // Of no command.
+    // Returns the state before the first command.
     fn nothing() -> Listed
         ensures { result ≡ nothing }
     {
@@ -44,14 +45,15 @@ impl Listed {
         }
     }
 
-    // The lines of `show`: 256 rules and the default at most.
+    // Returns the maximum size of `show` in bytes: at most 256 rules and the default.
     fn rules_bytes(&self) -> u64
         ensures { result ≡ rules_bytes self.now }
     {
         RULE * (self.adds.min(256) + 1)
     }
 
-    // The lines of `pipe show`: 64 pipes at most, and 256 instances of each that has a mask.
+    // Returns the maximum size of `pipe show` in bytes: at most 64 pipes, and 256 instances of each
+    // pipe that has a mask.
     fn pipes_bytes(&self) -> u64
         ensures { result ≡ pipes_bytes self.now }
     {
@@ -93,7 +95,7 @@ impl Listed {
     }
 }
 
-/// Returns how many bytes the listings of these commands have at most. Own.
+/// Returns the maximum number of bytes in the listings of these commands. Our choice.
 pub fn listed_bytes(commands: &[Timed]) -> u64
     ensures { result ≡ listed_bytes commands.now }
 {
@@ -111,7 +113,7 @@ fn is_listing(command: &Command) -> bool {
     }
 }
 
-/// Returns the first command that lists, where the listings may have more than 100 MB.
+/// Returns the first command that lists, if the listings may have more than 100 MB.
 pub fn long_listings(commands: &[Timed]) -> Option<Doubtful> {
     let bytes = listed_bytes(commands);
     if bytes <= LONG {

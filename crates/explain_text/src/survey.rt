@@ -1,4 +1,4 @@
-//! What commands say of pipes, losses, flows and the end.
+//! Facts from the commands about pipes, losses, flows and the end.
 
 ghost use Rattle.std.specs.Prelude.{◌≡◌, ℕ, ◌||◌, ◌++◌, is_some, OnOk, IfOk};
 ghost use Rattle.due_index.specs.Table.{place_in};
@@ -18,7 +18,7 @@ fn loses(command: &Command) -> bool
     }
 }
 
-/// Whether a pipe is configured with losses.
+/// Returns true if a pipe is configured with losses.
 pub fn has_loss(commands: &[Timed]) -> bool
     ensures { result ≡ has_loss commands.now }
 {
@@ -34,7 +34,7 @@ fn named_by(action: Action) -> Option<PipeNumber>
     }
 }
 
-// The pipe that a rule names.
+// Returns the pipe that a rule names.
 fn named_in(command: &Command) -> Option<PipeNumber>
     ensures { result ≡ named_in command.now }
 {
@@ -44,7 +44,7 @@ fn named_in(command: &Command) -> Option<PipeNumber>
     }
 }
 
-// The pipe that a command configures leads somewhere from now on.
+// Adds the pipe that a command configures to the table.
 fn note_configured(table: &mut NumberTable, command: &Command) -> Result<(), AllocError>
     ensures { OnOk result ((n : ℕ) → is_some (place_in table.new n)
         ≡ (configures n command.now || is_some (place_in table.old n))) }
@@ -56,7 +56,7 @@ fn note_configured(table: &mut NumberTable, command: &Command) -> Result<(), All
     Ok(())
 }
 
-// The numbers of the pipes that are configured somewhere.
+// Returns the numbers of the pipes that some command configures.
 fn configured_pipes(alloc: Global, commands: &[Timed]) -> Result<NumberTable, AllocError>
     ensures { IfOk result (λ t. (n : ℕ) → is_some (place_in t n) ≡ is_configured commands.now n) }
 {
@@ -87,7 +87,7 @@ fn note_missing(
     }
 }
 
-/// The rules that name a pipe which no command configures, in the order of the commands.
+/// Returns the rules that name a pipe that no command configures, in the order of the commands.
 pub fn pipes_missing(alloc: Global, commands: &[Timed]) -> Result<Vec<Warning>, AllocError>
     ensures { IfOk result (λ out. out.items ≡ pipes_missing commands.now) }
 {
@@ -108,7 +108,7 @@ fn begins_flow(number: u64, command: &Command) -> bool
     }
 }
 
-/// The first command that begins the flow of a number.
+/// Returns the first command that begins the flow with this number.
 pub fn flow_place(number: u64, commands: &[Timed]) -> Option<usize>
     ensures { result ≡ flow_place number commands.now }
 {
@@ -117,7 +117,7 @@ pub fn flow_place(number: u64, commands: &[Timed]) -> Option<usize>
         .position(|timed| begins_flow(number, &timed.command))
 }
 
-/// The moment of the last command; 0 where there is none.
+/// Returns the time of the last command, or 0 if there is none.
 pub fn last_moment(commands: &[Timed]) -> u64
     ensures { result ≡ last_moment commands.now }
 {

@@ -1,4 +1,4 @@
-//! What is said of a scenario: the commands that were refused, and what is silently wrong.
+//! The explanation of a scenario: the commands that were refused, and what is silently wrong.
 
 use crate::doubt::{Doubtful, Setting, first_of_each, show_doubt};
 use crate::flows::of_flows;
@@ -15,7 +15,7 @@ use experiment::Report;
 use explain::{Account, RefusedCommand, Stand, Subject, Text, show_refused, watch_flows};
 use std::alloc::{AllocError, Global};
 
-/// Says of each refused command where it stands, and what its code means.
+/// Returns the line and the meaning of the code of each refused command.
 pub fn refusals_text(
     alloc: Global,
     text: &[u8],
@@ -32,7 +32,7 @@ pub fn refusals_text(
     Ok(out)
 }
 
-/// What can be said of a command of an experiment, or of all of it.
+/// A message about a command of an experiment, or about the whole experiment.
 trait Said {
     fn command(&self) -> Option<u64>;
 
@@ -59,7 +59,8 @@ impl Said for Doubtful {
     }
 }
 
-// Says of each what line it is about, from the beginning of its experiment on.
+// Appends each message with the line that it is about, which is searched from the start of its
+// experiment.
 fn put_each<S: Said>(
     out: &mut Vec<u8>,
     alloc: Global,
@@ -72,7 +73,7 @@ fn put_each<S: Said>(
         let mut next = text;
         let mut stand = next.seek(number, said.command());
         if stand.is_none() {
-            // Its line stands before that of the one before.
+            // Its line precedes the line of the previous message.
             next = start;
             stand = next.seek(number, said.command());
         }
@@ -111,7 +112,7 @@ fn is_spent(run: &Run, number: u64) -> bool {
     notes.iter().any(|note| note.experiment == number && note.subject == Subject::Spent)
 }
 
-// What the records of the experiment with this number say of its flows.
+// Returns the doubts about the flows of the experiment with this number, according to its records.
 fn doubts_of_run(
     alloc: Global,
     number: u64,
@@ -127,7 +128,7 @@ fn doubts_of_run(
     of_flows(alloc, watches.as_slice(), is_spent(run, number))
 }
 
-// What is likely not meant in an experiment, kind by kind.
+// Returns the doubts about an experiment, kind by kind.
 fn doubts_of(
     alloc: Global,
     number: u64,
@@ -150,7 +151,8 @@ fn doubts_of(
     first_of_each(alloc, out.as_slice())
 }
 
-/// Says what is silently wrong in each experiment of the text, and what is likely not meant; behind a run also what it found.
+/// Returns the warnings for each experiment of the text: what is silently wrong, what is probably
+/// not meant, and after a run also what the run has shown.
 pub fn warnings_text(
     alloc: Global,
     text: &[u8],

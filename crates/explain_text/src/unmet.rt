@@ -1,4 +1,4 @@
-//! Rules and pipes that no packet meets, as far as the commands say who sends.
+//! Rules and pipes that no packet meets, as far as the commands show the senders.
 
 use crate::doubt::{Doubt, Doubtful};
 use crate::ends::{Ends, packet_of, reverse_of, segment_ends, sent_ends};
@@ -7,12 +7,13 @@ use emu_model::{Command, PipeNumber, Rule, Timed, Verdict};
 use emu_rules::{AddError, RuleList};
 use std::alloc::{AllocError, Global};
 
-/// Above this many senders, or searches for their packets, there is no warning.
+/// The numbers of senders, and of searches for their packets, above which there is no warning.
 const MAX_SENDERS: usize = 512;
 
 const MAX_SEARCHES: usize = 1 << 17;
 
-// The rules, and for each that was added, in that order, its command and whether a packet met it.
+// The rules, and for each added rule, in the order of addition, its command and whether a packet
+// met it.
 #[derive(Drop)]
 struct Walk {
     rules: RuleList,
@@ -25,12 +26,12 @@ struct Walk {
 #[derive(Clone, Copy)]
 struct Added {
     command: u64,
-    // Whether it stood when somebody sent, and whether it matched.
+    // True if the rule existed when a sender sent, and true if it matched.
     is_tried: bool,
     is_met: bool,
 }
 
-// Whose packets a command sends.
+// Returns the ends of the packets that a command sends.
 fn ends_of(command: &Command) -> Option<Ends> {
     match command {
         Command::Inject(send) => Some(sent_ends(send)),
@@ -40,7 +41,7 @@ fn ends_of(command: &Command) -> Option<Ends> {
     }
 }
 
-// Who sends, each once; None where there are too many.
+// Returns each sender once, or `None` if there are too many.
 fn senders(alloc: Global, commands: &[Timed]) -> Result<Option<Vec<Ends>>, AllocError> {
     let mut found: Vec<Ends> = Vec::new(alloc);
     for timed in commands {
@@ -75,7 +76,8 @@ impl Walk {
         Ok(())
     }
 
-    // A packet of these ends goes through the rules, and counts at those that it meets.
+    // Sends a packet with these ends through the rules, which counts at the rules and pipes that it
+    // meets.
     fn send(&mut self, ends: &Ends) -> Result<(), AllocError> {
         let packet = packet_of(ends);
         let mut verdict = self.rules.verdict(&packet);
@@ -93,13 +95,13 @@ impl Walk {
         Ok(())
     }
 
-    // All who send do so, both ways, and what they met is noted.
+    // Sends a packet of each sender in both directions, and records which rules matched.
     fn send_all(&mut self, senders: &[Ends]) -> Result<(), AllocError> {
         for ends in senders {
             self.send(ends)?;
             self.send(&reverse_of(*ends))?;
         }
-        // The default, which stands last, is nobody's.
+        // The default rule is last and belongs to no command.
         for place in 1..self.rules.len() {
             self.note_rule(place - 1);
         }
@@ -134,7 +136,7 @@ impl Walk {
         }
     }
 
-    // What a command does to the rules.
+    // Applies a command to the rules.
     fn apply(&mut self, number: u64, command: &Command) -> Result<(), AllocError> {
         match command {
             Command::Add(rule) => self.add(number, *rule)?,
@@ -155,7 +157,8 @@ fn changes_rules(command: &Command) -> bool {
     }
 }
 
-// All commands, and behind those of each moment all who send; None where that takes too many searches.
+// Applies all commands, and lets all senders send after the commands of each time. Returns `None`
+// if that takes too many searches.
 fn walked(alloc: Global, commands: &[Timed], senders: &[Ends]) -> Result<Option<Walk>, AllocError> {
     let mut walk = Walk::new(alloc)?;
     let mut moment = 0u64;
@@ -176,7 +179,7 @@ fn walked(alloc: Global, commands: &[Timed], senders: &[Ends]) -> Result<Option<
     Ok(Some(walk))
 }
 
-// The pipes that no packet comes to, each at the first command that configures it.
+// Appends the pipes that no packet enters, each at the first command that configures it.
 fn put_pipes(
     alloc: Global,
     out: &mut Vec<Doubtful>,
@@ -201,9 +204,9 @@ fn put_pipes(
     Ok(())
 }
 
-/// Returns the rules that no packet of those who send meets, nor one that comes back to them, and the pipes. Each sender is
-/// taken to send whenever rules changed. Nothing where nobody sends, or where more than 512 senders or 131,072 searches
-/// were wanted. Own.
+/// Returns the rules and the pipes that no packet of a sender meets, and no packet in the reverse
+/// direction. Each sender is taken to send whenever the rules have changed. Returns nothing if
+/// there are no senders, more than 512 senders, or more than 131,072 searches. Our choice.
 pub fn unmet(alloc: Global, commands: &[Timed]) -> Result<Vec<Doubtful>, AllocError> {
     let mut out = Vec::new(alloc);
     let Some(senders) = senders(alloc, commands)? else {

@@ -1,4 +1,4 @@
-//! Whose packets the rules deny, seen from the commands alone.
+//! The packets that the rules deny, judged by the commands alone.
 
 ghost use Rattle.std.specs.Prelude.{◌≡◌, ◌++◌, OnOk, IfOk};
 ghost use Rattle.explain_text.specs.Walk.{denied, denied_flow, denials_at, denials};
@@ -10,7 +10,7 @@ use emu_model::{Command, Timed};
 use emu_rules::RuleList;
 use std::alloc::{AllocError, Global};
 
-// A warning, if these rules deny packets of these ends.
+// Appends a warning if these rules deny packets with these ends.
 fn note_denied(
     out: &mut Vec<Warning>,
     command: u64,
@@ -51,7 +51,8 @@ fn note_flow(
     }
 }
 
-// Of one command, by the rules before it and by those behind all commands of its moment.
+// Appends the warnings for one command. `before` are the rules before it, and `behind` are the
+// rules after all commands with its time.
 #[tactic(auto, unfolding(crate::specs::Walk::denials_at))]
 fn note_command(
     out: &mut Vec<Warning>,
@@ -76,8 +77,9 @@ fn note_command(
     }
 }
 
-/// Whose packets the rules deny: of a single packet by the rules as its command finds them, of trains and flows by the
-/// rules behind all commands of their moment; of flows only where that is wanted. In the order of the commands.
+/// Returns a warning for each command whose packets the rules deny, in the order of the commands.
+/// An `inject` is judged by the rules before its command, and trains and flows by the rules after
+/// all commands with their time. Flows are judged only if `flows` is true.
 pub fn denials(alloc: Global, flows: bool, commands: &[Timed]) -> Result<Vec<Warning>, AllocError>
     ensures { IfOk result (λ out. out.items ≡ denials flows commands.now) }
 {

@@ -12,10 +12,12 @@ use emu_rules::RuleList;
 use explain::{Note, Subject};
 use std::alloc::{AllocError, Global};
 
-/// So many rules without a pipe are told of an experiment at most, and so many whose packets the rules deny.
+/// The maximum number of warnings per experiment for rules without a pipe, and for commands whose
+/// packets the rules deny.
 const MAX_OF_A_KIND: usize = 10;
 
-/// What of a command is denied: the packets of a train or of a single one, a flow's segments, or its acknowledgements.
+/// The packets of a command that are denied: the packets of a train or an `inject`, a flow's
+/// segments, or its acknowledgements.
 #[derive(Clone, Copy, PartialEq)]
 pub enum Sent {
     Packets,
@@ -23,25 +25,27 @@ pub enum Sent {
     Acks,
 }
 
-/// What is silently wrong.
+/// Something that is silently wrong.
 #[derive(Clone, Copy, PartialEq)]
 pub enum Concern {
-    /// The steps were used up at a moment, before the `end`, whose moment is given (ns).
+    /// The steps were spent at `moment`, before the `end` at time `end` (ns).
     Spent {
         moment: u64,
         end: u64,
     },
-    /// Packets were dropped for the budget: the first moment (ns), and how many.
+    /// Packets were dropped because of the budget: the time (ns) of the first, and the number.
     OverBudget {
         first: u64,
         count: u64,
     },
-    /// Packets of trains and of single commands were denied: the first moment (ns), and how many.
+    /// Packets of trains and of single commands were denied: the time (ns) of the first, and the
+    /// number.
     Denied {
         first: u64,
         count: u64,
     },
-    /// Packets were dropped since their pipe wasn't there: the first moment (ns), and how many.
+    /// Packets were dropped because their pipe didn't exist: the time (ns) of the first, and the
+    /// number.
     PipeGone {
         first: u64,
         count: u64,
@@ -50,8 +54,8 @@ pub enum Concern {
     UnusedSeed,
     /// A rule names a pipe that no command configures.
     NoPipe(PipeNumber),
-    /// The rules deny packets of these ends: whose, how many where a run has counted them, and whether the rules let
-    /// the other direction through.
+    /// The rules deny packets with these ends: the kind of packets, their number if a run has
+    /// counted them, and whether the rules let the other direction through.
     NoWay {
         ends: Ends,
         sent: Sent,
@@ -60,8 +64,8 @@ pub enum Concern {
     },
 }
 
-/// What is silently wrong, and the number of the command that it is about, from 0; else it is about the whole
-/// experiment.
+/// A concern, and the number of the command that it is about, from 0, or `None` if it is about the
+/// whole experiment.
 #[derive(Clone, Copy, PartialEq)]
 pub struct Warning {
     pub command: Option<u64>,
@@ -88,7 +92,7 @@ fn way_of(sent: Sent, ends: Ends) -> Ends
     }
 }
 
-// So many packets of the flow that this command begins were denied.
+// Appends a warning about the flow that this command begins: `count` of its packets were denied.
 fn put_no_way(
     out: &mut Vec<Warning>,
     rules: &RuleList,
@@ -117,7 +121,7 @@ fn put_no_way(
     Ok(())
 }
 
-// So many packets of the flow with this number were denied.
+// Appends a warning about the flow with this number: `count` of its packets were denied.
 fn put_flow(
     alloc: Global,
     out: &mut Vec<Warning>,
@@ -140,7 +144,7 @@ fn put_flow(
     put_no_way(out, &rules, place as u64, sent, count, &timed.command)
 }
 
-// What a note says.
+// Appends the warning for a note.
 fn put_note(
     alloc: Global,
     out: &mut Vec<Warning>,
@@ -168,7 +172,7 @@ fn put_note(
     }
 }
 
-// What the notes of the experiment with this number say.
+// Appends the warnings for the notes of the experiment with this number.
 fn put_notes(
     alloc: Global,
     out: &mut Vec<Warning>,
@@ -195,7 +199,7 @@ fn put_seed(out: &mut Vec<Warning>, seed: u64, commands: &[Timed]) -> Result<(),
     put_whole(out, Concern::UnusedSeed)
 }
 
-// The first ten, if there are more.
+// Appends the first ten warnings.
 fn put_first(out: &mut Vec<Warning>, warnings: &[Warning]) -> Result<(), AllocError>
     ensures { OnOk result (out.new.items ≡ out.old.items ++ take 10 warnings.now) }
 {
@@ -203,7 +207,7 @@ fn put_first(out: &mut Vec<Warning>, warnings: &[Warning]) -> Result<(), AllocEr
     out.extend_from_slice(&warnings[..most])
 }
 
-// What is seen from the commands alone.
+// Appends the warnings that are found from the commands alone.
 fn put_commands(
     alloc: Global,
     out: &mut Vec<Warning>,
@@ -218,9 +222,10 @@ fn put_commands(
     put_first(out, denials(alloc, flows, commands)?.as_slice())
 }
 
-/// What is silently wrong in an experiment: its number in the text, from 1, its seed, its commands, and behind a run
-/// what was noted of the report. Without a run flows are judged by the rules as well. First what the notes say, then
-/// the seed, the first ten rules without a pipe, and the first ten whose packets the rules deny. Own.
+/// Returns the warnings for an experiment, given its number in the text (from 1), its seed, its
+/// commands and, after a run, the notes on the report. Without a run, flows are judged by the rules
+/// as well. The order is: the notes, the seed, the first ten rules without a pipe, and the first
+/// ten commands whose packets the rules deny. Our choice.
 pub fn warnings(
     alloc: Global,
     number: u64,

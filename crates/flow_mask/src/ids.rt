@@ -6,7 +6,7 @@ ghost use Rattle.emu_model.specs.declared.packets.Packet.{Packet};
 use emu_model::{Mask, Packet, Protocol};
 use std::marker::Model;
 
-/// A packet's five fields, each masked. A contract sees the record of the definitions.
+/// A packet's five fields, each masked. Contracts see the record of the definitions.
 #[derive(Clone, Copy, PartialEq, Eq, Hash)]
 pub struct FlowId {
     proto: u8,
@@ -39,7 +39,7 @@ impl Model for FlowId {
 }
 
 impl FlowId {
-    /// Its five fields, in the form of a mask.
+    /// Returns the five fields, in the form of a mask.
     pub fn fields(&self) -> Mask
         ensures { let i = self.now in
             result ≡ record {
@@ -60,12 +60,12 @@ impl FlowId {
     }
 }
 
-/// What tells one flow from another.
+/// A mask that distinguishes flows.
 pub trait ApplyMask {
-    /// The identifier that each packet gets.
+    /// The identifier of each packet.
     ghost identifier: { Self → Packet → Id };
 
-    /// The packet's flow identifier. Takes no memory.
+    /// Returns the packet's flow identifier. Does not allocate.
     fn apply(&self, packet: &Packet) -> FlowId
         ensures { result ≡ identifier self.now packet.now };
 }
@@ -84,7 +84,7 @@ impl ApplyMask for Mask {
     }
 }
 
-// The protocol's number in an IP header.
+// Returns the protocol's number in an IP header.
 fn number_of(protocol: Protocol) -> u8
     ensures { result ≡ protocol_number protocol }
 {

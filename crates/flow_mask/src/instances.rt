@@ -8,7 +8,7 @@ use indexmap::IndexSet;
 use std::alloc::{AllocError, Global};
 use std::marker::Model;
 
-/// Why there is no instance for an identifier.
+/// The reason why there is no instance for an identifier.
 #[derive(Clone, Copy, Debug, PartialEq)]
 pub enum InstanceError {
     /// The pipe has 256 instances, and none of them is the identifier's.
@@ -16,8 +16,8 @@ pub enum InstanceError {
     NoMemory = 99,
 }
 
-/// The different identifiers that came, in the order of their first coming. The place of one is the
-/// number of its instance.
+/// The different identifiers, in the order of their first arrival. The place of an identifier is
+/// the number of its instance.
 #[derive(Drop)]
 pub struct Instances {
     ids: IndexSet<FlowId>,
@@ -36,10 +36,10 @@ impl Model for Instances {
 }
 
 impl Instances {
-    // How many instances a pipe may have.
+    // The maximum number of instances of a pipe.
     const MOST: usize = 256;
 
-    /// No instance. Takes no memory.
+    /// Creates a set without instances. Does not allocate.
     pub fn new(alloc: Global) -> Self
         ensures { result.ids ≡ [] }
     {
@@ -48,7 +48,7 @@ impl Instances {
         }
     }
 
-    /// How many instances there are, 256 at most.
+    /// Returns the number of instances, at most 256.
     pub fn len(&self) -> usize
         ensures len { result ≡ length self.now.ids }
         ensures most { result ≤ 256 }
@@ -56,13 +56,13 @@ impl Instances {
         self.ids.len()
     }
 
-    /// The number of the identifier's instance, if it came before.
+    /// Returns the number of the identifier's instance, if it exists.
     #[inline(always)]
     pub fn find(&self, id: FlowId) -> Option<u8>
         ensures index { result ≡ position (same_flow id) self.now.ids }
         ensures found { is_some result ≡ list_any (same_flow id) self.now.ids }
     {
-        // The one instance of a pipe without a mask needs no hash.
+        // The only instance of a pipe without a mask needs no hash.
         if let Some(first) = self.ids.first()
             && id == *first
         {
@@ -72,8 +72,8 @@ impl Instances {
         Some(index as u8)
     }
 
-    /// The number of the identifier's instance, also where it is still to be made. None where the pipe
-    /// has 256 others.
+    /// Returns the number of the identifier's instance, even if the instance must still be created,
+    /// or None if the pipe has 256 others.
     pub fn number_for(&self, id: FlowId) -> Option<u8>
         ensures { result ≡ instance_of self.now.ids id }
     {
@@ -87,7 +87,7 @@ impl Instances {
         Some(next as u8)
     }
 
-    /// Makes the growth that `find_or_make` of this identifier needs, and changes nothing else.
+    /// Reserves the memory that `find_or_make` of this identifier needs. Nothing else changes.
     pub fn find_or_make_ready(&mut self, id: FlowId) -> Result<(), AllocError>
         ensures ready { OnOk result
             (list_any (same_flow id) self.old.ids ≡ false → length self.old.ids < 256 →
@@ -104,7 +104,8 @@ impl Instances {
         self.ids.reserve(1)
     }
 
-    /// The number of the identifier's instance, which is made where it did not come before.
+    /// Returns the number of the identifier's instance, and creates the instance if the identifier
+    /// is new.
     pub fn find_or_make(&mut self, id: FlowId) -> Result<u8, InstanceError>
         ensures ok { IfOk result (λ index. instance_of self.old.ids id ≡ Some index) }
         ensures made { OnOk result (self.new.ids ≡ different self.old.ids (id ∷ [])) }

@@ -1,4 +1,5 @@
-//! `run`: all is read before any step, and all steps are made before anything is written.
+//! `run`, which reads all of its input before the first step, and makes all steps before it writes
+//! anything.
 
 ghost use Rattle.std.specs.Prelude.{◌≡◌, Err, true};
 ghost use Rattle.alone.specs.Reports.{reports, Calls, Ends};
@@ -10,10 +11,11 @@ use std::alloc::Global;
 use std::sync::Wait;
 use std::thread::Threads;
 
-/// Reads a scenario and runs its experiments by the workers of a plan, each of which has a thread; then writes their
-/// reports in its order: just what `run_alone` writes, whatever the plan and the gate. Its faults are those of
-/// `run_alone`; `Memory` also where a thread can't be started, `Gate` only where the gate said so, `Strange` where a
-/// dossier is nobody's, there is none or there are two, or an experiment was lost.
+/// Reads a scenario, runs its experiments with the workers of a plan, each in a thread, and then
+/// writes their reports in the scenario's order: exactly what `run_alone` writes, whatever the plan
+/// and the gate. Its faults are those of `run_alone`, and also `Memory` if a thread can't be
+/// started, `Gate` only if the gate refused, and `Strange` if a dossier belongs to no tenant, is
+/// missing or exists twice, or an experiment was lost.
 pub fn run<H: Threads + Wait + Sync, R: Inlet, W: Outlet, G: Gate>(
     rt: &H,
     alloc: Global,
@@ -31,9 +33,15 @@ pub fn run<H: Threads + Wait + Sync, R: Inlet, W: Outlet, G: Gate>(
     run_with_progress(rt, alloc, reader, writer, plan, gate, &Silent)
 }
 
-/// `run`, with somebody who is told how many experiments have ended.
+/// Runs like `run`, and reports to `progress` how many experiments have ended.
 #[tactic(auto, using(alone::proofs::Stopping::unlimited_calls, alone::proofs::Stopping::calls_same, crate::proofs::Stopping::gate_same))]
-pub fn run_with_progress<H: Threads + Wait + Sync, R: Inlet, W: Outlet, G: Gate, P: Progress + Sync>(
+pub fn run_with_progress<
+    H: Threads + Wait + Sync,
+    R: Inlet,
+    W: Outlet,
+    G: Gate,
+    P: Progress + Sync,
+>(
     rt: &H,
     alloc: Global,
     reader: &mut R,

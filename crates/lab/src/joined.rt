@@ -1,4 +1,5 @@
-//! What the joins of all workers show: a place for each tenant's dossier, the closings, and the gravest fault.
+//! The results of joining all workers: a place for each tenant's dossier, the closings, and the
+//! most serious fault.
 
 ghost use Rattle.std.specs.Prelude.{◌≡◌, ◌≢◌, ◌++◌, ◌∷◌, [], List, Option, None, Some, All, IsTrue, IsFalse, length, IfOk, IfErr};
 ghost use Rattle.std.specs.Bool.{Decides};
@@ -18,7 +19,7 @@ use emu_model::Ending;
 use shard::Dossier;
 use std::alloc::Global;
 
-/// What all workers gave.
+/// The results of all workers.
 #[derive(Drop)]
 pub(crate) struct Joined {
     pub dossiers: Vec<Option<Dossier<RingMail>>>,
@@ -26,7 +27,7 @@ pub(crate) struct Joined {
     pub fault: Option<RunFault>,
 }
 
-// The graver of two faults: memory, then the gate, then what is strange.
+// Returns the more serious of two faults: memory, then the gate, then what is strange.
 fn graver_of(a: Option<RunFault>, b: RunFault) -> RunFault
     ensures { result ≡ graver_of a b }
 {
@@ -40,7 +41,7 @@ fn graver_of(a: Option<RunFault>, b: RunFault) -> RunFault
     }
 }
 
-// Whether an experiment was halted for want of memory.
+// Returns true if an experiment was halted because memory ran out.
 fn is_halted(ending: Ending) -> bool
     ensures halted { IsTrue result → ending ≡ Halted }
     ensures ended { IsFalse result → ending ≢ Halted }
@@ -53,7 +54,7 @@ fn is_halted(ending: Ending) -> bool
 }
 
 impl Joined {
-    // A place for each of so many names.
+    // Creates a place for each of `count` names.
     fn new(alloc: Global, count: usize) -> Result<Joined, RunFault>
         ensures len { IfOk result (λ j. length j.dossiers.items ≡ count) }
         ensures none { IfOk result (λ j. Holds j [] [] []) }
@@ -73,7 +74,7 @@ impl Joined {
         })
     }
 
-    // Keeps the graver of its fault and another.
+    // Keeps the more serious of the present fault and another.
     fn note(&mut self, fault: RunFault)
         ensures graver { self.new.fault ≡ Some (graver_of self.old.fault fault) }
         ensures same { (self.new.dossiers ≡ self.old.dossiers)
@@ -82,7 +83,7 @@ impl Joined {
         self.fault = Some(graver_of(self.fault, fault));
     }
 
-    // Notes a worker's fault, where it has one.
+    // Notes a worker's fault, if it has one.
     #[tactic(auto, using(crate::proofs::Gatherings::worker_none, crate::proofs::Gatherings::worker_noted))]
     fn note_worker(&mut self, fault: Option<RunFault>)
         requires { IsWorkers fault }
@@ -95,7 +96,7 @@ impl Joined {
         }
     }
 
-    // Whether the place of a name is there, and free.
+    // Returns true if the place of a name exists and is free.
     fn is_free(&self, place: usize) -> bool
         ensures { Decides result (IsFreeAt self.now.dossiers.items place) }
     {
@@ -105,8 +106,8 @@ impl Joined {
         }
     }
 
-    // Puts a dossier at its name. One that was halted is want of memory; a second one for a name, or one for no tenant,
-    // is strange.
+    // Stores a dossier at its name. A halted one means that memory ran out; a second one for a
+    // name, or one that belongs to no tenant, is strange.
     #[tactic(auto, using(crate::proofs::Gatherings::memory_noted, crate::proofs::Gatherings::strange_noted, crate::proofs::Gatherings::crowded))]
     fn put(&mut self, dossier: Dossier<RingMail>)
         ensures len { length self.new.dossiers.items ≡ length self.old.dossiers.items }
@@ -125,7 +126,7 @@ impl Joined {
         self.dossiers[place] = Some(dossier);
     }
 
-    // Keeps a closing.
+    // Stores a closing.
     #[tactic(auto, using(crate::proofs::Gatherings::memory_noted, crate::proofs::Gatherings::closing_kept))]
     fn keep(&mut self, closing: Closing)
         ensures len { length self.new.dossiers.items ≡ length self.old.dossiers.items }
@@ -137,7 +138,7 @@ impl Joined {
         }
     }
 
-    // Takes in what a worker gave.
+    // Adds the results of a worker.
     fn take(&mut self, given: Given)
         requires { IsWorkers given.fault }
         ensures len { length self.new.dossiers.items ≡ length self.old.dossiers.items }
@@ -160,7 +161,7 @@ impl Joined {
     }
 }
 
-/// Takes in what each worker gave, with a place for each of so many names.
+/// Collects the results of all workers, with a place for each of `count` names.
 pub(crate) fn gather(alloc: Global, all: Vec<Given>, count: usize) -> Result<Joined, RunFault>
     requires { All (λ g. IsWorkers g.fault) all.items }
     ensures len { IfOk result (λ j. length j.dossiers.items ≡ count) }

@@ -1,4 +1,5 @@
-//! The calls of the program by many workers: the bytes of a scenario go in, the bytes of its reports come out. Own.
+//! The calls of the program with many workers, from the bytes of a scenario to the bytes of its
+//! reports. Our choice.
 #![tactic(auto)]
 
 mod calls;

@@ -1,4 +1,4 @@
-//! What an experiment that was run leaves.
+//! The outcome of an experiment that was run.
 
 ghost use Rattle.std.specs.Prelude.{◌≡◌, ◌++◌, IfOk};
 ghost use Rattle.report.specs.Lines.{report_of};
@@ -9,7 +9,7 @@ use report::Archive;
 use std::alloc::{AllocError, Global};
 use std::marker::Model;
 
-/// What a run leaves: its records in their order, of which the first are packed, and its counters.
+/// The outcome of a run: its records in order, the first of them packed, and its counters.
 #[derive(Drop)]
 pub(crate) struct Outcome {
     archive: Archive,
@@ -27,7 +27,7 @@ impl Model for Outcome {
 }
 
 impl Outcome {
-    /// These records and counters.
+    /// Creates an outcome of these records and counters.
     pub(crate) fn new(archive: Archive, rest: Vec<Record>, counters: Counters) -> Self
         ensures { result ≡ record { records = archive ++ rest.items; counters = counters } }
     {
@@ -38,7 +38,8 @@ impl Outcome {
         }
     }
 
-    /// The report of an experiment of this name that left it. `AllocError` where it has no room.
+    /// Returns the report of an experiment with this name and outcome. Fails with `AllocError` if
+    /// memory runs out.
     pub(crate) fn into_report(self, alloc: Global, name: &[u8]) -> Result<Report, AllocError>
         ensures { IfOk result (λ r. r ≡ report_of name.now self.records self.counters) }
     {

@@ -1,10 +1,10 @@
-//! How a scenario is run by many workers, and who watches it.
+//! The plan by which many workers run a scenario, and the gate that watches them.
 
 ghost use Rattle.std.specs.Prelude.{◌≡◌, ℕ, IfSome, IfNone, IsFalse, Bool, true, false};
 ghost use Rattle.lab.specs.Plans.{IsPlan};
 
-/// How many workers there are, 1 to 16, and after how many turns each of them offers an experiment to the others, at
-/// most 10^6; 0 is never.
+/// The number of workers, 1 to 16, and the number of turns after which each of them offers an
+/// experiment to the others, at most 10^6; 0 means never.
 #[derive(Clone, Copy, Debug)]
 pub struct Plan {
     pub(crate) workers: usize,
@@ -13,7 +13,7 @@ pub struct Plan {
 }
 
 impl Plan {
-    /// None just where a number is out of its range.
+    /// Creates a plan. Returns None exactly if a number is out of its range.
     pub fn new(workers: usize, moves: u32) -> Option<Plan>
         ensures some { IfSome result (λ p. (p.workers ≡ workers) × (p.moves ≡ moves)) }
         ensures none { IfNone result (¬ IsPlan workers moves) }
@@ -25,16 +25,17 @@ impl Plan {
     }
 }
 
-/// Watches the turns of a run.
+/// An observer of the turns of a run, which can end the run.
 pub trait Gate: Send + Sync {
-    /// Whether a gate of this type may ever return false.
+    /// True if a gate of this type may return false.
     ghost may_refuse: { Bool };
 
-    /// What a gate may return after a turn of this bench and of the experiment with this name.
+    /// The result that a gate may return after a turn of this bench and of the experiment with this
+    /// name.
     ghost may_return: { Self → ℕ → ℕ → Bool → Type 0 };
 
-    /// Called after each turn that ran, with the number of the bench and the name of the experiment. At false the run
-    /// ends.
+    /// Observes a turn that ran, given the number of the bench and the name of the experiment. If
+    /// it returns false, the run ends.
     fn ran(&self, bench: u32, name: u32) -> bool
         ensures returns { may_return self.now bench name result }
         ensures refused { IsFalse result → may_refuse ≡ true };

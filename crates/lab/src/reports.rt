@@ -10,7 +10,7 @@ use control::Experiment;
 use experiment::Report;
 use std::alloc::Global;
 
-// The report of an experiment, from what it left.
+// Returns the report of an experiment, given its outcome.
 fn report_of_one(alloc: Global, script: &Experiment, outcome: Outcome) -> Result<Report, RunFault>
     requires { outcome ≡ trace_alone script.now }
     ensures ok { IfOk result (λ report. report ≡ report_alone script.now) }
@@ -22,7 +22,8 @@ fn report_of_one(alloc: Global, script: &Experiment, outcome: Outcome) -> Result
     Ok(report)
 }
 
-/// The report of each experiment from what it left, in their order. `Memory` where memory was refused.
+/// Returns the report of each experiment, given its outcome, in order. Fails with `Memory` if
+/// memory runs out.
 pub(crate) fn reports_in_turn(
     alloc: Global,
     scripts: &[Experiment],

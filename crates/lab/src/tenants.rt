@@ -1,4 +1,5 @@
-//! The side of the tenants, in the calling thread: each posts the commands of its experiment, and settles in the end.
+//! The tenants' side, in the calling thread: each tenant posts the commands of its experiment, and
+//! settles at the end.
 
 ghost use Rattle.std.specs.Prelude.{◌≡◌, ◌≢◌, ◌<◌, length, map, IfOk, IfErr, IfSome};
 ghost use Rattle.emu_model.specs.declared.records.Ending.TheVariants.{Halted};
@@ -20,7 +21,7 @@ use std::alloc::Global;
 use std::sync::Wait;
 use std::thread;
 
-// Reads letters, a few at most.
+// Reads letters, but only a few.
 fn read_some(tenant: &mut Tenant) -> Result<(), RunFault>
     ensures same { SameTenant tenant.old tenant.new × (posted tenant.new ≡ posted tenant.old) }
     ensures err { IfErr result IsMemory }
@@ -35,7 +36,7 @@ fn read_some(tenant: &mut Tenant) -> Result<(), RunFault>
     Ok(())
 }
 
-// Posts the commands that come next. Whether all are posted.
+// Posts the next commands. Returns true if all are posted.
 fn post_some(tenant: &mut Tenant, commands: &[Timed]) -> Result<bool, RunFault>
     requires { BeginsWith commands.now (posted tenant.old) }
     ensures same { SameTenant tenant.old tenant.new }
@@ -56,7 +57,8 @@ fn post_some(tenant: &mut Tenant, commands: &[Timed]) -> Result<bool, RunFault>
     Ok(true)
 }
 
-// Posts for one tenant, and reads some of its letters if it is not done. Whether all its commands are posted.
+// Posts for one tenant, and reads some of its letters if it is not done. Returns true if all its
+// commands are posted.
 fn serve_one(tenant: &mut Tenant, experiment: &Experiment) -> Result<bool, RunFault>
     requires { BeginsWith experiment.now.commands (posted tenant.old) }
     ensures same { SameTenant tenant.old tenant.new }
@@ -70,7 +72,7 @@ fn serve_one(tenant: &mut Tenant, experiment: &Experiment) -> Result<bool, RunFa
     Ok(false)
 }
 
-// Serves each tenant once. Whether all commands are posted.
+// Serves each tenant once. Returns true if all commands are posted.
 fn serve_all(tenants: &mut [Tenant], scenario: &[Experiment]) -> Result<bool, RunFault>
     requires len { length tenants.old ≡ length scenario.now }
     requires serves { ServesAll tenants.old scenario.now }
@@ -86,7 +88,7 @@ fn serve_all(tenants: &mut [Tenant], scenario: &[Experiment]) -> Result<bool, Ru
     Ok(all)
 }
 
-// Posts and reads until all is posted, or the run is over.
+// Posts and reads until all commands are posted, or the run is over.
 fn serve_on<R: Wait>(
     rt: &R,
     tenants: &mut [Tenant],
@@ -110,7 +112,7 @@ fn serve_on<R: Wait>(
     unreachable!()
 }
 
-/// Posts and reads until all is posted, or the run is over. Gives the tenants back.
+/// Posts and reads until all commands are posted, or the run is over. Returns the tenants.
 pub(crate) fn serve<R: Wait>(
     rt: &R,
     mut tenants: Vec<Tenant>,
@@ -125,7 +127,8 @@ pub(crate) fn serve<R: Wait>(
     Ok(tenants)
 }
 
-/// Opens a tenant for each experiment, and puts its parcel behind those that wait for a worker, each worker in its turn.
+/// Opens a tenant for each experiment, and adds its parcel to those that wait for a worker, for
+/// each worker in turn.
 pub(crate) fn open_all(
     alloc: Global,
     scenario: &[Experiment],
@@ -155,8 +158,8 @@ pub(crate) fn open_all(
     Ok(tenants)
 }
 
-// Settles one tenant, whose experiment was not halted. `Strange` just where there is no dossier, or it isn't the
-// tenant's.
+// Settles one tenant, whose experiment was not halted. Fails with `Strange` exactly if there is no
+// dossier, or it doesn't belong to the tenant.
 fn settle_one(
     tenant: Tenant,
     dossier: Option<Dossier<RingMail>>,
@@ -180,8 +183,8 @@ fn settle_one(
     Ok(Outcome::new(archive, rest, counters))
 }
 
-/// Settles each tenant with the dossier at its place. `Strange` just where one has none, or one that isn't its own;
-/// all memory is asked for before any is settled.
+/// Settles each tenant with the dossier at its place. Fails with `Strange` exactly if a tenant has
+/// none, or one that doesn't belong to it. Allocates all memory before it settles any.
 pub(crate) fn settle_all(
     alloc: Global,
     tenants: Vec<Tenant>,

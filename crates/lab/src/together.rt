@@ -1,4 +1,4 @@
-//! All experiments of a scenario by many workers, each of which has a thread.
+//! All experiments of a scenario on many workers, each in a thread.
 
 ghost use Rattle.std.specs.Prelude.{◌≡◌, ◌≤◌, List, Option, All, None, true, length, vec_len, map, IfOk, IfErr};
 ghost use Rattle.shard.specs.Stand.{Final};
@@ -25,7 +25,7 @@ use std::sync::Wait;
 use std::thread;
 use std::thread::{JoinHandle, Threads};
 
-// The benches, and the thief's end of each one's deque.
+// Creates the benches, and the thief's end of each bench's deque.
 fn benches_and_peers(alloc: Global, count: usize) -> Result<(Vec<Bench>, Vec<Peer>), RunFault>
     ensures ok { IfOk result (λ r. (vec_len r.0 ≡ count) × (vec_len r.1 ≡ count)) }
     ensures err { IfErr result IsMemory }
@@ -52,7 +52,7 @@ fn benches_and_peers(alloc: Global, count: usize) -> Result<(Vec<Bench>, Vec<Pee
     Ok((benches, peers))
 }
 
-// So many lists of parcels, none of which waits yet.
+// Creates `count` empty lists of parcels.
 fn empty_lists(alloc: Global, count: usize) -> Result<Vec<Vec<Parcel<RingMail>>>, RunFault>
     ensures ok { IfOk result (λ lists. vec_len lists ≡ count) }
     ensures err { IfErr result IsMemory }
@@ -67,7 +67,8 @@ fn empty_lists(alloc: Global, count: usize) -> Result<Vec<Vec<Parcel<RingMail>>>
     Ok(lists)
 }
 
-// Gives each bench the parcels that wait for it, and the peer of the next one, where there is another.
+// Creates a job for each bench, with the parcels that wait for it, and the peer of the next bench
+// if there is another.
 fn jobs_of(
     alloc: Global,
     mut benches: Vec<Bench>,
@@ -88,7 +89,7 @@ fn jobs_of(
     while let Some(bench) = benches.pop() {
         let peer = peers.pop();
         let mut waiting = lists.pop().unwrap_or(Vec::new(alloc));
-        // The last of a list is taken first.
+        // Parcels are taken from the end of a list.
         waiting.as_mut_slice().reverse();
         let number = benches.len() as u32;
         let job = Job {
@@ -104,7 +105,7 @@ fn jobs_of(
     Ok(jobs)
 }
 
-// Joins each worker. What one gave is let go where memory is refused.
+// Joins each worker. Discards a worker's results if memory runs out.
 fn join_all<G: Gate, R: Threads>(
     rt: &R,
     alloc: Global,
@@ -122,9 +123,10 @@ fn join_all<G: Gate, R: Threads>(
     all
 }
 
-/// Runs all experiments by the workers of a plan, and answers what each leaves, in the scenario's order: just what it
-/// leaves by itself. `Memory` where memory was refused, an experiment was halted or a thread can't be started, and
-/// `Gate` only where the gate said so; `Memory` comes before `Gate`, and both before `Strange`.
+/// Runs all experiments with the workers of a plan, and returns their outcomes in the scenario's
+/// order: exactly what each leaves when it runs alone. Fails with `Memory` if memory runs out, an
+/// experiment is halted or a thread can't be started, and with `Gate` only if the gate refused;
+/// `Memory` comes before `Gate`, and both before `Strange`.
 pub(crate) fn run_together<G: Gate, R: Threads + Wait + Sync, P: Progress + Sync>(
     rt: &R,
     alloc: Global,
@@ -177,8 +179,8 @@ pub(crate) fn run_together<G: Gate, R: Threads + Wait + Sync, P: Progress + Sync
     conclude(alloc, tenants, given, scenario)
 }
 
-// Answers what the workers' joins show: each experiment's outcome, where no worker has a fault, none was halted, each
-// tenant has its dossier and no more, and each name is accounted for.
+// Evaluates the workers' results: returns each experiment's outcome if no worker has a fault, no
+// experiment was halted, each tenant has its dossier and no other, and each name is accounted for.
 fn conclude(
     alloc: Global,
     tenants: Vec<Tenant>,

@@ -1,5 +1,5 @@
-//! `run` within limits: all is read before any step, all steps are made before anything is written, and what goes past a
-//! limit stops it before either.
+//! `run` within limits: it reads all of its input before the first step, and makes all steps before
+//! it writes anything; an exceeded limit stops it before either.
 
 ghost use Rattle.std.specs.Prelude.{◌≡◌, ◌≢◌, Some, flat_map, IfOk, IfErr, OnOk, Err, true, false};
 ghost use Rattle.alone.specs.declared.limits.Stop.TheVariants as stops;
@@ -17,7 +17,7 @@ use std::alloc::Global;
 use std::sync::Wait;
 use std::thread::Threads;
 
-// Runs the experiments of a text by the workers of a plan and returns their reports.
+// Runs the experiments of a text with the workers of a plan, and returns their reports.
 #[tactic(auto, using(alone::proofs::Stopping::text_stop, alone::proofs::Stopping::text_unread, alone::proofs::Stopping::steps_stop, alone::proofs::Stopping::steps_unread, alone::proofs::Stopping::output_stop, alone::proofs::Stopping::output_unread, alone::proofs::Stopping::made_within, crate::proofs::Stopping::together_stop, crate::proofs::Stopping::together_unread, crate::proofs::Stopping::text_not_gate, crate::proofs::Stopping::steps_not_gate, crate::proofs::Stopping::output_not_gate))]
 fn made_together<H: Threads + Wait + Sync, G: Gate, P: Progress + Sync>(
     rt: &H,
@@ -53,8 +53,9 @@ fn made_together<H: Threads + Wait + Sync, G: Gate, P: Progress + Sync>(
     Ok(Made { scenario, reports })
 }
 
-/// `run_with_progress` within limits: it stops exactly if `run_alone_within` does, and returns the same. Its faults are those of
-/// `run`. `on_text` and `made` speak of the text that was read, for every reader.
+/// Runs like `run_with_progress`, within limits: it stops exactly if `run_alone_within` does, and returns
+/// the same. Its faults are those of `run`. The clauses `on_text` and `made` are about the text
+/// that was read, for every reader.
 #[tactic(auto, using(alone::proofs::Stopping::read_calls, alone::proofs::Stopping::stop_calls, alone::proofs::Stopping::out_calls, alone::proofs::Stopping::stop_calls_read, alone::proofs::Stopping::out_calls_read, crate::proofs::Stopping::out_not_gate, crate::proofs::Stopping::input_not_gate))]
 pub fn run_within<H: Threads + Wait + Sync, R: Inlet, W: Outlet, G: Gate, P: Progress + Sync>(
     rt: &H,

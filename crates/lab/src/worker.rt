@@ -1,5 +1,5 @@
-//! What one worker does: it turns the residents of its bench, offers one of them now and then, and fetches others
-//! where it has nothing to do.
+//! The work of one worker: it makes turns of the residents of its bench, sometimes offers one of
+//! them, and fetches others when it has nothing to do.
 
 ghost use Rattle.std.specs.Prelude.{◌≡◌, ◌||◌, not, None, true, OnOk, IfErr, IsTrue};
 ghost use Rattle.lab.specs.Desks.{LosesNone, Readmits, HandsOver, parcel_of};
@@ -15,14 +15,15 @@ use std::sync::Wait;
 use std::sync::atomic::{AtomicBool, AtomicU64, Ordering};
 use std::thread;
 
-/// How many turns one experiment makes before another's: what it holds is at hand then.
+/// The number of turns that one experiment makes before another: its data is in the processor's
+/// caches then.
 const AT_ONCE: u32 = 1024;
 
-/// With so many residents a bench admits no other, so that few shelves take memory at a time.
+/// A bench with this many residents admits no more. This bounds the memory for shelves.
 const MAX_ACTIVE: usize = 2;
 
-/// What the workers share: how many experiments have ended, and whether there is a fault. Nothing is claimed of
-/// either.
+/// The state that the workers share: how many experiments have ended, and whether there is a fault.
+/// No contract states anything about either.
 #[derive(Drop)]
 pub(crate) struct Board {
     ended: AtomicU64,
@@ -39,25 +40,25 @@ impl Board {
         }
     }
 
-    /// Whether there is nothing left to do.
+    /// Returns true if there is nothing left to do.
     pub(crate) fn is_over(&self) -> bool {
         self.fault.load(Ordering::SeqCst) || self.ended.load(Ordering::SeqCst) >= self.total
     }
 
-    /// Has all workers leave off.
+    /// Makes all workers stop.
     pub(crate) fn stop(&self) {
         self.fault.store(true, Ordering::SeqCst);
     }
 
-    // One more has ended.
+    // Counts an experiment that has ended.
     fn count<P: Progress>(&self, progress: &P) {
         let before = self.ended.fetch_add(1, Ordering::SeqCst);
         progress.note_ends(before.wrapping_add(1), self.total);
     }
 }
 
-/// The work of one worker: its bench with its number, where it may adopt from, and the parcels that wait for it, the
-/// first one last.
+/// The work of one worker: its bench with its number, the peer from which it may adopt, and the
+/// parcels that wait for it, the first one at the end.
 #[derive(Drop)]
 pub(crate) struct Job {
     pub number: u32,
@@ -66,8 +67,8 @@ pub(crate) struct Job {
     pub waiting: Vec<Parcel<RingMail>>,
 }
 
-/// What a worker gives: its closed bench, the dossiers of those that ended there, the parcels that still wait, and its
-/// fault.
+/// The results of a worker: its closed bench, the dossiers of the experiments that ended there, the
+/// parcels that still wait, and its fault.
 #[derive(Drop)]
 pub(crate) struct Given {
     pub closing: Closing,
@@ -76,7 +77,8 @@ pub(crate) struct Given {
     pub fault: Option<RunFault>,
 }
 
-/// What a worker gives at its join. By its type a gate that always says yes was never the cause of a fault.
+/// The result of joining a worker. Its type guarantees that a gate that always returns true was
+/// never the cause of a fault.
 #[derive(Drop)]
 pub(crate) struct Report<G: Gate> {
     pub of: PhantomData<G>,
@@ -84,7 +86,7 @@ pub(crate) struct Report<G: Gate> {
     pub ghost honest: { is_honest G.may_refuse given.fault ≡ true },
 }
 
-// Asks the gate after each turn of a bench, and counts them.
+// An observer that calls the gate after each turn of a bench, and counts the turns.
 #[derive(Drop)]
 struct Watching<'a, G: Gate> {
     gate: &'a G,
@@ -110,22 +112,23 @@ impl<G: Gate> Watch for Watching<'_, G> {
     }
 }
 
-// What a worker has at hand, and how many turns were made since it offered a resident last.
+// The state of a worker, and the number of turns since it last offered a resident.
 #[derive(Drop)]
 struct Desk {
     number: u32,
     bench: Bench,
     peer: Option<Peer>,
     dossiers: Vec<Dossier<RingMail>>,
-    // The parcels that wait, the first one last. A shelf takes its memory when its parcel is admitted.
+    // The parcels that wait, the first one at the end. A shelf gets its memory when its parcel is
+    // admitted.
     waiting: Vec<Parcel<RingMail>>,
     turns: u32,
-    // The slot that is polled next for one to begin.
+    // The next slot to poll for a resident that can start.
     cursor: usize,
 }
 
 impl Desk {
-    // Admits a parcel that was handed back, or waited.
+    // Admits a parcel that was returned, or that waited.
     fn admit_again(&mut self, parcel: Parcel<RingMail>) -> Result<(), RunFault>
         ensures ok { OnOk result (Readmits parcel self.old self.new) }
         ensures err { IfErr result IsMemory }
@@ -136,7 +139,7 @@ impl Desk {
         Ok(())
     }
 
-    // Admits what could not be taken in.
+    // Admits a parcel that could not be taken in.
     fn admit_refused(&mut self, refused: TakeInError<RingMail>) -> Result<(), RunFault>
         ensures ok { OnOk result (Readmits (parcel_of refused) self.old self.new) }
         ensures err { IfErr result IsMemory }
@@ -164,7 +167,7 @@ impl Desk {
         }
     }
 
-    // Takes what another bench pushed first. Whether something came.
+    // Takes the parcel that another bench pushed first. Returns true if there was one.
     #[tactic(auto, using(crate::proofs::Desking::loses_none, crate::proofs::Desking::loses_none_adopted, crate::proofs::Desking::loses_none_again))]
     fn adopt(&mut self) -> Result<bool, RunFault>
         ensures ok { OnOk result (LosesNone self.old self.new) }
@@ -185,7 +188,8 @@ impl Desk {
         }
     }
 
-    // Takes what it pushed first itself, or else what another bench did. Whether something came.
+    // Takes back the parcel that this bench pushed first, or else the one that another bench did.
+    // Returns true if there was one.
     #[tactic(auto, using(crate::proofs::Desking::loses_none, crate::proofs::Desking::loses_none_both, crate::proofs::Desking::loses_none_again))]
     fn fetch(&mut self) -> Result<bool, RunFault>
         ensures ok { OnOk result (LosesNone self.old self.new) }
@@ -214,8 +218,9 @@ impl Desk {
         }
     }
 
-    // Polls residents in turn, until one can make a turn and could not before. Whether there is one. So a bench works on one
-    // experiment after the other, and what it turns is at hand.
+    // Polls residents in turn, until one that couldn't make a turn before can make one. Returns
+    // true if there is one. A bench therefore works on one experiment after the other, whose data
+    // stays in the processor's caches.
     #[tactic(auto, using(crate::proofs::Desking::loses_none, crate::proofs::Desking::loses_none_both))]
     fn start_next(&mut self) -> Result<bool, RunFault>
         ensures ok { OnOk result (LosesNone self.old self.new) }
@@ -238,7 +243,8 @@ impl Desk {
         Ok(false)
     }
 
-    // Admits the parcel that waits first, if few residents wait for their commands. Whether it did.
+    // Admits the first waiting parcel, if few residents wait for their commands. Returns true if it
+    // did.
     #[tactic(auto, using(crate::proofs::Desking::loses_none))]
     fn admit_next(&mut self) -> Result<bool, RunFault>
         ensures ok { OnOk result (LosesNone self.old self.new) }
@@ -250,13 +256,14 @@ impl Desk {
         let Some(parcel) = self.waiting.pop() else {
             return Ok(false);
         };
-        // It comes to the least vacant slot, so it is found there at once.
+        // The parcel gets the first vacant slot, so polling finds it at once.
         self.cursor = 0;
         self.admit_again(parcel)?;
         Ok(true)
     }
 
-    // Whether the deque has less than it should: one more waits there where another bench may have nothing to do.
+    // Returns true if the deque has fewer parcels than it should: it should have one more if there
+    // is another bench that may have nothing to do.
     #[tactic(auto, using(crate::proofs::Desking::loses_none))]
     fn runs_low(&mut self) -> bool
         ensures { LosesNone self.old self.new }
@@ -265,8 +272,8 @@ impl Desk {
         self.bench.waiting() <= ahead
     }
 
-    // After turns of a resident: it is polled, so that its next command comes and its records are published, and it is
-    // offered where its time has come.
+    // Polls a resident after its turns, to get its next command and publish its records, and offers
+    // it if enough turns were made.
     #[tactic(auto, using(crate::proofs::Desking::loses_none, crate::proofs::Desking::loses_none_both))]
     fn after(&mut self, name: u32, moves: u32) -> Result<(), RunFault>
         ensures ok { OnOk result (LosesNone self.old self.new) }
@@ -283,7 +290,7 @@ impl Desk {
         Ok(())
     }
 
-    // How many turns may follow the next one at once.
+    // Returns the number of turns that may follow the next one at once.
     fn more(&self, moves: u32) -> u32 {
         if moves == 0 {
             return AT_ONCE - 1;
@@ -294,7 +301,7 @@ impl Desk {
             .saturating_sub(1)
     }
 
-    // Some turns of one resident. Whether something ran.
+    // Makes some turns of one resident. Returns true if any ran.
     #[tactic(auto, using(crate::proofs::Desking::loses_none, crate::proofs::Desking::loses_none_both, crate::proofs::Desking::loses_none_ended))]
     fn turn<G: Gate, P: Progress>(
         &mut self,
@@ -335,7 +342,8 @@ impl Desk {
         }
     }
 
-    // Makes a turn, or else finds something to be turned. Whether there was anything to do.
+    // Makes a turn, or else finds a resident that can make one. Returns true if there was anything
+    // to do.
     #[tactic(auto, using(crate::proofs::Desking::loses_none_both))]
     fn work_on<G: Gate, P: Progress>(
         &mut self,
@@ -382,7 +390,7 @@ impl Desk {
     }
 }
 
-/// Runs a bench until all experiments have ended, or there is a fault anywhere.
+/// Runs a bench until all experiments have ended, or there is a fault in any worker.
 #[tactic(auto, using(crate::proofs::Desking::hands_over))]
 pub(crate) fn work<G: Gate, R: Wait, P: Progress>(
     rt: &R,

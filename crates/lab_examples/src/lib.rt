@@ -1,5 +1,6 @@
-//! Worked examples by the calls of the program: all of it is tests. Reports by one thread and by many workers, faults,
-//! readers and writers that fail at each call in turn, and memory that is refused. Our choice.
+//! Worked examples of the calls of the program. The crate contains only tests: reports by one
+//! thread and by many workers, faults, readers and writers that fail at each call in turn, and
+//! failed allocations. Our choice.
 #![tactic(auto)]
 
 #[cfg(test)]

@@ -1,4 +1,4 @@
-//! Worked examples over memory: what is written, and the fault of each text that is none.
+//! Worked examples over memory: the output, and the fault of each text that is not a scenario.
 
 use alone::{
     Device, Inlet, Limits, Outlet, RunFault, Silent, Stop, Trouble, check, run_alone,
@@ -21,7 +21,7 @@ mod limits;
 mod sessions;
 mod workers;
 
-/// How a scenario is run: by itself, by two workers, or not at all.
+/// The way in which a scenario is run: by itself, with two workers, or not at all.
 #[derive(Clone, Copy, PartialEq)]
 enum Way {
     Alone,
@@ -29,7 +29,7 @@ enum Way {
     Check,
 }
 
-/// What a call answers from a reader to a writer.
+/// Returns the result of a call from a reader to a writer.
 fn call<H: Threads + Wait + Sync, R: Inlet, W: Outlet>(
     rt: &H,
     alloc: Global,
@@ -49,7 +49,7 @@ fn call<H: Threads + Wait + Sync, R: Inlet, W: Outlet>(
     run(rt, alloc, reader, writer, plan, &OpenGate)
 }
 
-/// What `run_alone` answers, and what it wrote.
+/// Returns the result of `run_alone`, and its output.
 fn run_text(alloc: Global, scenario: &str) -> (Result<(), RunFault>, Vec<u8>) {
     let mut reader = Device::new(scenario.as_bytes());
     let mut writer = Device::new(Vec::new(alloc));
@@ -57,7 +57,7 @@ fn run_text(alloc: Global, scenario: &str) -> (Result<(), RunFault>, Vec<u8>) {
     (outcome, writer.into_inner())
 }
 
-/// What `check` answers, and what it wrote.
+/// Returns the result of `check`, and its output.
 fn check_text(alloc: Global, scenario: &str) -> (Result<(), RunFault>, Vec<u8>) {
     let mut reader = Device::new(scenario.as_bytes());
     let mut writer = Device::new(Vec::new(alloc));
@@ -65,7 +65,7 @@ fn check_text(alloc: Global, scenario: &str) -> (Result<(), RunFault>, Vec<u8>) 
     (outcome, writer.into_inner())
 }
 
-/// Wants this report of this scenario.
+/// Checks the report of this scenario.
 fn writes(rt: &(impl Abort + AllocGlobal), scenario: &str, report: &str) {
     let (outcome, written) = run_text(rt.alloc(), scenario);
     assert!(rt; outcome == Ok(()));
@@ -77,7 +77,7 @@ fn one_packet(rt: HostRuntime) {
     writes(&rt, texts::ONE_PACKET, texts::ONE_PACKET_REPORT);
 }
 
-/// Wants `check` to write this.
+/// Checks the output of `check`.
 fn checks(rt: &(impl Abort + AllocGlobal), scenario: &str, line: &str) {
     let (outcome, written) = check_text(rt.alloc(), scenario);
     assert!(rt; outcome == Ok(()));
@@ -90,7 +90,7 @@ fn counts(rt: HostRuntime) {
     checks(&rt, "", "ok 0 0\n");
 }
 
-/// Wants this fault of both calls, and nothing written.
+/// Checks that both calls return this fault and write nothing.
 fn is_faulty(rt: &(impl Abort + AllocGlobal), scenario: &str, line: u64, cause: Cause) {
     let fault = RunFault::Scenario(Fault { line, cause });
     let (outcome, written) = run_text(rt.alloc(), scenario);
@@ -127,7 +127,7 @@ fn faults(rt: HostRuntime) -> Result<(), Fail> {
     Ok(())
 }
 
-/// A reader that never ends: what it gives is too long.
+/// Checks a reader that never ends: its text is too long.
 #[test]
 fn endless_reader(rt: HostRuntime) {
     let mut reader = Device::new(io::repeat(b' '));
@@ -141,7 +141,7 @@ fn endless_reader(rt: HostRuntime) {
     assert!(rt; outcome == Err(fault));
 }
 
-/// All of it is written, or `Memory` is answered and nothing is.
+/// Checks that everything is written, or that the result is `Memory` and nothing is written.
 #[test]
 fn memory_refusal(rt: HostRuntime) {
     let (outcome, written) = run_text(rt.alloc(), texts::FOUR_EXPERIMENTS);

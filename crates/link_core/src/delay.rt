@@ -1,4 +1,4 @@
-//! A delay line (our choice): what has finished leaves after its delay, in order.
+//! A delay line (our choice): items that have finished leave after their delay, in order.
 
 ghost use Rattle.std.specs.Prelude.{◌≡◌, ◌+◌, ◌*◌, ◌^◌, ◌<◌, ◌≤◌, length, map, slice_get, IsOk, OnOk, OnErr};
 ghost use Rattle.emu_model.specs.Moments.{IsMoment, milliseconds};
@@ -12,15 +12,15 @@ use std::marker::Model;
 
 const NANOSECONDS_PER_MILLISECOND: u64 = 1_000_000;
 
-/// What is on its way, and when it leaves.
+/// An item in flight, and the time (ns) at which it leaves.
 #[derive(Drop)]
 struct Underway<A> {
     item: A,
     exit: u64,
 }
 
-/// Keeps what has finished until it leaves: after its delay, and never before what entered earlier.
-/// A contract sees the line, and for how many entries there is room.
+/// A line that keeps finished items until they leave: after their delay, and never before items
+/// that entered earlier. Contracts see the line, and the number of entries for which there is room.
 #[derive(Drop)]
 pub struct DelayLine<A> {
     in_flight: VecDeque<Underway<A>>,
@@ -43,7 +43,7 @@ impl<A> Model for DelayLine<A> {
 }
 
 impl<A: Drop> DelayLine<A> {
-    /// An empty line, which takes no memory yet.
+    /// Creates an empty line. Does not allocate.
     pub fn new(alloc: Global) -> Self
         ensures { result.line ≡ empty_line }
     {
@@ -53,9 +53,9 @@ impl<A: Drop> DelayLine<A> {
         }
     }
 
-    /// Puts an item on its way that finished at `finish` (ns): it leaves after its delay (ms), at
-    /// least 1 ns later, and not before what entered earlier. Where memory is refused the line
-    /// stays.
+    /// Adds an item that finished at `finish` (ns): it leaves after its delay (ms), at least 1 ns
+    /// later, and not before items that entered earlier. If allocation fails, the line is
+    /// unchanged.
     #[inline(always)]
     pub fn enter(&mut self, item: A, finish: u64, delay: Delay) -> Result<(), AllocError>
         requires { IsMoment finish }
@@ -73,8 +73,8 @@ impl<A: Drop> DelayLine<A> {
         Ok(())
     }
 
-    /// Makes the growth of an `enter` of the same arguments, which then isn't refused until
-    /// something else enters.
+    /// Reserves the memory for an `enter` with the same arguments, which then doesn't fail until
+    /// another item enters.
     #[inline(always)]
     pub fn enter_ready(&mut self, _finish: u64, _delay: Delay) -> Result<(), AllocError>
         ensures ready { OnOk result (0 < self.new.spare) }
@@ -85,7 +85,7 @@ impl<A: Drop> DelayLine<A> {
         self.room_for_one()
     }
 
-    // Makes room for one more, where there is none.
+    // Reserves room for one more item, if there is none.
     #[inline(always)]
     fn room_for_one(&mut self) -> Result<(), AllocError>
         ensures ready { OnOk result (0 < self.new.spare) }
@@ -99,7 +99,7 @@ impl<A: Drop> DelayLine<A> {
         self.in_flight.reserve(1)
     }
 
-    /// Takes out what leaves first; None where nothing is on its way.
+    /// Removes the first item to leave, and returns it, or None if nothing is in flight.
     #[inline(always)]
     pub fn leave(&mut self) -> Option<A>
         ensures item { result ≡ first_item self.old.line.in_flight }
@@ -110,7 +110,7 @@ impl<A: Drop> DelayLine<A> {
         Some(gone.item)
     }
 
-    /// When the first item leaves (ns).
+    /// Returns the time (ns) at which the first item leaves.
     #[inline(always)]
     pub fn due(&self) -> Option<u64>
         ensures { result ≡ first_exit self.now.line.in_flight }
@@ -118,7 +118,7 @@ impl<A: Drop> DelayLine<A> {
         self.in_flight.front().map(|first| first.exit)
     }
 
-    /// How many items are on their way.
+    /// Returns the number of items in flight.
     pub fn in_flight(&self) -> usize
         ensures in_flight { result ≡ length self.now.line.in_flight }
         ensures fits { result < 2 ^ 63 }
@@ -128,7 +128,7 @@ impl<A: Drop> DelayLine<A> {
 }
 
 impl<A: Copy> DelayLine<A> {
-    /// What leaves first, which stays.
+    /// Returns the first item to leave, without removing it.
     #[inline(always)]
     pub fn front(&self) -> Option<A>
         ensures { result ≡ first_item self.now.line.in_flight }
@@ -136,7 +136,7 @@ impl<A: Copy> DelayLine<A> {
         self.in_flight.front().map(|first| first.item)
     }
 
-    /// The item on its way at a place, what leaves first at 0.
+    /// Returns the item in flight at a place, the first to leave at 0.
     pub fn at(&self, place: usize) -> Option<A>
         ensures { result ≡ slice_get (map (λ x. x.item) self.now.line.in_flight) place }
     {
@@ -146,7 +146,7 @@ impl<A: Copy> DelayLine<A> {
         }
     }
 
-    /// Puts another item at a place, what leaves first at 0. Its exit stays. Takes no memory.
+    /// Replaces the item at a place, the first to leave at 0. Its exit stays. Does not allocate.
     pub fn replace(&mut self, place: usize, item: A)
         requires { place < length self.old.line.in_flight }
         ensures { self.new ≡ record self.old {

@@ -1,4 +1,5 @@
-//! What makes a link slow: a server that sends at a rate, and a line that delays (our choice).
+//! The parts that make a link slow: a server that sends at a rate, and a line that delays (our
+//! choice).
 #![tactic(auto)]
 
 mod delay;

@@ -10,11 +10,11 @@ ghost use Rattle.link_core.specs.Served.{period_of, Tells};
 use emu_model::{Bandwidth, Size};
 use std::marker::Model;
 
-/// What one byte takes at one bit a second: 8 bits, in nanoseconds.
+/// The time of one byte at one bit per second: 8 bits, in nanoseconds.
 const BYTE_WORK: u64 = 8_000_000_000;
 
-/// A busy period: where it began, the bytes served in it with the packet in service, and how far
-/// these reach, in whole nanoseconds and a remainder below the rate.
+/// A busy period: its start, the bytes served in it, including the packet in service, and the time
+/// that they reach, in whole nanoseconds and a remainder below the rate.
 #[derive(Clone, Copy)]
 struct Busy {
     start: u64,
@@ -24,7 +24,7 @@ struct Busy {
 }
 
 impl Busy {
-    /// A period in which nothing is served yet.
+    /// Creates a period in which nothing has been served.
     #[inline(always)]
     fn at(start: u64) -> Self
         ensures period { period_of result ≡ period_at start }
@@ -38,7 +38,7 @@ impl Busy {
         }
     }
 
-    /// A nanosecond that has begun counts whole.
+    /// Returns the finish, rounded up to a whole nanosecond.
     #[inline(always)]
     fn finish(self) -> u64
         requires { (period_of self).finish < 2 ^ 64 }
@@ -47,7 +47,7 @@ impl Busy {
         self.reached + self.left_over.min(1)
     }
 
-    /// The period with one packet more: what is left over is served with it.
+    /// Returns the period with one more packet, whose work includes the remainder.
     #[inline(always)]
     fn with_packet(self, bw: Bandwidth, size: Size) -> Self
         requires tells { Tells bw self }
@@ -70,8 +70,9 @@ impl Busy {
     }
 }
 
-/// Serves one packet after the other at a rate. The finishes of a busy period are those of its
-/// summed bytes, so no rounding adds up; a step divides the work of one packet alone.
+/// A server that serves one packet after the other at a rate. The finishes of a busy period are
+/// computed from its summed bytes, so rounding errors don't add up; a step divides the work of one
+/// packet only.
 #[derive(Drop)]
 pub struct RateServer {
     bw: Bandwidth,
@@ -92,14 +93,14 @@ impl Model for RateServer {
 }
 
 impl RateServer {
-    /// A server at rest.
+    /// Creates an idle server.
     pub fn new(bw: Bandwidth) -> Self
         ensures { result ≡ record { bw = bw; busy = None } }
     {
         RateServer { bw, busy: None }
     }
 
-    /// Begins a busy period at `now` (ns) with a packet.
+    /// Starts a busy period at `now` (ns) with a packet.
     #[inline(always)]
     pub fn start(&mut self, now: u64, size: Size)
         requires early { IsMoment now }
@@ -108,7 +109,8 @@ impl RateServer {
         self.busy = Some(Busy::at(now).with_packet(self.bw, size));
     }
 
-    /// Takes the next packet into service at the finish of the one before. At rest it does nothing.
+    /// Starts the service of the next packet at the finish of the one before. Does nothing if the
+    /// server is idle.
     #[inline(always)]
     pub fn follow(&mut self, size: Size)
         requires { ForSome self.old.busy (λ p. IsMoment p.finish) }
@@ -127,8 +129,8 @@ impl RateServer {
         self.busy = None;
     }
 
-    /// Changes the rate. A packet in service keeps its finish, at which the next one begins a new
-    /// period.
+    /// Changes the rate. A packet in service keeps its finish, and the next one starts a new busy
+    /// period there.
     pub fn configure(&mut self, bw: Bandwidth)
         ensures { self.new ≡ record { bw = bw; busy = option_map cut_period self.old.busy } }
     {
@@ -138,7 +140,7 @@ impl RateServer {
         }
     }
 
-    /// The finish (ns) of the packet in service.
+    /// Returns the finish (ns) of the packet in service.
     #[inline(always)]
     pub fn due(&self) -> Option<u64>
         ensures { result ≡ option_map (λ p. p.finish) self.now.busy }

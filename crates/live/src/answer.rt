@@ -1,6 +1,6 @@
-//! The line that answers.
+//! The line that answers a line of a session.
 
-ghost use Rattle.std.specs.Prelude.{◌≡◌, ◌++◌, OnOk, codes, decimal};
+ghost use Rattle.std.specs.Prelude.{◌≡◌, ◌≤◌, ◌++◌, OnOk, codes, decimal, length};
 ghost use Rattle.live.specs.Effects.{can_add};
 ghost use Rattle.live.specs.Lines.{answer_line, answer_words, answer_with, cause_word, comment_line, comment_of};
 
@@ -9,28 +9,29 @@ use control_words::first_line;
 use itoa::Buffer as Digits;
 use std::alloc::AllocError;
 
-/// What is said of a line of a session, after the records that it let happen.
+/// The answer to a line of a session. It follows the records that the line caused.
 #[derive(Clone, Copy, PartialEq)]
 pub enum Answer {
-    /// It was done.
+    /// The line was obeyed.
     Done,
-    /// It was done, and made the packet with this serial number.
+    /// The line was obeyed, and created the packet with this serial number.
     Packet(u64),
-    /// The command was refused, with this code; it counts as a command of the experiment.
+    /// The command was refused with this code; it counts as a command of the experiment.
     Refused(u64),
-    /// Time has come to this moment (ns), the earliest at which a command can come.
+    /// The session's time is this (ns), the earliest time that a command can have.
     Now(u64),
-    /// The moment (ns) of the event that is due first, if there is one.
+    /// The time (ns) of the first event that is due, if there is one.
     Next(Option<u64>),
-    /// The experiment is over, and its counters were written. Commands that come yet, its `end` if that didn't come, have
-    /// this moment (ns) or a later one.
+    /// The experiment is over, and its counters were written. Any later command, including its
+    /// `end` if that hasn't arrived, must have this time (ns) or a later one.
     Over(u64),
-    /// The line was not taken, and nothing has changed.
+    /// The line was rejected, and nothing has changed.
     Fault(Cause),
 }
 
 impl Answer {
-    /// Returns true if the answer to `next` can be added: the other answers say themselves how the experiment stands.
+    /// Returns true if the answer to `next` can be added. The other answers already report the
+    /// state of the experiment.
     pub fn can_add(self) -> bool
         ensures { result ≡ can_add self }
     {
@@ -41,9 +42,10 @@ impl Answer {
     }
 }
 
-// The word of a cause, as in a fault of a scenario.
-fn word_of(cause: Cause) -> &'static [u8]
-    ensures { result.now ≡ cause_word cause }
+/// Returns the word for a cause, as in a fault of a scenario.
+pub fn cause_word(cause: Cause) -> &'static [u8]
+    ensures word { result.now ≡ cause_word cause }
+    ensures short { length result.now ≤ 12 }
 {
     match cause {
         Cause::TooBig => b"toobig",
@@ -78,7 +80,7 @@ fn put_fault(out: &mut Vec<u8>, cause: Cause) -> Result<(), AllocError>
         (out.new.items ≡ out.old.items ++ (codes "fault " ++ cause_word cause)) }
 {
     out.extend_from_slice(b"fault ")?;
-    out.extend_from_slice(word_of(cause))?;
+    out.extend_from_slice(cause_word(cause))?;
     Ok(())
 }
 
@@ -106,8 +108,8 @@ fn put_answer_words(out: &mut Vec<u8>, answer: Answer) -> Result<(), AllocError>
     }
 }
 
-/// Appends the line that answers, with a second answer in it if there is one; `AllocError` leaves what was appended by
-/// then.
+/// Appends the answer line, which includes a second answer if there is one. `AllocError` leaves
+/// what was already appended.
 pub fn put_answer_with(
     out: &mut Vec<u8>,
     answer: Answer,
@@ -125,7 +127,7 @@ pub fn put_answer_with(
     Ok(())
 }
 
-/// Appends the line that answers; `AllocError` leaves what was appended by then.
+/// Appends the answer line. `AllocError` leaves what was already appended.
 pub fn put_answer(out: &mut Vec<u8>, answer: Answer) -> Result<(), AllocError>
     ensures { OnOk result (out.new.items ≡ out.old.items ++ answer_line answer) }
 {
@@ -142,7 +144,8 @@ fn put_comment_line(out: &mut Vec<u8>, line: &[u8]) -> Result<(), AllocError>
     Ok(())
 }
 
-/// Appends a text as comments: each of its lines behind `# `. `AllocError` leaves what was appended by then.
+/// Appends a text as comments, each of its lines after `# `. `AllocError` leaves what was already
+/// appended.
 pub fn put_comment(out: &mut Vec<u8>, text: &[u8]) -> Result<(), AllocError>
     ensures { OnOk result (out.new.items ≡ out.old.items ++ comment_of text.now) }
 {

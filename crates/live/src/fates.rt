@@ -1,4 +1,4 @@
-//! What becomes of commands and of injected packets, by what was recorded.
+//! The outcomes of commands and of injected packets, according to the records.
 
 ghost use Rattle.std.specs.Prelude.{◌≡◌, option_map, OnOk};
 ghost use Rattle.live.specs.Fates.{is_mine, is_fate, is_fate_of, concerns, hold_of, first_hold, refusal_code, refusal_in, taken_by, MarkedBy};
@@ -7,29 +7,29 @@ use crate::marks::Marks;
 use emu_model::{Command, Load, Record, Refusal};
 use std::alloc::AllocError;
 
-/// Where time stops on its way to a moment.
+/// The condition that stops time on its way to a given time.
 #[derive(Clone, Copy, PartialEq)]
 pub enum Stop {
-    /// At that moment alone.
+    /// At the given time only.
     Moment,
-    /// So long (ns, 1 at least) after the first delivery or drop of an injected packet.
+    /// This long (ns, at least 1) after the first delivery or drop of an injected packet.
     Mine(u64),
-    /// So long (ns, 1 at least) after the first delivery or drop of any packet.
+    /// This long (ns, at least 1) after the first delivery or drop of any packet.
     Any(u64),
 }
 
-/// What became of a command.
+/// The outcome of a command.
 #[derive(Clone, Copy, PartialEq)]
 pub enum Taken {
-    /// It was done.
+    /// The command was obeyed.
     Done,
-    /// It was done, and made the packet with this serial number.
+    /// The command was obeyed, and created the packet with this serial number.
     Packet(u64),
-    /// It was refused, with this code.
+    /// The command was refused with this code.
     Refused(u64),
 }
 
-// Whether a packet, which has this load, was injected.
+// Returns true if a packet with this load was injected.
 fn is_mine(mine: &Marks, load: Load, packet: u64) -> bool
     ensures { result ≡ is_mine mine.now load packet }
 {
@@ -39,7 +39,7 @@ fn is_mine(mine: &Marks, load: Load, packet: u64) -> bool
     }
 }
 
-// Whether a record says that a packet was delivered or dropped.
+// Returns true if a record is the delivery or the drop of a packet.
 fn is_fate(line: &Record) -> bool
     ensures { result ≡ is_fate line.now }
 {
@@ -49,7 +49,7 @@ fn is_fate(line: &Record) -> bool
     }
 }
 
-// Whether it says so of an injected packet.
+// Returns true if a record is the delivery or the drop of an injected packet.
 fn is_fate_of(mine: &Marks, line: &Record) -> bool
     ensures { result ≡ is_fate_of mine.now line.now }
 {
@@ -60,8 +60,8 @@ fn is_fate_of(mine: &Marks, line: &Record) -> bool
     }
 }
 
-/// Whether a record is told to one who asked for what concerns the injected packets alone: their deliveries and drops,
-/// refusals, listings, and that the steps are spent.
+/// Returns true if a record is reported to a client that requested only the records about injected
+/// packets: their deliveries and drops, refusals, listings, and that the steps were spent.
 pub fn concerns(mine: &Marks, line: &Record) -> bool
     ensures { result ≡ concerns mine.now line.now }
 {
@@ -77,7 +77,7 @@ pub fn concerns(mine: &Marks, line: &Record) -> bool
     }
 }
 
-// How long after its moment (ns) a record stops time, if it does.
+// Returns how long after its time (ns) a record stops time, if it does.
 fn hold_of(mine: &Marks, line: &Record, stop: Stop) -> Option<u64>
     ensures { result ≡ hold_of mine.now stop line.now }
 {
@@ -88,7 +88,7 @@ fn hold_of(mine: &Marks, line: &Record, stop: Stop) -> Option<u64>
     }
 }
 
-/// The same of the first of some records that does.
+/// Returns the result of `hold_of` for the first of these records that stops time.
 pub fn first_hold(mine: &Marks, records: &[Record], stop: Stop) -> Option<u64>
     ensures { result ≡ first_hold mine.now stop records.now }
 {
@@ -103,7 +103,7 @@ pub fn first_hold(mine: &Marks, records: &[Record], stop: Stop) -> Option<u64>
     None
 }
 
-/// Marks the packet that a command injects, if it does.
+/// Marks the packet that a command injects, if it injects one.
 pub fn mark_injected(mine: &mut Marks, command: &Command, number: u64) -> Result<(), AllocError>
     ensures { OnOk result (MarkedBy command.now number mine.old mine.new) }
 {
@@ -113,14 +113,15 @@ pub fn mark_injected(mine: &mut Marks, command: &Command, number: u64) -> Result
     }
 }
 
-// The code of a refusal.
+// Returns the code of a refusal.
 fn code_of(refusal: Refusal) -> u64
     ensures { result ≡ refusal_code refusal }
 {
     u64::from(refusal as u8)
 }
 
-/// What became of a command, by the first record of it; `number` is that of the packet that it made, if it did.
+/// Returns the outcome of a command, given the first record that it caused. `number` is the serial
+/// number of the packet that it created, if it created one.
 pub fn taken_by(command: &Command, number: u64, first: Option<&Record>) -> Taken
     ensures { result ≡ taken_by command.now number (refusal_in (option_map (λ r. r.now) first.entry)) }
 {

@@ -1,5 +1,5 @@
-//! Sessions: experiments whose commands come line by line, while an outside program reacts to what they record (our
-//! choice).
+//! Sessions: experiments whose commands arrive line by line, while an outside program reacts to
+//! their records (our choice).
 #![tactic(auto)]
 
 mod answer;
@@ -11,7 +11,7 @@ mod run;
 mod run_laws;
 mod session;
 
-pub use answer::{Answer, put_answer, put_comment};
+pub use answer::{Answer, cause_word, put_answer, put_comment};
 pub use fates::{Stop, Taken};
 pub use run::Run;
 pub use run_laws::{earlier_commands_come, ended_runs_are_reports, spent_runs_are_reports};

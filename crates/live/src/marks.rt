@@ -1,4 +1,4 @@
-//! Numbers that are marked.
+//! A set of marked numbers.
 
 ghost use Rattle.std.specs.Prelude.{◌≡◌, ◌%◌, ◌^◌, [], OnOk};
 ghost use Rattle.live.specs.Marking.{MarksOne, is_marked};
@@ -6,7 +6,7 @@ ghost use Rattle.live.specs.Marking.{MarksOne, is_marked};
 use std::alloc::{AllocError, Global};
 use std::marker::Model;
 
-/// For each number whether it was marked: a bit for each up to the last one that was.
+/// The marked numbers, as one bit for each number up to the largest marked one.
 #[derive(Drop)]
 pub struct Marks {
     bytes: Vec<u8>,
@@ -20,7 +20,7 @@ impl Model for Marks {
     ghost view = { λ m. m.bytes.items };
 }
 
-// The bit of a number in its byte.
+// Returns the bit of a number in its byte.
 fn bit_of(number: u64) -> u8
     ensures { result ≡ 2 ^ (number % 8) }
 {
@@ -28,7 +28,7 @@ fn bit_of(number: u64) -> u8
 }
 
 impl Marks {
-    /// No number is marked. Takes no memory.
+    /// Creates an empty set. Does not allocate.
     pub fn new(alloc: Global) -> Self
         ensures { result ≡ [] }
     {
@@ -37,7 +37,7 @@ impl Marks {
         }
     }
 
-    /// Whether a number is marked.
+    /// Returns true if a number is marked.
     pub fn has(&self, number: u64) -> bool
         ensures { result ≡ is_marked self.now number }
     {
@@ -47,7 +47,8 @@ impl Marks {
         }
     }
 
-    /// Marks a number, and no other. `AllocError` where memory was refused: no number more is marked then.
+    /// Marks a number, and no other. If an allocation fails, it returns `AllocError` and marks
+    /// nothing.
     pub fn mark(&mut self, number: u64) -> Result<(), AllocError>
         ensures { OnOk result (MarksOne number self.old self.new) }
     {

@@ -1,4 +1,4 @@
-//! One experiment of a session: how far its time has come, and how it stands.
+//! One experiment of a session: its current time and its state.
 
 ghost use Rattle.std.specs.Prelude.{◌≡◌, ◌^◌, ◌≤◌, ◌<◌, ◌++◌, ◌∷◌, [], ℕ, List, true, false, Some, None, Ok, OnOk, IfOk, IfNone, IfSome, MatchOption};
 ghost use Rattle.emu_model.specs.Commands.{is_end};
@@ -25,28 +25,29 @@ use emu_model::{Command, Spec, Timed, packets_add_up};
 use std::alloc::{AllocError, Global};
 use std::marker::Model;
 
-/// How an experiment of a session stands.
+/// The state of an experiment of a session.
 #[derive(Clone, Copy, Debug, Drop, PartialEq)]
 pub enum Phase {
-    /// It waits for commands, and for time to pass.
+    /// The experiment waits for commands, and for time to pass.
     Going,
-    /// It has ended by its last command, or since its steps were spent, and its counters were written.
+    /// The experiment has ended, by its last command or because its steps were spent, and its
+    /// counters were written.
     Over,
-    /// Memory was refused: the session ends.
+    /// An allocation failed, so the session ends.
     Lost,
 }
 
-/// An experiment whose commands come line by line. All that was due below the moment to which time has come has
-/// happened, and nothing else.
+/// An experiment whose commands arrive line by line. All events that were due before its current
+/// time have happened, and no others.
 #[derive(Drop)]
 pub struct Open {
     name: Vec<u8>,
     run: Run,
     reached: u64,
     phase: Phase,
-    // Whether its last command came.
+    // True if the last command has arrived.
     is_closed: bool,
-    // Whether the answer to `next` is added to others.
+    // True if the answer to `next` is added to other answers.
     adds_next: bool,
 }
 
@@ -67,7 +68,7 @@ impl Model for Open {
     ghost invariant = { λ o. IsOpen o.phase o.reached o.run o.is_closed };
 }
 
-// Whether a command is an experiment's last.
+// Returns true if a command is an experiment's last.
 fn is_end(command: &Command) -> bool
     ensures { result ≡ is_end command.now }
 {
@@ -77,7 +78,7 @@ fn is_end(command: &Command) -> bool
     }
 }
 
-// What is said of a command that was taken.
+// Returns the answer to a command that was applied.
 fn answer_of(taken: Taken) -> Answer
     ensures value { result ≡ answer_of taken }
     ensures fine { ¬ IsFault result }
@@ -90,7 +91,7 @@ fn answer_of(taken: Taken) -> Answer
 }
 
 impl Open {
-    /// An experiment to which no command came, and the line of its name.
+    /// Creates an experiment that has no commands yet, and appends the line with its name.
     pub fn new(
         alloc: Global,
         name: &[u8],
@@ -116,35 +117,36 @@ impl Open {
         })
     }
 
-    /// Its name.
+    /// Returns the experiment's name.
     pub fn name(&self) -> &[u8]
         ensures { result.now ≡ self.now.name }
     {
         self.name.as_slice()
     }
 
-    /// Whether its last command came.
+    /// Returns true if the last command has arrived.
     pub fn is_closed(&self) -> bool
         ensures { result ≡ self.now.is_closed }
     {
         self.is_closed
     }
 
-    /// Which records are told from now on: all, or those alone that concern injected packets.
+    /// Sets which records are reported from now on: all, or only those about injected packets.
     pub fn show(&mut self, all: bool)
         ensures { self.new ≡ record self.old { run = record self.old.run { shows_all = all } } }
     {
         self.run.show(all);
     }
 
-    /// Sets whether the answer to `next` is added to others from now on.
+    /// Sets whether the answer to `next` is added to other answers from now on.
     pub fn add_next(&mut self, on: bool)
         ensures { self.new ≡ record self.old { adds_next = on } }
     {
         self.adds_next = on;
     }
 
-    // What was recorded is written, and the counters where it has ended; all that was written is handed out.
+    // Writes the records, and the counters if the experiment has ended, and passes all that was
+    // written to `out`.
     fn settle(&mut self, out: &mut Vec<u8>) -> Result<(), AllocError>
         requires lost { self.old.phase ≡ Lost }
         requires open { self.old.is_closed ≡ false }
@@ -168,7 +170,7 @@ impl Open {
         Ok(())
     }
 
-    // Time passes to a moment, or until `stop`, where it goes on.
+    // Lets time pass to `limit`, or until `stop`, in an experiment that hasn't ended.
     fn pass(&mut self, limit: u64, stop: Stop, out: &mut Vec<u8>) -> Result<(), AllocError>
         requires going { self.old.phase ≡ Going }
         requires on { self.old.reached ≤ limit }
@@ -188,7 +190,8 @@ impl Open {
         self.settle(out)
     }
 
-    // Time passes to a command's moment, where it goes on, and then the command comes, if it still goes on.
+    // Lets time pass to a command's time in an experiment that hasn't ended, and then applies the
+    // command, unless the experiment has ended by then.
     fn obey(&mut self, command: &Timed, out: &mut Vec<u8>) -> Result<Option<Taken>, AllocError>
         requires going { self.old.phase ≡ Going }
         requires on { self.old.reached ≤ command.now.moment }
@@ -222,7 +225,7 @@ impl Open {
         Ok(Some(taken))
     }
 
-    // What is said of where it stands.
+    // Returns the answer that reports the experiment's current time.
     fn stand(&self) -> Answer
         ensures { result ≡ stand_of self.now }
     {
@@ -232,7 +235,8 @@ impl Open {
         }
     }
 
-    /// Time goes on to a moment (ns), or until `stop`; a fault where it has come further already, and nothing changes then.
+    /// Lets time pass to `limit` (ns), or until `stop`. Returns a fault and changes nothing if the
+    /// experiment has already passed that time.
     pub fn until(&mut self, limit: u64, stop: Stop, out: &mut Vec<u8>) -> Result<Answer, AllocError>
         requires { limit ≤ 10 ^ 15 }
         ensures told { IfOk result (λ _. (bytes : List ℕ) × (out.new.items ≡ out.old.items ++ bytes)
@@ -257,7 +261,7 @@ impl Open {
         Ok(self.stand())
     }
 
-    /// When the next event is due.
+    /// Returns the time of the next event, as an answer.
     pub fn next(&self) -> Answer
         ensures { NextIn self.now.phase result self.now }
     {
@@ -277,7 +281,7 @@ impl Open {
         Some(self.next())
     }
 
-    // A command comes to one that is over: it is never reached.
+    // Accepts a command for an experiment that is over, where it has no effect.
     fn pass_by(&mut self, command: &Timed) -> Answer
         requires over { self.old.phase ≡ Over }
         requires open { self.old.is_closed ≡ false }
@@ -294,8 +298,9 @@ impl Open {
         Answer::Over(self.reached)
     }
 
-    /// Takes a command: all that is due below its moment happens, and then it is done or refused. A fault changes nothing:
-    /// its `end` came before, or else its moment is below the one to which time has come.
+    /// Processes a command: all events due before its time happen, and then the command is applied
+    /// or refused. A fault changes nothing. The command is a fault if `end` has already arrived, or
+    /// if its time is before the current time.
     pub fn take(&mut self, command: &Timed, out: &mut Vec<u8>) -> Result<Answer, AllocError>
         requires { command.now.moment ≤ 10 ^ 15 }
         ensures told { IfOk result (λ a. ¬ IsFault a → (bytes : List ℕ)

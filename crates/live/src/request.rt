@@ -1,4 +1,5 @@
-//! What a session is asked besides what a scenario says. To a scenario these lines are comments.
+//! The requests of a session, which a scenario doesn't have. In a scenario these lines are
+//! comments.
 
 ghost use Rattle.std.specs.Prelude.{◌≡◌, ◌≤◌, ◌^◌, ◌++◌, IfOk, IfSome, MatchResult, codes, option_map};
 ghost use Rattle.control_words.specs.Text.{words as words_of};
@@ -10,29 +11,30 @@ use control_words::numbers::{moment, number};
 use control_words::{Words, is};
 use emu_model::LATEST_MOMENT;
 
-/// A line that asks.
+/// A request.
 #[derive(Clone, Copy)]
 pub enum Request<'a> {
-    /// `until @M`: all that is due below the moment (ns) is to happen.
+    /// `until @M`: all events due before this time (ns) are to happen.
     Until { limit: u64 },
-    /// `until @M first [G]`: the same, but no further than so long (ns) after the first moment at which an injected packet
-    /// is delivered or dropped.
+    /// `until @M first [G]`: like `until @M`, but stops `hold` ns after the first delivery or drop
+    /// of an injected packet.
     UntilMine { limit: u64, hold: u64 },
-    /// `until @M first any [G]`: the same of any packet.
+    /// `until @M first any [G]`: like `until @M first`, for any packet.
     UntilAny { limit: u64, hold: u64 },
-    /// `next`: when is the next event due?
+    /// `next`: queries the time of the next event.
     Next,
-    /// `next on`, `next off`: whether the answer to `next` is to be added to others from now on.
+    /// `next on`, `next off`: sets whether the answer to `next` is added to other answers from now
+    /// on.
     AddNext { on: bool },
     /// `use NAME`: the lines that follow are for this experiment.
     Use { name: &'a [u8] },
-    /// `show all`, `show mine`: which records are to be told from now on.
+    /// `show all`, `show mine`: sets which records are reported from now on.
     Show { all: bool },
-    /// `help`: what can be asked.
+    /// `help`: lists the requests.
     Help,
 }
 
-// A line that asks, whatever its numbers are.
+// A request whose numbers haven't been checked.
 #[derive(Clone, Copy)]
 enum RawRequest<'a> {
     Until { limit: u128 },
@@ -45,7 +47,7 @@ enum RawRequest<'a> {
     Help,
 }
 
-/// What a line asks, if it does: its first bytes are `#>`.
+/// Returns the rest of a line that is a request, which means that it begins with `#>`.
 #[tactic(auto, unfolding(crate::specs::Requests::asked_of))]
 pub fn asked_in(line: &[u8]) -> Option<&[u8]>
     ensures value { option_map (λ rest. rest.now) result ≡ asked_of line.now }
@@ -57,7 +59,7 @@ pub fn asked_in(line: &[u8]) -> Option<&[u8]>
     }
 }
 
-// The number that stands last, if one does, and else 1.
+// Returns the last word as a number, or 1 if there is no word.
 #[tactic(auto, unfolding(crate::specs::Requests::hold_of))]
 fn hold_number(words: &mut Words) -> Option<u128>
     ensures { result ≡ hold_of (words_of words.old.rest.now) }
@@ -70,7 +72,7 @@ fn hold_number(words: &mut Words) -> Option<u128>
     Some(hold)
 }
 
-// What stands after `until @M first`.
+// Parses what follows `until @M first`.
 #[tactic(auto, unfolding(crate::specs::Requests::first_of))]
 fn first_request<'a>(words: &mut Words<'a>, limit: u128) -> Option<RawRequest<'a>>
     ensures { option_map view_raw result ≡ first_of limit (words_of words.old.rest.now) }
@@ -84,7 +86,7 @@ fn first_request<'a>(words: &mut Words<'a>, limit: u128) -> Option<RawRequest<'a
     Some(RawRequest::UntilMine { limit, hold })
 }
 
-// What stands after `until`.
+// Parses what follows `until`.
 #[tactic(auto, unfolding(crate::specs::Requests::until_of))]
 fn until_request<'a>(words: &mut Words<'a>) -> Option<RawRequest<'a>>
     ensures { option_map view_raw result ≡ until_of (words_of words.old.rest.now) }
@@ -99,7 +101,7 @@ fn until_request<'a>(words: &mut Words<'a>) -> Option<RawRequest<'a>>
     first_request(words, limit)
 }
 
-// What stands after `next`.
+// Parses what follows `next`.
 #[tactic(auto, unfolding(crate::specs::Requests::next_of))]
 fn next_request<'a>(words: &mut Words<'a>) -> Option<RawRequest<'a>>
     ensures { option_map view_raw result ≡ next_of (words_of words.old.rest.now) }
@@ -115,7 +117,7 @@ fn next_request<'a>(words: &mut Words<'a>) -> Option<RawRequest<'a>>
     Some(RawRequest::AddNext { on })
 }
 
-// What stands after `use`.
+// Parses what follows `use`.
 #[tactic(auto, unfolding(crate::specs::Requests::used_of))]
 fn use_request<'a>(words: &mut Words<'a>) -> Option<RawRequest<'a>>
     ensures { option_map view_raw result ≡ used_of (words_of words.old.rest.now) }
@@ -125,7 +127,7 @@ fn use_request<'a>(words: &mut Words<'a>) -> Option<RawRequest<'a>>
     Some(RawRequest::Use { name })
 }
 
-// What stands after `show`.
+// Parses what follows `show`.
 #[tactic(auto, unfolding(crate::specs::Requests::shown_of))]
 fn show_request<'a>(words: &mut Words<'a>) -> Option<RawRequest<'a>>
     ensures { option_map view_raw result ≡ shown_of (words_of words.old.rest.now) }
@@ -139,7 +141,7 @@ fn show_request<'a>(words: &mut Words<'a>) -> Option<RawRequest<'a>>
     Some(RawRequest::Show { all })
 }
 
-// A request of one word.
+// Parses the end of a request that has only one word.
 #[tactic(auto, unfolding(crate::specs::Requests::ended_of))]
 fn word_request<'a>(words: &mut Words<'a>, request: RawRequest<'a>) -> Option<RawRequest<'a>>
     ensures { option_map view_raw result
@@ -149,7 +151,7 @@ fn word_request<'a>(words: &mut Words<'a>, request: RawRequest<'a>) -> Option<Ra
     Some(request)
 }
 
-// What the words of a line ask, whatever their numbers are.
+// Parses the words of a request, without checking the numbers.
 #[tactic(auto, unfolding(crate::specs::Requests::shape_of))]
 fn shape<'a>(words: &mut Words<'a>) -> Option<RawRequest<'a>>
     ensures { option_map view_raw result ≡ shape_of (words_of words.old.rest.now) }
@@ -170,7 +172,7 @@ fn shape<'a>(words: &mut Words<'a>) -> Option<RawRequest<'a>>
     }
 }
 
-// A number of ns from one on to the latest moment.
+// Returns a number of ns if it is from `least` to the latest time.
 fn in_range(number: u128, least: u64) -> Option<u64>
     requires { least ≤ 10 ^ 15 }
     ensures value { result ≡ time_within least number }
@@ -182,7 +184,7 @@ fn in_range(number: u128, least: u64) -> Option<u64>
     Some(number as u64)
 }
 
-// The request with its numbers, where they are in their ranges.
+// Returns the request with its numbers, if they are in their ranges.
 #[tactic(auto, unfolding(crate::specs::Requests::asked_within))]
 fn in_ranges(request: RawRequest) -> Option<Request>
     ensures value { option_map view_request result ≡ asked_within (view_raw request.entry) }
@@ -211,8 +213,8 @@ fn in_ranges(request: RawRequest) -> Option<Request>
     }
 }
 
-/// What a line asks, without its `#>`: `BadWord` where the words aren't those of a request, whatever the numbers are,
-/// `OutOfRange` where a number is past 10^15 ns, or a time to wait is 0.
+/// Parses a request, without its `#>`. Returns `BadWord` if the words aren't those of a request,
+/// whatever the numbers are, and `OutOfRange` if a number exceeds 10^15 ns or a hold is 0.
 #[tactic(auto, unfolding(crate::specs::Requests::request_of))]
 pub fn read_request(line: &[u8]) -> Result<Request, Cause>
     ensures value { MatchResult result (λ r. request_of line.now ≡ Ok (view_request r))

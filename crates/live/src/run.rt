@@ -1,4 +1,5 @@
-//! An experiment whose commands come one by one: time passes as far as it is asked to, and what happens is written.
+//! An experiment whose commands arrive one by one. Time passes as far as requested, and the records
+//! are written.
 
 ghost use Rattle.std.specs.Prelude.{◌≡◌, ℕ, ◌+◌, ◌*◌, ◌^◌, ◌≤◌, ◌<◌, ◌++◌, ◌∷◌, [], List, None, IsSome, IfOk, IfSome, OnOk, OnErr, true, false, length, flat_map, slice_get, drop};
 ghost use Rattle.std.specs.List.{filter};
@@ -25,10 +26,10 @@ use packet_store::OwnShelf;
 use std::alloc::{AllocError, Global};
 use std::marker::Model;
 
-/// What every due lies below (ns).
+/// A time (ns) that no event reaches.
 const PAST_ALL: u64 = 2_000_000_000_000_000;
 
-/// An experiment with its packets, and the lines that were written of it and not yet handed out.
+/// An experiment with its packets, and its written lines that aren't passed on yet.
 #[derive(Drop)]
 pub struct Run {
     experiment: Experiment,
@@ -53,7 +54,7 @@ impl Model for Run {
     } };
 }
 
-// Appends the lines of the records that concern injected packets.
+// Appends the lines of the records about injected packets.
 fn put_chosen(report: &mut ReportWriter, mine: &Marks, records: &[Record]) -> Result<(), AllocError>
     ensures { OnOk result (report.new ≡ record report.old {
       text = report.old.text ++ flat_map line_of (filter (concerns mine.now) records.now);
@@ -67,7 +68,7 @@ fn put_chosen(report: &mut ReportWriter, mine: &Marks, records: &[Record]) -> Re
     Ok(())
 }
 
-// Events are made until the command that came is done, or the experiment has ended.
+// Processes events until the pending command is done or the experiment has ended.
 fn obey(experiment: &mut Experiment, shelf: &mut OwnShelf) -> Result<(), AllocError>
     requires housed { IsHousedIn (own_pocket shelf.old) experiment.old }
     requires proper { IsProper experiment.old }
@@ -98,7 +99,7 @@ fn obey(experiment: &mut Experiment, shelf: &mut OwnShelf) -> Result<(), AllocEr
 }
 
 impl Run {
-    /// An experiment to which no command came, and the line of its name.
+    /// Creates an experiment that has no commands yet, and writes the line with its name.
     pub fn new(alloc: Global, name: &[u8], spec: Spec) -> Result<Self, AllocError>
         ensures at { IfOk result (λ r. IsAt 0 [] r) }
         ensures given { IfOk result
@@ -118,21 +119,22 @@ impl Run {
         })
     }
 
-    /// How it ended, if it has.
+    /// Returns how the experiment ended, if it has.
     pub fn ending(&self) -> Option<Ending>
         ensures { result ≡ self.now.experiment.ending }
     {
         self.experiment.ending()
     }
 
-    /// Whether all records are told from now on, or those alone that concern injected packets.
+    /// Sets whether all records are reported from now on, or only those about injected packets.
     pub fn show(&mut self, all: bool)
         ensures { self.new ≡ record self.old { shows_all = all } }
     {
         self.shows_all = all;
     }
 
-    /// Writes what was recorded, which is then forgotten. `AllocError` where the lines have no room.
+    /// Writes the records and discards them. Returns `AllocError` if there is no memory for the
+    /// lines.
     #[tactic(auto, using(crate::proofs::RunFacts::can_write_same))]
     pub fn write(&mut self) -> Result<(), AllocError>
         requires { CanWrite self.old.report self.old.experiment }
@@ -150,7 +152,7 @@ impl Run {
         Ok(())
     }
 
-    // Writes what was recorded, once there is a batch of it.
+    // Writes the records, once there is a batch of them.
     fn write_batch(&mut self) -> Result<(), AllocError>
         requires { CanWrite self.old.report self.old.experiment }
         ensures goes { OnOk result ((t u : ℕ) (was : KeptRun) → Goes t u was self.old →
@@ -165,8 +167,9 @@ impl Run {
         self.write()
     }
 
-    // What is due first below a moment happens. Answers whether something did and it goes on, and the moment to which time
-    // has come: one past the event, or the one that was named where nothing is due.
+    // Processes the first event that is due before `limit`. Returns true if there was one and the
+    // experiment continues, and the new current time: one past the event, or `limit` if nothing is
+    // due.
     fn next_before(&mut self, reached: u64, limit: u64) -> Result<(bool, u64), AllocError>
         requires at { (earlier : List Record) × IsAt reached earlier self.old }
         requires on { reached ≤ limit }
@@ -191,7 +194,8 @@ impl Run {
         }
     }
 
-    // How long after the last event time is to stop, if one of the records from a place on stops it.
+    // Returns how long after the last event time is to stop, if one of the records from index
+    // `seen` stops it.
     fn hold_since(&self, seen: usize, stop: Stop) -> Option<u64>
         ensures { result ≡ first_hold self.now.mine stop (drop seen self.now.experiment.net.log.records) }
     {
@@ -199,9 +203,9 @@ impl Run {
         first_hold(&self.mine, fresh, stop)
     }
 
-    /// Time passes from one moment to another (ns), or until `stop`: what is due below the latter happens, one after the
-    /// other, and is written but for the last records. Answers the moment to which time has come. `AllocError` where memory
-    /// was refused.
+    /// Lets time pass from `from` to `limit` (ns), or until `stop`: all events due before then
+    /// happen in order, and their records are written, except the last ones. Returns the new
+    /// current time, or `AllocError` if an allocation fails.
     pub fn pass(&mut self, from: u64, limit: u64, stop: Stop) -> Result<u64, AllocError>
         requires at { (earlier : List Record) × IsAt from earlier self.old }
         requires on { from ≤ limit }
@@ -235,8 +239,9 @@ impl Run {
         }
     }
 
-    /// A command comes, at the moment to which time has come or later: what is due before it happens, and it is done or
-    /// refused; nothing is written yet. `AllocError` where memory was refused.
+    /// Applies a command whose time is the current time or later. All events due before it happen,
+    /// and then it is done or refused; nothing is written yet. Returns `AllocError` if an
+    /// allocation fails.
     pub fn take(&mut self, command: &Timed) -> Result<Taken, AllocError>
         requires at { (t : ℕ) × (earlier : List Record) × IsAt t earlier self.old
             × (t ≤ command.now.moment) }
@@ -272,7 +277,7 @@ impl Run {
         ))
     }
 
-    /// Writes the line of the counters. `AllocError` leaves what was written of it.
+    /// Writes the line of the counters. `AllocError` leaves what was already written of the line.
     pub fn conclude(&mut self) -> Result<(), AllocError>
         requires { IsHousedIn (own_pocket self.old.shelf) self.old.experiment }
         ensures { OnOk result (self.new ≡ record self.old {
@@ -284,7 +289,8 @@ impl Run {
         self.report.write_counters(&self.experiment.counters())
     }
 
-    /// Appends what was written so far, which is then empty. `AllocError` where it has no room there: it stays then.
+    /// Moves the text written so far to the end of `out`. Returns `AllocError`, and changes
+    /// nothing, if `out` can't grow.
     pub fn hand_out(&mut self, out: &mut Vec<u8>) -> Result<(), AllocError>
         ensures ok { OnOk result ((out.new.items ≡ out.old.items ++ self.old.report.text)
             × (self.new ≡ record self.old { report = record self.old.report { text = [] } })) }
@@ -293,13 +299,13 @@ impl Run {
         self.report.hand_out(out)
     }
 
-    /// When the event is due (ns) that is due first, if there is one.
+    /// Returns the time (ns) of the first event that is due, if there is one.
     pub fn next_moment(&self) -> Option<u64>
         ensures some { IfSome result (λ m. (m ≡ first_moment self.now) × (m < 2 * 10 ^ 15)) }
         ensures none { result ≡ None → IsQuiet (2 * 10 ^ 15) self.now }
     {
         let moment = self.experiment.next_moment()?;
-        // It is below: the experiment's contract doesn't say so.
+        // It is always below, but the experiment's contract doesn't say so.
         if moment >= PAST_ALL {
             return None;
         }

@@ -1,12 +1,13 @@
-//! What a session tells of an experiment that has ended is the report of running it alone: the contracts of functions that
-//! do nothing.
+//! Laws: the lines that a session reports about an ended experiment are the report of running the
+//! experiment alone. Each law is the contract of a function with an empty body.
 
 ghost use Rattle.live.specs.RunLaws.{EndedRunsAreReports, SpentRunsAreReports, EarlierCommandsCome};
 
 use emu_model::{later_commands_wait, records_are_not_read};
 use experiment::{commands_go_on, ended_states_are_whole, waits_settle};
 
-/// Of one that a command ended, or spent the steps of, it is that of the commands that came, whatever comes after them.
+/// If the last step was a command, the lines are the report of the commands that arrived, followed
+/// by any others.
 pub fn ended_runs_are_reports()
     ensures { EndedRunsAreReports }
 {
@@ -14,15 +15,17 @@ pub fn ended_runs_are_reports()
     ended_states_are_whole();
 }
 
-/// Of one that spent its steps while time passed, it is that of the commands that came and of any that come later.
+/// If the steps were spent while time passed, the lines are the report of the commands that
+/// arrived, followed by any with that time or a later one.
 pub fn spent_runs_are_reports()
     ensures { SpentRunsAreReports }
 {
     ended_states_are_whole();
 }
 
-/// Of one that spends its last step on an event, a command at that event's moment or before is taken in its place: the
-/// moment past it is the least at which commands change nothing.
+/// If the last step would be spent on an event, a command at that event's time or earlier is
+/// processed in its place. One past that time is therefore the earliest time at which commands
+/// change nothing.
 pub fn earlier_commands_come()
     ensures { EarlierCommandsCome }
 {

@@ -1,4 +1,4 @@
-//! What is said to each line.
+//! The answer to each line.
 
 ghost use Rattle.std.specs.Prelude.{◌↔◌, ◌≡◌, ◌≤◌, ◌<◌, ◌^◌, ◌++◌, ◌∷◌, [], ℕ, List, flat_map, Option, None, Ok, IfOk, IsSome, ⊤, IsTrue, All, true, false};
 ghost use Rattle.std.specs.List.{AllByRecursion};
@@ -21,10 +21,10 @@ use emu_model::{Spec, Timed};
 use std::alloc::{AllocError, Global};
 use std::marker::Model;
 
-/// How many bytes a line has at most, before its line feed.
+/// The maximum length of a line in bytes, without its line feed.
 pub const MAX_LINE: usize = 512;
 
-// What can be asked, as comments.
+// The list of requests, as comments.
 const HELP: &[u8] = b"\
 # #> until @M                all that is due below M (ns) happens\n\
 # #> until @M first [G]      the same, but at most G ns (1) past the first delivery or drop of an injected packet\n\
@@ -35,7 +35,7 @@ const HELP: &[u8] = b"\
 # #> use NAME                the lines that follow are for this experiment\n\
 # other lines are those of a scenario: experiment NAME seed S budget B [steps N], @M COMMAND, @M end\n";
 
-/// Experiments by name, and the one that lines are for.
+/// Experiments by name, and the current one.
 #[derive(Drop)]
 pub struct Session {
     alloc: Global,
@@ -51,7 +51,7 @@ impl Model for Session {
     ghost view = { λ s. record { opened = s.open.items; current = s.current } };
 }
 
-// A line's own fault as a cause.
+// Returns the cause for a fault of a line.
 fn cause_of(fault: LineFault) -> Cause
     ensures { result ≡ cause_of fault }
 {
@@ -64,7 +64,7 @@ fn cause_of(fault: LineFault) -> Cause
 }
 
 impl Session {
-    /// No experiments. Takes no memory.
+    /// Creates a session without experiments. Does not allocate.
     pub fn new(alloc: Global) -> Self
         ensures { result ≡ record { opened = []; current = 0 } }
     {
@@ -82,7 +82,7 @@ impl Session {
         self.open.iter().all(|it| it.is_closed())
     }
 
-    // The place of the experiment with a name.
+    // Returns the index of the experiment with a name.
     fn place_of(&self, name: &[u8]) -> Option<usize>
         ensures { result ≡ place_named name.now self.now.opened }
     {
@@ -96,7 +96,7 @@ impl Session {
         self.open.get(self.current)?.added(answer)
     }
 
-    // Says an answer, but for a fault, which is handed back.
+    // Appends an answer, except a fault, which is returned.
     fn say(&self, answer: Answer, out: &mut Vec<u8>) -> Result<Option<Cause>, AllocError>
         ensures { IfOk result (λ f. (f ≡ fault_of answer)
             × (IsFault answer → out.new.items ≡ out.old.items)
@@ -111,7 +111,7 @@ impl Session {
         Ok(None)
     }
 
-    // An experiment begins.
+    // Begins an experiment.
     fn begin(&mut self, name: &[u8], spec: Spec, out: &mut Vec<u8>) -> Result<Answer, AllocError>
         ensures grows { IfOk result (λ a. (bytes : List ℕ) × (out.new.items ≡ out.old.items ++ bytes)
             × (¬ IsFault a → Grows (λ es. es ++ begun name.now spec ∷ []) bytes self.old self.new)) }
@@ -133,7 +133,7 @@ impl Session {
         Ok(Answer::Done)
     }
 
-    // A command comes to the experiment that lines are for.
+    // Passes a command to the current experiment.
     fn command(&mut self, command: &Timed, out: &mut Vec<u8>) -> Result<Answer, AllocError>
         requires { command.now.moment ≤ 10 ^ 15 }
         ensures grows { IfOk result (λ a. (bytes : List ℕ) × (out.new.items ≡ out.old.items ++ bytes)
@@ -153,7 +153,7 @@ impl Session {
         Ok(answer)
     }
 
-    // The lines that follow are for the experiment with a name.
+    // Makes the experiment with a name the current one.
     fn turn_to(&mut self, name: &[u8], out: &mut Vec<u8>) -> Result<Answer, AllocError>
         ensures turns { IfOk result (λ a. (ps : List Piece)
             × (out.new.items ≡ out.old.items ++ flat_map written ps)
@@ -174,7 +174,7 @@ impl Session {
         Ok(Answer::Done)
     }
 
-    // Time passes in the experiment that lines are for, to a moment (ns) or until `stop`.
+    // Lets time pass in the current experiment, to `limit` (ns) or until `stop`.
     fn until(&mut self, limit: u64, stop: Stop, out: &mut Vec<u8>) -> Result<Answer, AllocError>
         requires { limit ≤ 10 ^ 15 }
         ensures grows { IfOk result (λ _. (bytes : List ℕ) × (out.new.items ≡ out.old.items ++ bytes)
@@ -194,7 +194,7 @@ impl Session {
         Ok(answer)
     }
 
-    // Which records of the experiment that lines are for are told from now on.
+    // Sets which records of the current experiment are reported from now on.
     fn show(&mut self, all: bool) -> Answer
         ensures grows { ¬ (all ≡ false) → Grows (λ es. es) [] self.old self.new }
         ensures fault { Answers (of_current (λ _. None) (current_of self.old)) result
@@ -209,7 +209,8 @@ impl Session {
         Answer::Done
     }
 
-    // Whether the answer to `next` is added to others from now on, of the experiment that lines are for.
+    // Sets whether the answer to `next` is added to other answers of the current experiment from
+    // now on.
     fn add_next(&mut self, on: bool) -> Answer
         ensures grows { Grows (λ es. es) [] self.old self.new }
         ensures fault { Answers (of_current (λ _. None) (current_of self.old)) result
@@ -224,7 +225,7 @@ impl Session {
         Answer::Done
     }
 
-    // When the next event is due in the experiment that lines are for.
+    // Returns the time of the next event in the current experiment, as an answer.
     fn next(&self) -> Answer
         ensures fault { Answers (of_current (λ _. None) (current_of self.now)) result ⊤ }
         ensures next { ¬ IsFault result → Obeys Next [] result self.now self.now }
@@ -235,7 +236,7 @@ impl Session {
         }
     }
 
-    // Does what is asked.
+    // Obeys a request.
     fn obey(&mut self, request: Request, out: &mut Vec<u8>) -> Result<Answer, AllocError>
         requires { IsInRange request }
         ensures grows { IfOk result (λ a. (ps : List Piece)
@@ -265,7 +266,7 @@ impl Session {
         }
     }
 
-    // Answers a request.
+    // Parses and obeys a request.
     fn answer(&mut self, asked: &[u8], out: &mut Vec<u8>) -> Result<Answer, AllocError>
         ensures grows { IfOk result (λ a. (ps : List Piece)
             × (out.new.items ≡ out.old.items ++ flat_map written ps)
@@ -285,7 +286,8 @@ impl Session {
         }
     }
 
-    // Takes a request, without its `#>`. By itself, so the frame of `take` stays small.
+    // Processes a request, without its `#>`. It is not inlined, which keeps the frame of `take`
+    // small.
     #[inline(never)]
     fn take_request(&mut self, asked: &[u8], out: &mut Vec<u8>) -> Result<Option<Cause>, AllocError>
         ensures grows { IfOk result (λ f. f ≡ None → (ps : List Piece)
@@ -304,7 +306,7 @@ impl Session {
         self.say(answer, out)
     }
 
-    // Takes an experiment's line.
+    // Processes the line that begins an experiment.
     fn take_begin(
         &mut self,
         name: &[u8],
@@ -325,7 +327,7 @@ impl Session {
         self.say(answer, out)
     }
 
-    // Takes a command's line.
+    // Processes the line of a command.
     fn take_command(
         &mut self,
         command: &Timed,
@@ -347,7 +349,7 @@ impl Session {
         self.say(answer, out)
     }
 
-    // Takes a line of a scenario.
+    // Processes a line of a scenario.
     fn take_line(&mut self, line: &[u8], out: &mut Vec<u8>) -> Result<Option<Cause>, AllocError>
         ensures hears { IfOk result (λ f. f ≡ None → (ps : List Piece)
             × (out.new.items ≡ out.old.items ++ flat_map written ps)
@@ -366,10 +368,11 @@ impl Session {
         }
     }
 
-    /// Takes a line, without its line feed, and appends what is said to it: the records that it let happen, as a report has
-    /// them, and then one line that begins with `#<`. A line that says nothing has no answer. Where the line isn't taken
-    /// its fault is handed back, which is yet to be said: nothing changes then, and nothing is appended. `AllocError`,
-    /// where memory was refused, ends the session: what was appended is the beginning of what would be said.
+    /// Processes a line, without its line feed, and appends the answer: the records that the line
+    /// caused, as in a report, and then one line that begins with `#<`. Blank lines and comments
+    /// have no answer. If the line is rejected, its fault is returned, and nothing is changed or
+    /// appended; the caller reports the fault. `AllocError` means that an allocation failed and
+    /// ends the session. What was appended is then a prefix of the answer.
     pub fn take(&mut self, line: &[u8], out: &mut Vec<u8>) -> Result<Option<Cause>, AllocError>
         ensures takes { IfOk result (λ f. f ≡ None → (ps : List Piece)
             × (out.new.items ≡ out.old.items ++ flat_map written ps)

@@ -1,4 +1,5 @@
-//! Seeded loss (our choice): which packets an instance of a pipe loses, by the words of ChaCha20.
+//! Seeded loss (our choice): the words of ChaCha20 decide which packets an instance of a pipe
+//! loses.
 #![tactic(auto)]
 
 mod stream;

@@ -9,18 +9,18 @@ use rand_core::SeedableRng;
 use rand_core::utils::NextWord;
 use std::marker::Model;
 
-/// How many instances' streams each pipe has room for.
+/// The number of streams that are reserved for the instances of each pipe.
 const STREAMS_PER_PIPE: u64 = 65536;
 
-/// The loss words of one instance of a pipe, of which each packet takes one. A contract sees whose
-/// they are, and how many were drawn.
+/// The loss words of one instance of a pipe, one for each packet. Contracts see the seed, the pipe
+/// and the instance, and the number of words drawn.
 #[derive(Drop)]
 pub struct LossStream {
     seed: u64,
     pipe: PipeNumber,
     instance: u8,
     drawn: u128,
-    // the place at which the generator stands: what is compared with no rate isn't computed
+    // The generator's place: a word that is compared with no rate isn't computed.
     place: u128,
     words: ChaCha20Rng,
 }
@@ -42,7 +42,8 @@ impl Model for LossStream {
 }
 
 impl LossStream {
-    /// The stream of an experiment's seed, a pipe's number and an instance's, from its first word.
+    /// Creates the stream for an experiment's seed, a pipe's number and an instance's, at its first
+    /// word.
     pub fn new(seed: u64, pipe: PipeNumber, instance: u8) -> Self
         ensures { result ≡ record { seed = seed; pipe = pipe; instance = instance; drawn = 0 } }
     {
@@ -63,7 +64,7 @@ impl LossStream {
         }
     }
 
-    // The word of a place (RFC 8439, ChaCha20).
+    // Returns the word at a place (RFC 8439, ChaCha20).
     #[inline(never)]
     fn word(&mut self, place: u128) -> u32
         ensures word { result ≡ loss_word self.old.seed self.old.pipe self.old.instance place }
@@ -83,9 +84,9 @@ impl LossStream {
         word
     }
 
-    /// Draws the word of the next packet, at every rate, and answers whether it loses the packet.
-    /// The count stays at 2^128 - 1. At the rates 0 and 1, which every word is above and below, none
-    /// is computed.
+    /// Draws the word of the next packet, at every rate, and returns true if the packet is lost.
+    /// The count saturates at 2^128 - 1. At the rates 0 and 1 no word is computed, because the
+    /// result doesn't depend on it.
     #[inline(always)]
     pub fn lose(&mut self, plr: LossRate) -> bool
         ensures answer { result
@@ -106,7 +107,7 @@ impl LossStream {
         }
     }
 
-    /// How many words were drawn, which is the place of the next one.
+    /// Returns the number of words drawn, which is the place of the next one.
     pub fn drawn(&self) -> u128
         ensures { result ≡ self.now.drawn }
     {

@@ -1,4 +1,5 @@
-//! How a packet is made, passes the rules, and comes to a pipe or to the link of `allow`.
+//! The creation of packets, their way through the rules, and their arrival at a pipe or at the link
+//! of `allow`.
 
 ghost use Rattle.std.specs.Prelude.{◌≡◌, ℕ, ◌+◌, ◌*◌, ◌^◌, ◌<◌, ◌≤◌, ◌∷◌, ◌++◌, [], if◌then◌else◌, None, IfSome, IfOk, OnOk};
 ghost use Rattle.std.specs.Option.{option_map_or};
@@ -25,7 +26,7 @@ use pipe_core::{NO_INSTANCE, keys_say_all};
 use std::alloc::AllocError;
 use traffic::Sending;
 
-// A packet with this header.
+// Returns a packet with this header.
 #[inline(always)]
 fn packet_of(load: Load, send: &SendSpec, number: u64) -> Packet
     ensures { result ≡ packet_of load send.now number }
@@ -46,7 +47,7 @@ fn packet_of(load: Load, send: &SendSpec, number: u64) -> Packet
     }
 }
 
-// The delay of the link of `allow`.
+// Returns the delay of the link of `allow`.
 fn no_delay() -> Delay
     ensures { result ≡ 0 }
 {
@@ -54,7 +55,8 @@ fn no_delay() -> Delay
 }
 
 impl Network {
-    // Makes the growths of handing on a packet as it was classified, and tells its route where it has one.
+    // Reserves the memory for sending on a packet as it was classified, and returns its route if it
+    // has one.
     #[inline(always)]
     pub(crate) fn arrival_ready<S: Shelf>(
         &mut self,
@@ -88,7 +90,7 @@ impl Network {
         }
     }
 
-    // The same of a packet that comes to a pipe.
+    // Reserves memory like `arrival_ready`, for a packet that a rule sends to a pipe.
     #[tactic(auto, using(crate::proofs::RouteFacts::known_grown))]
     #[inline(always)]
     fn pipe_ready<S: Shelf>(
@@ -127,7 +129,8 @@ impl Network {
         }))
     }
 
-    // Makes the growths of making a packet with this header, whose route may be remembered on a line.
+    // Reserves the memory for creating a packet with this header, whose route may be cached on a
+    // line.
     #[tactic(auto, using(crate::proofs::RouteFacts::known_grown))]
     #[inline(always)]
     pub(crate) fn make_ready<S: Shelf>(
@@ -159,7 +162,7 @@ impl Network {
         Ok(Lookup::Cached(line))
     }
 
-    // The same where its route isn't remembered.
+    // Reserves memory like `make_ready`, for a packet whose route is not cached.
     #[tactic(auto, using(crate::proofs::RouteFacts::known_grown))]
     #[inline(never)]
     fn make_searched<S: Shelf>(
@@ -195,7 +198,7 @@ impl Network {
         Ok(Lookup::Searched)
     }
 
-    // The same of a packet whose route isn't to be remembered.
+    // Reserves memory like `make_ready`, for a packet whose route will not be cached.
     pub(crate) fn inject_ready<S: Shelf>(
         &mut self,
         shelf: &mut S,
@@ -231,7 +234,7 @@ impl Network {
         });
     }
 
-    // Records that a packet is made, where packets are traced.
+    // Records that a packet is created, if packets are traced.
     #[inline(always)]
     fn note_made(&mut self, now: u64, packet: &Packet)
         requires { 0 < self.old.log.spare }
@@ -254,7 +257,7 @@ impl Network {
         });
     }
 
-    // Records that a packet comes to a pipe, where packets are traced.
+    // Records that a packet arrives at a pipe, if packets are traced.
     #[inline(always)]
     fn note_arrival(&mut self, now: u64, number: PipeNumber, packet: &Packet)
         requires { 1 < self.old.log.spare }
@@ -271,7 +274,7 @@ impl Network {
         self.table.note_arrival(&mut self.log, now, number, *packet);
     }
 
-    // A packet enters the link of `allow`.
+    // Adds a packet to the link of `allow`.
     #[inline(always)]
     fn to_direct<S: Shelf>(&mut self, shelf: &mut S, owner: Owner, now: u64, packet: &Packet)
         requires early { IsMoment now }
@@ -294,7 +297,7 @@ impl Network {
         };
     }
 
-    // A packet comes into a pipe.
+    // Adds a packet to a pipe, or drops it.
     #[tactic(auto, using(crate::proofs::RouteFacts::known_grown))]
     #[inline(always)]
     fn enter_pipe<S: Shelf>(
@@ -326,7 +329,7 @@ impl Network {
         }
     }
 
-    // A packet comes to a pipe.
+    // Records a packet's arrival at a pipe, and adds the packet to the pipe, or drops it.
     #[inline(always)]
     fn to_pipe<S: Shelf>(
         &mut self,
@@ -351,7 +354,7 @@ impl Network {
         self.enter_pipe(shelf, owner, at, number, packet);
     }
 
-    // A packet passes the rules by its route, and comes into the pipe to which that leads.
+    // Counts a packet at the rule of its route, and adds it to the route's pipe, or drops it.
     #[tactic(auto, using(crate::proofs::RouteFacts::known_counted, crate::proofs::RouteFacts::known_grown))]
     #[inline(always)]
     fn pass_by_route<S: Shelf>(
@@ -387,7 +390,7 @@ impl Network {
         }
     }
 
-    // A packet is handed on by a verdict.
+    // Handles a packet according to a verdict.
     #[inline(always)]
     fn hand_on<S: Shelf>(
         &mut self,
@@ -418,7 +421,7 @@ impl Network {
         }
     }
 
-    // A packet passes the rules from the first on, by a search.
+    // Passes a packet through the rules from the first one on, with a search.
     #[tactic(auto, using(crate::proofs::RouteFacts::known_searched))]
     #[inline(never)]
     fn pass_rules<S: Shelf>(
@@ -443,7 +446,7 @@ impl Network {
         self.hand_on(shelf, owner, at, verdict, &packet);
     }
 
-    // A packet that left a pipe passes the rules behind the one that sent it there.
+    // Passes a packet that left a pipe through the rules after the one that sent it there.
     pub(crate) fn reinject<S: Shelf>(
         &mut self,
         shelf: &mut S,
@@ -469,7 +472,7 @@ impl Network {
         }
     }
 
-    // The same by a search.
+    // Passes a packet through the rules like `reinject`, with a search.
     #[tactic(auto, using(crate::proofs::RouteFacts::known_searched))]
     #[inline(never)]
     fn search_after<S: Shelf>(
@@ -494,7 +497,8 @@ impl Network {
         self.hand_on(shelf, owner, at, verdict, &packet);
     }
 
-    // A packet of the next number is made, and passes the rules if it may be held.
+    // Creates a packet with the next number, and passes it through the rules if the budget allows
+    // it.
     #[inline(always)]
     pub(crate) fn make<S: Shelf>(
         &mut self,

@@ -1,4 +1,4 @@
-//! What commands do.
+//! The effects of commands.
 
 ghost use Rattle.std.specs.Prelude.{◌≡◌, ℕ, ◌+◌, ◌*◌, ◌^◌, ◌<◌, ◌≤◌, ◌++◌, ◌∷◌, [], Some, None, IsOk, IsSome, OnOk, OnErr, map, length};
 ghost use Rattle.emu_model.specs.Moments.{IsMoment};
@@ -26,9 +26,9 @@ use std::alloc::AllocError;
 use traffic::Sending;
 
 impl Network {
-    /// A command comes, which has this number: it is done, or refused, and either is recorded. Each
-    /// growth comes first: where memory is refused, only room has changed. After it there is room for
-    /// one record more.
+    /// Executes a command with this number, or refuses it, and records which. Allocates before it
+    /// changes anything: if allocation fails, only spare capacity changes. Afterwards there is room
+    /// for one more record.
     pub fn obey<S: Shelf>(
         &mut self,
         shelf: &mut S,
@@ -96,7 +96,7 @@ impl Network {
         });
     }
 
-    // A rule is added.
+    // Adds a rule.
     #[tactic(auto, using(crate::proofs::RouteFacts::known_none))]
     fn add(&mut self, at: EventContext, number: u64, rule: &Rule) -> Result<(), AllocError>
         requires log { 1 < self.old.log.spare }
@@ -114,7 +114,7 @@ impl Network {
         Ok(())
     }
 
-    // The rules of a number are deleted.
+    // Deletes the rules with a number.
     #[tactic(auto, using(crate::proofs::RouteFacts::known_none))]
     fn delete(&mut self, at: EventContext, number: u64, rule: RuleNumber) -> Result<(), AllocError>
         requires log { 1 < self.old.log.spare }
@@ -131,7 +131,7 @@ impl Network {
         Ok(())
     }
 
-    // A pipe is configured.
+    // Configures a pipe.
     #[tactic(auto, using(crate::proofs::RouteFacts::known_none))]
     fn configure(
         &mut self,
@@ -157,7 +157,7 @@ impl Network {
         Ok(())
     }
 
-    // A pipe is deleted, and all that it held is dropped.
+    // Deletes a pipe, and drops all its packets.
     #[tactic(auto, using(crate::proofs::RouteFacts::known_none))]
     fn delete_pipe<S: Shelf>(
         &mut self,
@@ -179,7 +179,7 @@ impl Network {
         ensures frame { Frame result owner (S.pocket shelf.old) (S.pocket shelf.new)
             self.old self.new }
     {
-        // A pipe that isn't there drops nothing, and needs no room for it.
+        // A pipe that doesn't exist drops nothing, and needs no room for records of drops.
         if !self.table.has(pipe) {
             self.refuse(at.now, number, Refusal::NoSuchPipe);
             return Ok(());
@@ -195,7 +195,7 @@ impl Network {
         Ok(())
     }
 
-    // The pipes are listed.
+    // Lists the pipes.
     fn show_pipes(&mut self, at: EventContext, number: u64) -> Result<(), AllocError>
         ensures ok { OnOk result (Obeys at number PipeShow self.old self.new) }
         ensures room { OnOk result (0 < self.new.log.spare) }
@@ -208,7 +208,7 @@ impl Network {
         Ok(())
     }
 
-    // The rules are listed.
+    // Lists the rules.
     fn show_rules(&mut self, at: EventContext, number: u64) -> Result<(), AllocError>
         ensures ok { OnOk result (Obeys at number Show self.old self.new) }
         ensures room { OnOk result (0 < self.new.log.spare) }
@@ -222,7 +222,7 @@ impl Network {
         Ok(())
     }
 
-    // A packet is made.
+    // Creates a packet.
     fn inject<S: Shelf>(
         &mut self,
         shelf: &mut S,
@@ -249,7 +249,7 @@ impl Network {
         Ok(())
     }
 
-    // A train begins.
+    // Starts a train.
     fn start_train(
         &mut self,
         at: EventContext,
@@ -274,7 +274,7 @@ impl Network {
         Ok(())
     }
 
-    // A flow begins.
+    // Starts a flow.
     fn start_flow(
         &mut self,
         at: EventContext,
@@ -298,7 +298,7 @@ impl Network {
         Ok(())
     }
 
-    // A flow is stopped.
+    // Stops a flow.
     fn stop(&mut self, at: EventContext, number: u64, flow: FlowNumber) -> Result<(), AllocError>
         requires { 1 < self.old.log.spare }
         ensures ok { OnOk result (Obeys at number (Stop flow) self.old self.new) }
@@ -315,7 +315,7 @@ impl Network {
         Ok(())
     }
 
-    // Whether a packet that leaves a pipe is delivered at once is set.
+    // Sets whether a packet that leaves a pipe is delivered at once.
     fn set_one_pass(
         &mut self,
         at: EventContext,
@@ -333,7 +333,7 @@ impl Network {
         Ok(())
     }
 
-    // Whether packets are traced is set.
+    // Sets whether packets are traced.
     fn set_trace(&mut self, at: EventContext, number: u64, trace: bool) -> Result<(), AllocError>
         requires { 1 < self.old.log.spare }
         ensures ok { OnOk result (Obeys at number (Trace trace) self.old self.new) }
@@ -346,7 +346,7 @@ impl Network {
         Ok(())
     }
 
-    // The last command.
+    // Executes the last command.
     fn end(&mut self, at: EventContext, number: u64) -> Result<(), AllocError>
         requires { 1 < self.old.log.spare }
         ensures ok { OnOk result (Obeys at number End self.old self.new) }
@@ -359,7 +359,7 @@ impl Network {
     }
 }
 
-// A packet without a load that is to be made.
+// Returns a packet without a load that is to be created.
 fn plain_sending(send: &SendSpec) -> Sending
     ensures { result ≡ record { load = Load.Plain; send = send.now } }
 {

@@ -1,4 +1,4 @@
-//! What a delivered packet does.
+//! The effects of delivered packets.
 
 ghost use Rattle.std.specs.Prelude.{◌≡◌, ℕ, ◌+◌, ◌*◌, ◌^◌, ◌<◌, ◌≤◌, IsOk, IfOk, OnOk};
 ghost use Rattle.std.specs.Option.{option_map_or};
@@ -19,7 +19,7 @@ use packet_store::{Owner, Shelf};
 use std::alloc::AllocError;
 
 impl Network {
-    // Makes the growths of delivering this load.
+    // Reserves the memory for delivering this load.
     #[inline(always)]
     pub(crate) fn deliver_ready<S: Shelf>(
         &mut self,
@@ -49,7 +49,7 @@ impl Network {
         }
     }
 
-    // Makes the growths of delivering a segment.
+    // Reserves the memory for delivering a segment.
     #[inline(always)]
     fn segment_ready<S: Shelf>(
         &mut self,
@@ -79,7 +79,7 @@ impl Network {
         self.make_ready(shelf, owner, now, reply_line_of(flow), &send)
     }
 
-    // A packet is delivered.
+    // Delivers a packet.
     #[inline(always)]
     pub(crate) fn deliver<S: Shelf>(
         &mut self,
@@ -108,7 +108,7 @@ impl Network {
         self.take_load(shelf, owner, at, packet.load, lookup);
     }
 
-    // What a delivered load does.
+    // Passes a delivered load to its flow, if it has one.
     #[inline(always)]
     fn take_load<S: Shelf>(
         &mut self,
@@ -135,7 +135,7 @@ impl Network {
         }
     }
 
-    // A flow's receiver takes a segment, and acknowledges it.
+    // Passes a segment to a flow's receiver, which acknowledges it.
     #[inline(always)]
     fn take_segment<S: Shelf>(
         &mut self,
@@ -163,7 +163,7 @@ impl Network {
         }
     }
 
-    // A flow's sender takes an acknowledgement.
+    // Passes an acknowledgement to a flow's sender.
     #[inline(always)]
     fn take_ack(&mut self, now: u64, flow: FlowNumber, upto: u64)
         requires early { IsMoment now }

@@ -1,4 +1,4 @@
-//! What is due first, and what is told of a net.
+//! The first due, and the records and counters of a net.
 
 ghost use Rattle.std.specs.Prelude.{◌≡◌, ◌<◌, ◌≤◌, ◌++◌, ◌∷◌, [], option_to_list, IfSome, OnOk, OnErr};
 ghost use Rattle.std.specs.List.{best_of};
@@ -17,8 +17,8 @@ use pipe_core::keys_say_all;
 use std::alloc::AllocError;
 
 impl Network {
-    /// The least of a due and those of all events but the next command, where the last event was at
-    /// the moment `clock` (ns); the first of equal ones.
+    /// Returns the earliest of a due and those of all events but the next command, given that the
+    /// last event was at `clock` (ns); the first of equal ones.
     pub fn earliest(&self, clock: u64, best: Due) -> Due
         ensures least { (p : Pocket) →
             result ≡ best_of is_before best (dues_of clock (net_of p self.now)) }
@@ -31,8 +31,8 @@ impl Network {
         self.traffic.earliest(clock, least.some())
     }
 
-    /// The same. Only what is kept of timers changes, which nothing shows: where nothing changes else, the next call finds
-    /// the least at once.
+    /// Returns the earliest due like `earliest`. Changes only cached timers, which is not
+    /// observable: if nothing else changes, the next call finds the earliest due at once.
     #[inline(always)]
     pub fn next_due(&mut self, clock: u64, best: Due) -> Due
         ensures least { (p : Pocket) →
@@ -47,7 +47,7 @@ impl Network {
         self.traffic.next_due(clock, least).some()
     }
 
-    // The due of the link of `allow`, where something is in flight there.
+    // Returns the due of the link of `allow`, or None if nothing is in flight there.
     #[inline(always)]
     fn direct_due(&self) -> Option<Due>
         ensures dues { (p : Pocket) →
@@ -75,8 +75,8 @@ impl Network {
         Ok(())
     }
 
-    /// Appends the dues of all events but the next command, where the last event was at the moment
-    /// `clock` (ns), or leaves `dues` as it was.
+    /// Appends the dues of all events but the next command, given that the last event was at
+    /// `clock` (ns). If allocation fails, `dues` is unchanged.
     pub fn add_dues(&self, clock: u64, dues: &mut Vec<Due>) -> Result<(), AllocError>
         ensures ok { OnOk result
             ((p : Pocket) → dues.new.items ≡ dues.old.items ++ dues_of clock (net_of p self.now)) }
@@ -95,14 +95,14 @@ impl Network {
         Ok(())
     }
 
-    /// What was recorded, in order.
+    /// Returns the records, in order.
     pub fn records(&self) -> &[Record]
         ensures { result.now ≡ self.now.log.records }
     {
         self.log.as_slice()
     }
 
-    /// The counters, where so many packets are held: those that the owner has on the shelf.
+    /// Returns the counters, given the number of packets that the owner has on the shelf.
     pub fn counters(&self, held: u64) -> Counters
         ensures { (p : Pocket) → IsHoused p self.now → held ≡ p.count →
             result ≡ counters_of (net_of p self.now) }
@@ -116,7 +116,7 @@ impl Network {
         }
     }
 
-    /// What was recorded is forgotten; its room stays.
+    /// Removes all records. Keeps the allocation.
     pub fn forget_records(&mut self)
         ensures rest { self.new ≡ record self.old { log = self.new.log } }
         ensures records { self.new.log.records ≡ [] }
@@ -125,7 +125,7 @@ impl Network {
         self.log.clear();
     }
 
-    /// What was recorded, as a `Vec`. Takes no memory.
+    /// Converts the network into a `Vec` of its records. Does not allocate.
     pub fn into_records(self) -> Vec<Record>
         ensures { result.items ≡ self.log.records }
     {
@@ -133,7 +133,7 @@ impl Network {
         log.into_vec()
     }
 
-    /// Records that the steps are spent, where there is room.
+    /// Records that the steps are spent. There must be room for the record.
     pub fn note_spent(&mut self, now: u64)
         requires { 0 < self.old.log.spare }
         ensures { Notes (StepsSpent now ∷ []) self.old self.new }

@@ -1,4 +1,4 @@
-//! The events but the next command: exits, finishes, expiries and emissions.
+//! The events other than the next command: exits, finishes, expiries and emissions.
 
 ghost use Rattle.std.specs.Prelude.{◌≡◌, ◌+◌, ◌*◌, ◌^◌, ◌<◌, ◌≤◌, ℕ, Some, true, false, IsOk, IfOk, OnOk, OnSome, option_and_then, map, length};
 ghost use Rattle.std.specs.Option.{option_map_or};
@@ -30,8 +30,8 @@ use pipe_table::RecordLog;
 use std::alloc::AllocError;
 use traffic::Sending;
 
-/// How many records an event makes at most, besides a line for each thing that is listed or dropped
-/// with others, and one that tells of the last step.
+/// The maximum number of records of an event, apart from one for each thing that is listed or
+/// dropped with others, and from the one for the last step.
 pub(crate) const MAX_RECORDS: usize = 6;
 
 // Records that packets were dropped, in order.
@@ -51,8 +51,9 @@ pub(crate) fn note_drops(log: &mut RecordLog, now: u64, packets: &[Packet], caus
 }
 
 impl Network {
-    /// The event of something that is due now, as `earliest` told. Each growth comes first: refused,
-    /// only room has changed. After it there is room for one record more.
+    /// Executes the event of a due, which must be due now, as `earliest` returned it. Allocates
+    /// before it changes anything: if allocation fails, only spare capacity changes. Afterwards
+    /// there is room for one more record.
     #[inline(always)]
     pub fn event<S: Shelf>(
         &mut self,
@@ -106,7 +107,7 @@ impl Network {
         }
     }
 
-    // What leaves the link of `allow` first.
+    // Returns the next packet to leave the link of `allow`.
     fn direct_front<S: Shelf>(&self, shelf: &S, owner: Owner) -> Option<Packet>
         requires { IsHoused (S.pocket shelf.now owner) self.now }
         ensures { result ≡ first_item (net_of (S.pocket shelf.now owner) self.now).direct.in_flight }
@@ -115,7 +116,7 @@ impl Network {
         shelf.look(owner, key)
     }
 
-    // Makes the growths of an exit of the link of `allow`.
+    // Reserves the memory for an exit from the link of `allow`.
     fn direct_ready<S: Shelf>(
         &mut self,
         shelf: &mut S,
@@ -143,7 +144,7 @@ impl Network {
         self.deliver_ready(shelf, owner, now, packet.load)
     }
 
-    // The first packet in flight leaves the link of `allow`.
+    // Removes the first packet in flight from the link of `allow`, and returns it.
     fn leave_direct<S: Shelf>(&mut self, shelf: &mut S, owner: Owner) -> Option<Packet>
         requires { IsHoused (S.pocket shelf.old owner) self.old }
         ensures packet { result ≡ first_item
@@ -164,7 +165,7 @@ impl Network {
         Some(packet)
     }
 
-    // The first packet in flight leaves the link of `allow`, and is delivered.
+    // Removes the first packet in flight from the link of `allow`, and delivers it.
     #[inline(never)]
     fn direct_exit<S: Shelf>(
         &mut self,
@@ -189,7 +190,8 @@ impl Network {
         Ok(())
     }
 
-    // The first packet in flight leaves an instance of a pipe.
+    // Removes the first packet in flight from an instance of a pipe, and delivers it or returns it
+    // to the rules.
     #[inline(always)]
     fn pipe_exit<S: Shelf>(
         &mut self,
@@ -223,7 +225,7 @@ impl Network {
         self.pass_front(shelf, owner, at, pipe, place, instance)
     }
 
-    // The same of a pipe that stands at a place, where the packet is delivered.
+    // Removes a packet like `pipe_exit`, given the pipe's place, and delivers it.
     #[tactic(auto, using(crate::proofs::RouteFacts::known_grown))]
     #[inline(always)]
     fn deliver_front<S: Shelf>(
@@ -262,7 +264,8 @@ impl Network {
         Ok(())
     }
 
-    // Makes the growths of a packet that goes on in the rules, and tells its route where it has one.
+    // Reserves the memory for a packet that continues in the rules, and returns its route if it has
+    // one.
     fn pass_ready<S: Shelf>(
         &mut self,
         shelf: &mut S,
@@ -283,7 +286,7 @@ impl Network {
         self.arrival_ready(shelf, owner, now, found, packet)
     }
 
-    // The same where the packet goes on in the rules.
+    // Removes a packet like `pipe_exit`, given the pipe's place, and returns it to the rules.
     #[tactic(auto, using(crate::proofs::RouteFacts::known_grown))]
     #[inline(never)]
     fn pass_front<S: Shelf>(
@@ -324,7 +327,7 @@ impl Network {
         Ok(())
     }
 
-    // The packet in service in an instance of a pipe finishes.
+    // Finishes the packet in service in an instance of a pipe.
     #[tactic(auto, using(crate::proofs::RouteFacts::known_grown))]
     #[inline(always)]
     fn pipe_finish<S: Shelf>(
@@ -365,7 +368,7 @@ impl Network {
         Ok(())
     }
 
-    // The same where CoDel may drop.
+    // Finishes a packet like `pipe_finish`, if CoDel may drop others.
     #[tactic(auto, using(crate::proofs::RouteFacts::known_grown))]
     #[inline(never)]
     fn finish_dropping<S: Shelf>(
@@ -412,7 +415,7 @@ impl Network {
         note_drops(&mut self.log, now, packets, cause);
     }
 
-    // A flow's timer came due.
+    // Handles the expiry of a flow's timer.
     #[inline(never)]
     fn expire(&mut self, at: EventContext, flow: FlowNumber)
         requires early { IsMoment at.now }
@@ -432,7 +435,7 @@ impl Network {
         }
     }
 
-    // A source sends a packet.
+    // Sends a packet of a source.
     #[inline(always)]
     fn emission<S: Shelf>(
         &mut self,

@@ -1,5 +1,6 @@
-//! Routes: how a packet goes that one rule alone counts, and sends into an instance that is there. A source's packets all
-//! have one header, so its route is remembered until a command changes rules or pipes (our choice).
+//! A cache of routes. A packet has a route if only one rule counts it, and that rule sends it to an
+//! instance that exists. All packets of a source have one header, so the source's route is cached
+//! until the next command (our choice).
 
 ghost use Rattle.std.specs.Prelude.{◌≡◌, ◌<◌, [], List, Some, IfSome, IfNone, IsTrue, slice_get};
 ghost use Rattle.emu_model.specs.Rules.{Counted};
@@ -11,7 +12,8 @@ use emu_model::{FlowNumber, PipeNumber, Place, SendSpec};
 use std::alloc::Global;
 use std::marker::Model;
 
-/// The place of the rule, what the packet bears of it, the pipe's number, and the places of pipe and instance.
+/// The place of the rule, the place that the packet records, the pipe's number, and the places of
+/// the pipe and the instance.
 #[derive(Clone, Copy)]
 pub struct Route {
     pub rule: usize,
@@ -21,7 +23,7 @@ pub struct Route {
     pub instance: usize,
 }
 
-/// How a packet with a header is handed on: by the route that is remembered on a line, or by a search.
+/// How to route a packet with a header: by the route that is cached on a line, or by a search.
 #[derive(Clone, Copy)]
 pub enum Lookup {
     Cached(usize),
@@ -35,10 +37,11 @@ pub struct CacheEntry {
     pub route: Route,
 }
 
-/// How many sources have lines of their own.
+/// The number of sources with lines of their own.
 const SOURCES: usize = 256;
 
-/// The line on which the route of a source's packets stands. Two sources may have one line: a route is told by its header.
+/// Returns the line for the route of a source's packets. Two sources may share a line, so an entry
+/// is identified by its header.
 #[inline(always)]
 pub(crate) fn line_of(source: FlowNumber) -> usize
     ensures { result < 512 }
@@ -46,7 +49,7 @@ pub(crate) fn line_of(source: FlowNumber) -> usize
     usize::from(source.get()) % SOURCES * 2
 }
 
-/// The line on which the route of a flow's acknowledgements stands.
+/// Returns the line for the route of a flow's acknowledgements.
 #[inline(always)]
 pub(crate) fn reply_line_of(flow: FlowNumber) -> usize
     ensures { result < 512 }
@@ -54,7 +57,7 @@ pub(crate) fn reply_line_of(flow: FlowNumber) -> usize
     usize::from(flow.get()) % SOURCES * 2 + 1
 }
 
-// Two headers are the same.
+// Returns true if two headers are equal.
 #[inline(always)]
 fn is_same(first: &SendSpec, second: &SendSpec) -> bool
     ensures { IsTrue result → first.now ≡ second.now }
@@ -67,7 +70,7 @@ fn is_same(first: &SendSpec, second: &SendSpec) -> bool
         && first.size.get() == second.size.get()
 }
 
-/// The routes that are remembered.
+/// The cached routes.
 #[derive(Drop)]
 pub struct FlowCache {
     lines: Vec<Option<CacheEntry>>,
@@ -83,7 +86,7 @@ impl Model for FlowCache {
 }
 
 impl FlowCache {
-    /// None. Takes no memory.
+    /// Creates an empty cache. Does not allocate.
     pub(crate) fn new(alloc: Global) -> Self
         ensures { result ≡ [] }
     {
@@ -92,14 +95,14 @@ impl FlowCache {
         }
     }
 
-    /// None any more; their room stays.
+    /// Removes all routes. Keeps the allocation.
     pub(crate) fn clear(&mut self)
         ensures { self.new ≡ [] }
     {
         self.lines.clear();
     }
 
-    /// The route of the packets with this header, where it is remembered on this line.
+    /// Returns the entry for packets with this header, if this line has it.
     #[inline(always)]
     pub(crate) fn get(&self, line: usize, send: &SendSpec) -> Option<&CacheEntry>
         ensures { IfSome result (λ r. (slice_get self.now line ≡ Some (Some r.now))
@@ -112,7 +115,7 @@ impl FlowCache {
         None
     }
 
-    /// What stands on this line.
+    /// Returns the entry of this line.
     #[inline(always)]
     pub(crate) fn at(&self, line: usize) -> Option<&CacheEntry>
         ensures some { IfSome result (λ r. slice_get self.now line ≡ Some (Some r.now)) }
@@ -122,7 +125,7 @@ impl FlowCache {
         self.lines.get(line)?.as_ref()
     }
 
-    /// Remembers a route, where there is memory for it; whether there was.
+    /// Caches a route, and returns true, unless allocation fails.
     #[tactic(auto, using(crate::proofs::RouteFacts::known_more, crate::proofs::RouteFacts::known_learned))]
     #[inline(never)]
     pub(crate) fn insert(&mut self, line: usize, send: &SendSpec, route: &Route) -> bool

@@ -1,9 +1,10 @@
-//! A law of what only room changes, as the contract of a function that does nothing, so that the
-//! check proves it.
+//! A law about changes of spare capacity, stated as the contract of a function with an empty body,
+//! so that the checker proves it.
 
 ghost use Rattle.network.specs.Changes.{StillIsHoused};
 
-/// Where only room has changed, the owner's packets are still just those that the keys name.
+/// If only spare capacity has changed, the owner's packets are still exactly those that the keys
+/// refer to.
 pub fn still_is_housed()
     ensures { StillIsHoused }
 {}

@@ -1,5 +1,5 @@
-//! What moves packets in one experiment: rules, pipes, the link of `allow`, flows and trains, and
-//! what is recorded. Own, in the words of ipfw(8).
+//! Everything that moves packets in one experiment: rules, pipes, the link of `allow`, flows and
+//! trains, and the records. The design is ours; the terms are those of ipfw(8).
 #![tactic(auto)]
 
 mod arrivals;

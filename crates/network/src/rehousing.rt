@@ -1,4 +1,4 @@
-//! All packets move from one shelf to another.
+//! The move of all packets from one shelf to another.
 
 ghost use Rattle.std.specs.Prelude.{◌≡◌, ◌≤◌, length};
 ghost use Rattle.packet_store.specs.Pocket.{empty_pocket, OthersStay};
@@ -9,8 +9,8 @@ use packet_store::{Owner, Shelf};
 use pipe_core::{keys_say_all, rehouse_line};
 
 impl Network {
-    /// Moves all packets from one shelf to another, where the other owner has none and there is room for
-    /// them, and keeps the keys that they have there. Nothing else changes. Takes no memory.
+    /// Moves all packets from one shelf to another, where the other owner must have none and there
+    /// must be room for them, and stores the new keys. Nothing else changes. Does not allocate.
     #[tactic(auto, using(crate::proofs::RouteFacts::known_grown))]
     pub fn rehouse<S: Shelf, T: Shelf>(
         &mut self,

@@ -1,4 +1,4 @@
-//! What an experiment holds.
+//! The state of an experiment.
 
 ghost use Rattle.std.specs.Prelude.{◌≡◌, ◌+◌, ◌^◌, ◌<◌, ◌≤◌, ◌∷◌, [], IfOk, IsOk, OnOk};
 ghost use Rattle.emu_model.specs.Net.{initial_net};
@@ -17,8 +17,8 @@ use std::alloc::{AllocError, Global};
 use std::marker::Model;
 use traffic::Traffic;
 
-/// Rules, pipes, the link of `allow`, flows and trains of one experiment, and what it recorded. Its
-/// packets stand on a shelf.
+/// The rules, pipes, link of `allow`, flows and trains of one experiment, and its records. Its
+/// packets are on a shelf.
 #[derive(Drop)]
 pub struct Network {
     pub(crate) alloc: Global,
@@ -30,9 +30,9 @@ pub struct Network {
     pub(crate) one_pass: bool,
     pub(crate) trace: bool,
     pub(crate) log: RecordLog,
-    // Room for what CoDel drops at a finish.
+    // Room for the packets that CoDel drops at a finish.
     pub(crate) drops: Vec<Packet>,
-    // The routes of sources' packets.
+    // The routes of the sources' packets.
     pub(crate) flow_cache: FlowCache,
 }
 
@@ -58,7 +58,7 @@ impl Model for Network {
 }
 
 impl Network {
-    /// The default rule alone, and no packet yet.
+    /// Creates a network with only the default rule, and without packets.
     #[tactic(auto, unfolding(pipe_table::specs::Table::pipe_keys))]
     pub fn new(alloc: Global, seed: u64) -> Result<Self, AllocError>
         ensures shown { IfOk result (λ n. (p : Pocket) → net_of p n ≡ initial_net) }
@@ -82,7 +82,7 @@ impl Network {
         })
     }
 
-    // Records one thing more, for which there is room.
+    // Appends a record, for which there must be room.
     #[inline(always)]
     pub(crate) fn note(&mut self, entry: &Record)
         requires { 0 < self.old.log.spare }
@@ -93,7 +93,7 @@ impl Network {
 }
 
 impl Network {
-    // Makes room for so many records more.
+    // Reserves room for `additional` more records.
     #[inline(always)]
     pub(crate) fn reserve(&mut self, additional: usize) -> Result<(), AllocError>
         ensures rest { self.new ≡ record self.old { log = self.new.log } }
@@ -105,7 +105,8 @@ impl Network {
         self.log.reserve(additional)
     }
 
-    // Makes room for the records of a command, and forgets the routes, which may be others after it.
+    // Reserves room for the records of a command, and clears the cached routes, which the command
+    // may change.
     #[tactic(auto, using(crate::proofs::RouteFacts::known_none))]
     pub(crate) fn obey_ready(&mut self) -> Result<(), AllocError>
         ensures rest { self.new
@@ -121,7 +122,7 @@ impl Network {
         Ok(())
     }
 
-    // Makes room for three records besides so many.
+    // Reserves room for three records in addition to `lines`.
     pub(crate) fn reserve_besides(&mut self, lines: usize) -> Result<(), AllocError>
         ensures rest { self.new ≡ record self.old { log = self.new.log } }
         ensures records { self.new.log.records ≡ self.old.log.records }

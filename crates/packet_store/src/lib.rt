@@ -1,5 +1,5 @@
 //! Shelves of packets: a finite map from keys to packets for each owner, within the owner's budget.
-//! Own.
+//! Our choice.
 #![tactic(auto)]
 
 mod own;
@@ -16,7 +16,7 @@ pub use shared::Store;
 use std::alloc::AllocError;
 use std::marker::Model;
 
-/// Where a packet stands on a shelf. A contract sees it as a number.
+/// The place of a packet on a shelf. Contracts see it as a number.
 #[derive(Clone, Copy, PartialEq)]
 pub struct Key {
     place: usize,
@@ -30,26 +30,27 @@ impl Model for Key {
     ghost inverse = { λ n. record { place = n } };
 }
 
-/// Whose packet it is: 0 on an `OwnShelf` and on a `ReservedShelf`, what `Store::admit` answered on a `Store`.
+/// The owner of a packet: 0 on an `OwnShelf` and on a `ReservedShelf`, the result of `Store::admit`
+/// on a `Store`.
 pub type Owner = usize;
 
-/// Why a packet was not put.
+/// The reason why a packet was not stored.
 #[derive(Clone, Copy, Debug, PartialEq)]
 pub enum PutError {
-    /// The owner holds its whole budget, which is 0 for one that was not admitted.
+    /// The owner holds its whole budget, which is 0 for an owner that was not admitted.
     OverBudget = 50,
     NoMemory = 99,
 }
 
 /// A finite map from keys to packets for each owner.
 pub trait Shelf {
-    /// What an owner has there.
+    /// The packets and the budget of an owner.
     ghost pocket: { Self → ℕ → Pocket };
 
-    /// How many further `put`s of the owner need no memory.
+    /// The number of further `put`s of the owner that need no allocation.
     ghost room: { Self → ℕ → ℕ };
 
-    /// Makes the growths of the owner's next `put`, and changes nothing else.
+    /// Reserves memory for the owner's next `put`. Nothing else changes.
     fn put_ready(&mut self, owner: Owner) -> Result<(), AllocError>
         ensures ready { OnOk result
             ((pocket self.old owner).count < (pocket self.old owner).budget →
@@ -60,7 +61,7 @@ pub trait Shelf {
         ensures full { (pocket self.old owner).budget ≤ (pocket self.old owner).count →
             IsOk result };
 
-    /// Keeps a packet, and answers the key to it, which the owner had nothing at.
+    /// Stores a packet, and returns its key, at which the owner had no packet.
     fn put(&mut self, owner: Owner, packet: Packet) -> Result<Key, PutError>
         ensures vacant { IfOk result (λ key. (pocket self.old owner).find key ≡ None) }
         ensures ok { IfOk result
@@ -75,11 +76,11 @@ pub trait Shelf {
         ensures room_err { OnErr result (room self.old owner ≤ room self.new owner) }
         ensures room_others { (o : ℕ) → o ≢ owner → room self.old o ≤ room self.new o };
 
-    /// The owner's packet at a key.
+    /// Returns the owner's packet at a key.
     fn look(&self, owner: Owner, key: Key) -> Option<Packet>
         ensures { result ≡ (pocket self.now owner).find key };
 
-    /// Takes the owner's packet at a key away.
+    /// Removes the owner's packet at a key, and returns it.
     fn take(&mut self, owner: Owner, key: Key) -> Option<Packet>
         ensures value { result ≡ (pocket self.old owner).find key }
         ensures some { OnSome result (pocket self.new owner ≡ without (pocket self.old owner) key) }
@@ -91,7 +92,7 @@ pub trait Shelf {
         ensures below { OnSome result
             ((pocket self.new owner).count < (pocket self.new owner).budget) };
 
-    /// How many packets the owner has, which are never more than its budget.
+    /// Returns the number of the owner's packets, which never exceeds its budget.
     fn count(&self, owner: Owner) -> usize
         ensures value { result ≡ (pocket self.now owner).count }
         ensures within { result ≤ (pocket self.now owner).budget };

@@ -1,4 +1,4 @@
-//! A shelf of one owner.
+//! A shelf with one owner.
 ghost use Rattle.std.specs.Prelude.{◌≡◌, ◌+◌, ◌-◌, ◌≤◌, ◌⊎◌, ◌↔◌, OnOk, IsOk, IsTrue};
 ghost use Rattle.packet_store.specs.Pocket.{empty_pocket};
 ghost use Rattle.packet_store.specs.Own.{own_pocket, pocket_of_own, own_room, vacancies};
@@ -12,7 +12,7 @@ use std::marker::Model;
 #[derive(Drop)]
 pub struct OwnShelf {
     places: Vec<Option<Packet>>,
-    // The places where nothing stands, the one that became free last at the end. There is room for all of them.
+    // The vacant places; the one that was freed last is at the end. There is room for all of them.
     free: Vec<usize>,
     budget: usize,
 }
@@ -35,7 +35,7 @@ impl Model for OwnShelf {
 }
 
 impl OwnShelf {
-    /// An empty shelf, which takes no memory before the first `put`.
+    /// Creates an empty shelf, which does not allocate before the first `put`.
     pub fn new(alloc: Global, budget: PacketBudget) -> Self
         ensures own { own_pocket result ≡ empty_pocket budget }
     {
@@ -46,7 +46,7 @@ impl OwnShelf {
         }
     }
 
-    // A shelf on which nothing may stand.
+    // Creates a shelf that can hold no packets.
     pub(crate) fn none(alloc: Global) -> Self
         ensures own { own_pocket result ≡ empty_pocket 0 }
     {
@@ -57,7 +57,7 @@ impl OwnShelf {
         }
     }
 
-    /// Makes room for so many packets more, or for as many as the budget has left.
+    /// Reserves room for `additional` more packets, or for as many as the budget allows.
     pub fn reserve(&mut self, additional: usize) -> Result<(), AllocError>
         ensures ok { OnOk result
             (additional ≤ own_room self.new 0
@@ -71,7 +71,7 @@ impl OwnShelf {
         self.grow(wanted)
     }
 
-    /// Makes room for as many packets as the budget has left.
+    /// Reserves room for as many packets as the budget still allows.
     pub fn reserve_all(&mut self) -> Result<(), AllocError>
         ensures ok { OnOk result
             ((own_pocket self.old).budget - (own_pocket self.old).count ≤ own_room self.new 0) }
@@ -81,7 +81,7 @@ impl OwnShelf {
         self.reserve(self.budget)
     }
 
-    // How many packets stand there.
+    // Returns the number of packets on the shelf.
     #[inline(always)]
     fn packet_count(&self) -> usize
         ensures count { result ≡ (own_pocket self.now).count }
@@ -90,7 +90,7 @@ impl OwnShelf {
         self.places.len() - self.free.len()
     }
 
-    // Makes so many places more, and room for all places where nothing may stand.
+    // Reserves room for `additional` more places, and for all places in the list of vacant ones.
     #[inline(never)]
     fn grow(&mut self, additional: usize) -> Result<(), AllocError>
         ensures same { self.new ≡ record self.old { spare = self.new.spare } }
@@ -101,17 +101,17 @@ impl OwnShelf {
         if additional <= self.places.capacity() - self.places.len() {
             return Ok(());
         }
-        // More places than a number can count are more than memory has.
+        // If the number of places overflows, they don't fit into memory.
         let Some(least) = self.places.len().checked_add(additional) else {
             return Err(AllocError);
         };
-        // Room for free places comes first, so that each place of the packets has one at all times.
+        // The list of vacant places grows first, so that it always has room for each place.
         let places = least.max(self.places.capacity().saturating_mul(2));
         self.free.reserve_exact(places - self.free.len())?;
         self.places.reserve_exact(places - self.places.len())
     }
 
-    // The owner holds its budget.
+    // Returns true if the owner holds its whole budget.
     fn is_full(&self, owner: Owner) -> bool
         ensures { IsTrue result ↔
             ((pocket_of_own self.now owner).budget ≤ (pocket_of_own self.now owner).count) }

@@ -1,4 +1,4 @@
-//! A shelf of one owner that has a place for every packet of its budget.
+//! A shelf with one owner that has a place for every packet of its budget.
 ghost use Rattle.std.specs.Prelude.{◌≡◌, ◌+◌, ◌-◌, ◌<◌};
 ghost use Rattle.packet_store.specs.Own.{pocket_of_own};
 ghost use Rattle.packet_store.specs.Books.{HasAll};
@@ -8,7 +8,7 @@ use emu_model::Packet;
 use std::alloc::AllocError;
 use std::marker::Model;
 
-/// A shelf of owner 0 on which a `put` within the budget takes no memory.
+/// A shelf of owner 0 on which a `put` within the budget does not allocate.
 #[derive(Drop)]
 pub struct ReservedShelf {
     shelf: OwnShelf,
@@ -26,7 +26,7 @@ impl Model for ReservedShelf {
 }
 
 impl ReservedShelf {
-    // A shelf that has a place for every packet of its budget.
+    // Converts a shelf that has a place for every packet of its budget.
     pub(crate) fn of(shelf: OwnShelf) -> Self
         requires { HasAll shelf }
         ensures { result ≡ shelf }
@@ -34,7 +34,7 @@ impl ReservedShelf {
         ReservedShelf { shelf }
     }
 
-    // The shelf as one that may have fewer places.
+    // Converts the shelf into one that may have fewer places.
     pub(crate) fn into_own(self) -> OwnShelf
         ensures own { result ≡ self }
         ensures all { HasAll result }

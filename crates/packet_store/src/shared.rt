@@ -11,8 +11,8 @@ use std::alloc::{AllocError, Global};
 use std::marker::Model;
 use std::mem;
 
-/// The packets of many owners. Each has a shelf with a place for every packet of its budget, so that no other owner can
-/// take it.
+/// The packets of many owners. Each owner has a shelf with a place for every packet of its budget,
+/// which no other owner can use.
 #[derive(Drop)]
 pub struct Store {
     alloc: Global,
@@ -30,7 +30,7 @@ impl Model for Store {
 }
 
 impl Store {
-    /// A store without owners, which takes no memory before the first `admit`.
+    /// Creates a store without owners, which does not allocate before the first `admit`.
     #[tactic(auto, unfolding(crate::specs::Books::pocket_of))]
     pub fn new(alloc: Global) -> Self
         ensures none { (o : ℕ) → pocket_of result o ≡ empty_pocket 0 }
@@ -41,8 +41,8 @@ impl Store {
         }
     }
 
-    /// A new owner, with a place for each packet of its budget. The number of an owner that was dismissed is used
-    /// again.
+    /// Adds an owner, with a place for each packet of its budget. The number of an owner that was
+    /// dismissed is used again.
     #[tactic(auto, unfolding(crate::specs::Books::pocket_of))]
     pub fn admit(&mut self, budget: PacketBudget) -> Result<Owner, AllocError>
         ensures stranger { IfOk result (λ owner. pocket_of self.old owner ≡ empty_pocket 0) }
@@ -57,8 +57,8 @@ impl Store {
         Ok(owner)
     }
 
-    /// A new owner, with all that stands on a shelf, each packet at its key. Refused for want of memory, the shelf comes
-    /// back with what it holds.
+    /// Adds an owner with a shelf and its packets, which keep their keys. Returns the shelf with
+    /// its packets if memory runs out.
     #[tactic(auto, unfolding(crate::specs::Books::pocket_of))]
     pub fn settle(&mut self, mut shelf: OwnShelf) -> Result<Owner, OwnShelf>
         ensures stranger { IfOk result (λ owner. pocket_of self.old owner ≡ empty_pocket 0) }
@@ -77,8 +77,9 @@ impl Store {
         }
     }
 
-    /// Removes an owner and returns its shelf, each packet at its key. Its budget is 0 from then on, and its place in the
-    /// slab is free. Returns `None` if the owner was not admitted.
+    /// Removes an owner and returns its shelf, on which each packet keeps its key. The owner's
+    /// budget is then 0, and its place in the slab is free. Returns `None` if the owner was not
+    /// admitted.
     #[tactic(auto, unfolding(crate::specs::Books::pocket_of))]
     pub fn lift(&mut self, owner: Owner) -> Option<OwnShelf>
         ensures some { IfSome result (λ shelf. own_pocket shelf ≡ pocket_of self.old owner) }
@@ -90,7 +91,8 @@ impl Store {
         self.shelves.try_remove(owner)
     }
 
-    /// Drops what an owner holds and removes the owner: its budget is 0 from then on, and its place in the slab is free.
+    /// Removes an owner and its packets: the owner's budget is then 0, and its place in the slab is
+    /// free.
     #[tactic(auto, unfolding(crate::specs::Books::pocket_of))]
     pub fn dismiss(&mut self, owner: Owner)
         ensures gone { pocket_of self.new owner ≡ empty_pocket 0 }
@@ -100,7 +102,8 @@ impl Store {
         let _gone = self.lift(owner);
     }
 
-    /// Lends the shelf of an owner, whose budget is 0 until `give_back`; `None` where the owner was not admitted.
+    /// Lends the shelf of an owner, whose budget is 0 until `give_back`, or returns `None` if the
+    /// owner was not admitted.
     #[tactic(auto, unfolding(crate::specs::Books::pocket_of))]
     #[inline(always)]
     pub fn lend(&mut self, owner: Owner) -> Option<ReservedShelf>
@@ -115,7 +118,7 @@ impl Store {
         Some(ReservedShelf::of(mem::replace(shelf, none)))
     }
 
-    /// Takes a shelf back that was lent, with what stands there now.
+    /// Puts back a shelf that was lent, with its current packets.
     #[tactic(auto, unfolding(crate::specs::Books::pocket_of))]
     #[inline(always)]
     pub fn give_back(&mut self, owner: Owner, shelf: ReservedShelf)

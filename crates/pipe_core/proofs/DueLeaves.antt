@@ -1,7 +1,8 @@
 -- The index of what instances have due, as they change.
-use Rattle.std.proofs.Common.{◌≡◌, ℕ, ◌+◌, ◌*◌, ◌<◌, zero, suc, refl, sym, ap, ◌∙◌, List, [], ◌∷◌, ◌++◌, length, map, take, drop, get_or, set, Option, Some, None, arith}
+use Rattle.std.proofs.Common.{◌≡◌, ℕ, ◌+◌, ◌*◌, ◌<◌, ◌≤◌, zero, suc, refl, sym, ap, ◌∙◌, List, [], ◌∷◌, ◌++◌, length, map, take, drop, get_or, set, Option, Some, None, arith}
 use Rattle.std.specs.Prelude.{option_map, slice_get}
 use Rattle.std.proofs.Math.ListN.{get_or-map}
+use Rattle.std.proofs.lemmas.Bool.Decides.{nat_tests}
 use Rattle.std.proofs.lemmas.List.{append_assoc, map-append, map-set, set-get_or, set_at, drop_more, length-map, length-take-le}
 use Rattle.std.proofs.lemmas.List.{take_more}
 use Rattle.emu_model.specs.declared.packets.Packet.{Packet}
@@ -29,6 +30,17 @@ use Rattle.pipe_core.proofs.PipeFacts.{first_exit-seen, finish-seen}
 abbrev due_by : ℕ → Option ℕ → Option ℕ → Option Due
 due_by number exit finish =
     lesser (option_map (due Exit number) exit) (option_map (due Finish number) finish)
+
+-- an exit comes before a finish at the same time
+pub exit_first : (n e f : ℕ) → e ≤ f → lesser (Some (due Exit n e)) (Some (due Finish n f)) ≡ Some (due Exit n e)
+exit_first n e f h = grind (arith, nat_tests)
+
+pub finish_first : (n e f : ℕ) → f < e → lesser (Some (due Exit n e)) (Some (due Finish n f)) ≡ Some (due Finish n f)
+finish_first n e f h = grind (arith, nat_tests)
+
+pub exit_alone : (o : Option Due) → lesser o None ≡ o
+exit_alone None = refl
+exit_alone (Some d) = refl
 
 -- an instance was set anew
 pub leaves_set : (slots : List Slot) (k : ℕ) (y : Slot) (x z : Places) (d : Option Due) →

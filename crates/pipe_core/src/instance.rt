@@ -1,5 +1,6 @@
-//! One instance of a pipe, over the keys of its packets. Its arrival, finish and exit do to the keys
-//! what the definitions do to the packets, however the keys are named.
+//! One instance of a pipe, which holds the keys of its packets. An arrival, a finish and an exit
+//! change the keys exactly as the definitions change the packets, whatever packets the keys refer
+//! to.
 
 ghost use Rattle.std.specs.Prelude.{min, ◌≡◌, ℕ, ◌+◌, ◌-◌, ◌*◌, ◌^◌, ◌<◌, ◌≤◌, true, [], Some, None, option_map, is_some, IsSome, IsTrue, length, slice_get, slice_set, IfOk, OnOk, OnErr, IsOk, map};
 ghost use Rattle.emu_model.specs.Moments.{IsMoment};
@@ -25,7 +26,7 @@ use queue_disc::{Queue, Queued};
 use std::alloc::{AllocError, Global};
 use std::marker::Model;
 
-/// An instance of a pipe. Where nothing is in service, nothing waits.
+/// An instance of a pipe. Packets wait only while another one is in service.
 #[derive(Drop)]
 pub struct Instance {
     queue: Queue<Key>,
@@ -50,22 +51,23 @@ impl Model for Instance {
     ghost invariant = { λ i. i.service.busy ≡ None → i.queue.waiting ≡ [] };
 }
 
-/// The key whose packet finished, and what CoDel dropped then, in order.
+/// The key of the packet that finished, and the packets that CoDel dropped at that finish, in
+/// order.
 #[derive(Drop)]
 pub struct Finished {
     pub key: Key,
     pub dropped: Vec<Queued<Key>>,
 }
 
-/// When an instance has something to do (ns): the next exit, and the next finish.
+/// The times of an instance's next exit and next finish (ns).
 #[derive(Clone, Copy, Debug, PartialEq)]
 pub struct InstanceDues {
     pub exit: Option<u64>,
     pub finish: Option<u64>,
 }
 
-/// The numbers of an instance: how many packets wait, their bytes, whether one is in service, how
-/// many are on their way, and how many loss words were drawn (at most 2^64 - 1 is shown).
+/// The statistics of an instance: the packets that wait, their bytes, whether a packet is in
+/// service, the packets in flight, and the loss words drawn (shown as at most 2^64 - 1).
 #[derive(Clone, Copy, Debug, PartialEq)]
 pub struct Shown {
     pub waiting: u64,
@@ -76,7 +78,7 @@ pub struct Shown {
 }
 
 impl Instance {
-    /// An instance to which nothing has come. Takes no memory.
+    /// Creates an empty instance. Does not allocate.
     pub fn new(alloc: Global, config: &PipeConfig, seed: u64, pipe: PipeNumber, number: u8) -> Self
         ensures tuned { IsTuned config.now result }
         ensures opening { (f : ℕ → Packet) (id : FlowId) →
@@ -93,8 +95,8 @@ impl Instance {
         }
     }
 
-    /// Draws the loss word of the packet that comes, at every rate: whether it is lost. The count of
-    /// words stays at 2^128 - 1.
+    /// Draws the loss word of an arriving packet, at every loss rate, and returns true if the
+    /// packet is lost. The count of drawn words saturates at 2^128 - 1.
     #[inline(always)]
     pub fn lose(&mut self, plr: LossRate) -> bool
         ensures answer { let d = self.old.draws in
@@ -106,7 +108,7 @@ impl Instance {
         self.stream.lose(plr)
     }
 
-    /// Whether the limit lets a packet of `size` bytes come in.
+    /// Returns true if the queue limit accepts a packet of `size` bytes.
     #[inline(always)]
     pub fn accepts(&self, size: Size) -> bool
         ensures { result ≡ accepts self.now.queue.limit self.now.queue.waiting size }
@@ -114,7 +116,7 @@ impl Instance {
         self.queue.accepts(size)
     }
 
-    /// Makes the growth that `accept` of these can need: none where nothing is in service.
+    /// Reserves the memory that `accept` of this packet may need: none if no packet is in service.
     #[inline(always)]
     pub fn accept_ready(&mut self, size: Size, now: u64) -> Result<(), AllocError>
         ensures ready { OnOk result
@@ -139,8 +141,9 @@ impl Instance {
         }
     }
 
-    /// A packet of `size` bytes comes in at the moment `now` (ns) that the limit lets in: it waits, or
-    /// is served at once. Whether it waits.
+    /// Accepts a packet of `size` bytes at `now` (ns): starts its service if the instance is idle,
+    /// otherwise enqueues it. Returns true if the packet waits. The queue limit must accept the
+    /// packet.
     #[inline(always)]
     pub fn accept(&mut self, key: Key, size: Size, now: u64) -> bool
         requires early { IsMoment now }
@@ -159,10 +162,11 @@ impl Instance {
         false
     }
 
-    /// The packet in service finishes at the moment `now` (ns), at which it is due: it goes on its way
-    /// with this delay (ms), and the next is served. Where the caller knows that it is `plain`, as
-    /// `drops_none` told, it takes memory only if the line has no room. All growths come first;
-    /// refused, the instance is as before.
+    /// Finishes the packet in service at `now` (ns), when it is due: the packet enters the delay
+    /// line with this delay (ms), and the service of the next packet starts. If the caller knows
+    /// that the finish is `plain` (see `drops_none`), memory is needed only if the delay line is
+    /// full. Allocates before it changes anything; if allocation fails, only spare capacity
+    /// changes.
     #[inline(always)]
     pub fn finish(&mut self, now: u64, delay: Delay, plain: bool) -> Result<Finished, AllocError>
         requires early { IsMoment now }
@@ -194,7 +198,7 @@ impl Instance {
         })
     }
 
-    /// A finish at the moment `now` (ns) drops nothing for sure.
+    /// Returns true if a finish at `now` (ns) is certain to drop nothing.
     #[inline(always)]
     pub fn drops_none(&self, now: u64) -> bool
         ensures plain { result ≡ is_plain self.now.queue.discipline self.now.queue.control now self.now.queue.waiting }
@@ -204,7 +208,7 @@ impl Instance {
         self.queue.drops_none(now)
     }
 
-    /// Whether a packet is in service.
+    /// Returns true if a packet is in service.
     #[inline(always)]
     pub fn is_busy(&self) -> bool
         ensures { result ≡ is_some self.now.service.busy }
@@ -212,7 +216,7 @@ impl Instance {
         self.service.is_busy()
     }
 
-    /// How many packets wait.
+    /// Returns the number of packets that wait.
     #[inline(always)]
     pub fn waiting(&self) -> usize
         ensures { result ≡ length self.now.queue.waiting }
@@ -220,7 +224,8 @@ impl Instance {
         self.queue.waiting()
     }
 
-    /// What leaves first, which stays; None where nothing is on its way.
+    /// Returns the key of the next packet to leave, without removing it, or None if nothing is in
+    /// flight.
     #[inline(always)]
     pub fn front(&self) -> Option<Key>
         ensures { result ≡ first_item self.now.delay_line.line.in_flight }
@@ -228,7 +233,8 @@ impl Instance {
         self.line.front()
     }
 
-    /// Takes out what leaves first; None where nothing is on its way.
+    /// Removes the key of the next packet to leave, and returns it, or None if nothing is in
+    /// flight.
     #[inline(always)]
     pub fn exit(&mut self) -> Option<Key>
         ensures item { result ≡ first_item self.old.delay_line.line.in_flight }
@@ -244,8 +250,9 @@ impl Instance {
         self.line.leave()
     }
 
-    /// A new configuration. Nothing is dropped; the packet in service keeps its finish, at which its
-    /// period ends; CoDel begins anew where its discipline or times change. Takes no memory.
+    /// Changes the configuration. Drops nothing. The packet in service keeps its finish, and its
+    /// busy period ends there. CoDel's state is reset if the discipline or CoDel's times change.
+    /// Does not allocate.
     pub fn configure(&mut self, old: &PipeConfig, new: &PipeConfig)
         requires { IsTuned old.now self.old }
         ensures exact { self.new ≡ configured old.now new.now self.old }
@@ -259,7 +266,7 @@ impl Instance {
         self.service.configure(new.bw);
     }
 
-    /// How many keys it holds.
+    /// Returns the number of keys that the instance holds.
     pub fn key_count(&self) -> usize
         ensures { result ≡ length (keys_in self.now) }
     {
@@ -267,7 +274,7 @@ impl Instance {
         moving + self.queue.waiting()
     }
 
-    /// The key at a place, in the order: on their way, in service, waiting.
+    /// Returns the key at a place, in this order: in flight, in service, waiting.
     pub fn key_at(&self, place: usize) -> Option<Key>
         ensures { result ≡ slice_get (keys_in self.now) place }
     {
@@ -287,7 +294,8 @@ impl Instance {
         }
     }
 
-    /// Puts another key at a place, in the order of `key_at`. Nothing else changes. Takes no memory.
+    /// Replaces the key at a place, in the order of `key_at`. Nothing else changes. Does not
+    /// allocate.
     pub fn replace_key(&mut self, place: usize, key: Key)
         requires { place < length (keys_in self.old) }
         ensures keys { keys_in self.new ≡ slice_set (keys_in self.old) place key }
@@ -310,7 +318,8 @@ impl Instance {
         self.queue.replace(behind - 1, key);
     }
 
-    /// The keys that it holds, one by one: on their way, in service, waiting.
+    /// Converts the instance into an iterator over its keys, in this order: in flight, in service,
+    /// waiting.
     pub fn into_leftovers(self) -> Leftovers
         ensures { result ≡ keys_in self }
     {
@@ -323,7 +332,7 @@ impl Instance {
         Leftovers::new(line, service.key(), queue)
     }
 
-    /// When it has something to do (ns).
+    /// Returns the times of the next exit and the next finish (ns).
     #[inline(always)]
     pub fn dues(&self) -> InstanceDues
         ensures exit { result.exit ≡ first_exit self.now.delay_line.line.in_flight }
@@ -335,7 +344,7 @@ impl Instance {
         }
     }
 
-    /// The numbers of a listing.
+    /// Returns the statistics for a listing.
     pub fn shown(&self) -> Shown
         ensures { result ≡ record {
           waiting = length self.now.queue.waiting;

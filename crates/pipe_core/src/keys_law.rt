@@ -1,9 +1,10 @@
-//! The laws of what a pipe shows, as the contract of a function that does nothing, so that the check
-//! proves them.
+//! The laws of a pipe's view, stated as the contract of a function with an empty body, so that the
+//! checker proves them.
 
 ghost use Rattle.pipe_core.specs.Views.{ViewsAgree, PacketsAreNamed};
 
-/// Names that agree on the keys of a pipe show it alike, and what it shows to hold is what its keys name.
+/// If two maps from keys to packets agree on the keys of a pipe, they give it the same view; the
+/// packets in that view are those that its keys refer to.
 pub fn keys_say_all()
     ensures agree { ViewsAgree }
     ensures packets { PacketsAreNamed }

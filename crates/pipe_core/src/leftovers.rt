@@ -1,4 +1,4 @@
-//! The keys of an instance that is no more.
+//! The keys of a deleted instance.
 
 ghost use Rattle.std.specs.Prelude.{◌≡◌, [], ◌∷◌, ◌++◌, map, option_to_list, MatchOption};
 
@@ -7,8 +7,8 @@ use packet_store::Key;
 use queue_disc::Queue;
 use std::marker::Model;
 
-/// The keys that an instance held: those on their way, the one in service, those that waited. A
-/// contract sees the list of them.
+/// The keys that an instance held: those in flight, the one in service, and those that waited.
+/// Contracts see the list of keys.
 #[derive(Drop)]
 pub struct Leftovers {
     line: DelayLine<Key>,
@@ -37,7 +37,7 @@ impl Leftovers {
         }
     }
 
-    /// Takes the first key.
+    /// Removes the first key, and returns it.
     pub fn next(&mut self) -> Option<Key>
         ensures { MatchOption result ((self.old ≡ []) × (self.new ≡ []))
             (λ key. self.old ≡ key ∷ self.new) }

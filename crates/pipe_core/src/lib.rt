@@ -1,5 +1,6 @@
-//! A pipe with its instances (ipfw(8), traffic shaper and dynamic pipes), over any shelf of packets. An instance is a
-//! queue, a server, a delay line and a stream of loss words; it holds the keys of its packets.
+//! A pipe with its instances (ipfw(8), traffic shaper and dynamic pipes), over any shelf of
+//! packets. An instance is a queue, a server, a delay line and a stream of loss words; it holds the
+//! keys of its packets.
 #![tactic(auto)]
 
 mod instance;

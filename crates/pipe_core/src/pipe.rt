@@ -32,16 +32,17 @@ use std::alloc::{AllocError, Global};
 use std::marker::Model;
 use std::mem;
 
-/// What became of a packet that came.
+/// The result of a packet's arrival.
 #[derive(Clone, Copy)]
 pub struct Arrival {
-    /// Why it is dropped; `None` where it is taken in.
+    /// The cause of the drop, or `None` if the packet is accepted.
     pub cause: Option<DropCause>,
-    /// Whether what is due first is the same for sure: it is dropped, or waits for the one in service.
+    /// True if the pipe's first due is certain to be unchanged: the packet is dropped, or it waits
+    /// for the one in service.
     pub is_due_same: bool,
 }
 
-/// A pipe with its instances. Its packets stand on a shelf, and it holds their keys.
+/// A pipe with its instances. Its packets are on a shelf, and the pipe holds their keys.
 #[derive(Drop)]
 pub struct Pipe {
     alloc: Global,
@@ -51,7 +52,7 @@ pub struct Pipe {
     ids: Instances,
     slots: Vec<Slot>,
     dues: DueIndex,
-    // All packets have one identifier.
+    // True if the mask is zero, so that all packets have one flow identifier.
     unmasked: bool,
 }
 
@@ -77,7 +78,7 @@ impl Model for Pipe {
 }
 
 impl Pipe {
-    /// A pipe without instances, of an experiment with this seed. Takes no memory.
+    /// Creates a pipe without instances, for an experiment with this seed. Does not allocate.
     pub fn new(alloc: Global, seed: u64, number: PipeNumber, config: PipeConfig) -> Self
         ensures { result ≡ record {
           seed = seed;
@@ -102,21 +103,21 @@ impl Pipe {
         }
     }
 
-    /// Its configuration.
+    /// Returns the configuration.
     pub fn config(&self) -> PipeConfig
         ensures { result ≡ self.now.config }
     {
         self.config
     }
 
-    /// Its number.
+    /// Returns the pipe's number.
     pub fn number(&self) -> PipeNumber
         ensures { result ≡ self.now.number }
     {
         self.number
     }
 
-    /// How many instances it has, 256 at most.
+    /// Returns the number of instances, at most 256.
     #[inline(always)]
     pub fn instances(&self) -> usize
         ensures instances { result ≡ length self.now.slots }
@@ -126,7 +127,7 @@ impl Pipe {
         self.slots.len()
     }
 
-    /// When an instance has something to do (ns): its next exit, and its next finish.
+    /// Returns the times of an instance's next exit and next finish (ns).
     pub fn dues(&self, instance: usize) -> InstanceDues
         requires { instance < length self.now.slots }
         ensures exit { (f : ℕ → Packet) → result.exit
@@ -139,8 +140,8 @@ impl Pipe {
         slot.instance.dues()
     }
 
-    /// What it has due first of all exits and finishes; None where nothing is due. Tells the ranges of
-    /// its number and of how many instances it has.
+    /// Returns the first of all exits and finishes that are due, or none if nothing is due. The
+    /// contract also bounds the pipe's number and the number of its instances.
     #[inline(always)]
     pub fn least(&self) -> DueNumber
         ensures due { (f : ℕ → Packet) → result ≡ pipe_due f self.now }
@@ -151,7 +152,8 @@ impl Pipe {
         self.dues.least()
     }
 
-    /// The numbers of an instance, as a listing has them; None where there is no such instance.
+    /// Returns an instance's statistics as a listing shows them, or None if there is no such
+    /// instance.
     pub fn shown(&self, instance: usize) -> Option<Shown>
         ensures { (f : ℕ → Packet) →
             result ≡ option_map shown_of (slice_get (seen_pipe f self.now).instances instance) }
@@ -160,8 +162,8 @@ impl Pipe {
         Some(slot.instance.shown())
     }
 
-    /// The number of a packet's instance, also where it is still to be made. None where there are 256
-    /// others.
+    /// Returns the number of a packet's instance, even if that instance must still be created, or
+    /// None if 256 others exist.
     pub fn instance_for(&self, packet: &Packet) -> Option<u8>
         ensures { (f : ℕ → Packet) → result ≡ instance_for packet.now (seen_pipe f self.now) }
     {
@@ -169,7 +171,7 @@ impl Pipe {
         self.ids.number_for(id)
     }
 
-    /// A packet's flow identifier, in the form of a mask.
+    /// Returns a packet's flow identifier, in the form of a mask.
     pub fn identifier(&self, packet: &Packet) -> Mask
         ensures { let i = flow_id self.now.config.mask packet.now in
             result ≡ record {
@@ -183,8 +185,8 @@ impl Pipe {
         self.config.mask.apply(packet).fields()
     }
 
-    /// Makes the growths that `arrive` of this packet needs, or of one that differs in its load, number
-    /// or place. Only room grows, also where one is refused.
+    /// Reserves the memory that `arrive` of this packet needs, or of a packet that differs only in
+    /// its load, number or place. Only spare capacity changes, even if an allocation fails.
     pub fn arrive_ready<S: Shelf>(
         &mut self,
         shelf: &mut S,
@@ -206,7 +208,8 @@ impl Pipe {
         Ok(())
     }
 
-    /// The same, and the place of the packet's instance where there is one, else `NO_INSTANCE`.
+    /// Reserves memory like `arrive_ready`, and returns the place of the packet's instance, or
+    /// `NO_INSTANCE` if it doesn't exist yet.
     #[inline(always)]
     pub fn route_ready<S: Shelf>(
         &mut self,
@@ -239,7 +242,7 @@ impl Pipe {
         Ok(instance)
     }
 
-    // The place of a packet's instance, where it is there.
+    // Returns the place of a packet's instance, or None if it doesn't exist yet.
     #[inline(always)]
     fn place_for(&self, packet: &Packet) -> Option<usize>
         ensures { result ≡ position (same_flow (flow_id self.now.config.mask packet.now))
@@ -253,7 +256,7 @@ impl Pipe {
         Some(instance as usize)
     }
 
-    // There is one instance, which is every packet's.
+    // Returns true if all packets belong to the pipe's only instance.
     #[inline(always)]
     fn has_one(&self) -> bool
         ensures { IsTrue result → (packet : Packet) →
@@ -263,7 +266,7 @@ impl Pipe {
         self.unmasked && self.slots.len() == 1
     }
 
-    /// Makes the growth that an instance needs to accept a packet of this size.
+    /// Reserves the memory that an instance needs to accept a packet of this size.
     #[inline(always)]
     pub fn accept_ready(&mut self, instance: usize, size: Size, now: u64) -> Result<(), AllocError>
         requires { instance < length self.old.slots }
@@ -276,7 +279,7 @@ impl Pipe {
         slot.instance.accept_ready(size, now)
     }
 
-    // Makes the growth that one more instance needs, for an identifier that did not come.
+    // Reserves the memory for another instance, for an identifier that is new.
     fn make_ready(&mut self, id: FlowId) -> Result<(), AllocError>
         ensures same { self.new ≡ record self.old { spare = self.new.spare } }
         ensures grows { self.old.spare ≤ self.new.spare }
@@ -295,8 +298,8 @@ impl Pipe {
         Ok(())
     }
 
-    // The number of the identifier's instance, which is made where it did not come before. None where
-    // there are 256 others. There is room for it.
+    // Returns the place of the identifier's instance, and creates the instance if the identifier is
+    // new. Returns None if 256 others exist. There must be room for a new instance.
     fn find_or_make(&mut self, id: FlowId) -> Option<usize>
         requires room { instance_of (ids_of self.old.slots) id ≡ Some (length self.old.slots) →
             0 < self.old.spare }
@@ -328,7 +331,7 @@ impl Pipe {
         Some(instance as usize)
     }
 
-    /// A packet comes to its instance, which is there.
+    /// Adds a packet to an existing instance, or drops it.
     #[inline(always)]
     pub fn arrive_at<S: Shelf>(
         &mut self,
@@ -390,9 +393,9 @@ impl Pipe {
         }
     }
 
-    /// A packet comes at the moment `now` (ns): its instance is found or made, its loss word is drawn,
-    /// and then the limit decides. None where it is taken in, else why it is dropped. `arrive_ready`
-    /// came before.
+    /// Adds a packet at `now` (ns), or drops it: finds or creates its instance, draws its loss
+    /// word, and then checks the limit. Returns None if the packet is accepted, otherwise the cause
+    /// of the drop. Call `arrive_ready` first.
     pub fn arrive<S: Shelf>(
         &mut self,
         shelf: &mut S,
@@ -425,12 +428,14 @@ impl Pipe {
         self.arrive_at(instance, shelf, owner, now, packet).cause
     }
 
-    /// The packet in service in an instance finishes at the moment `now` (ns), at which it is due, and is
-    /// told: it goes on its way, and the next is served. What CoDel drops, in order, is taken from the
-    /// shelf into `drops`, which loses what it held and keeps its room, so that a list that once had
-    /// room enough has it ever after. All growths come first: of the delay line, and where CoDel is the
-    /// discipline of lists of drops; refused, only room has grown. Where the caller knows that it is
-    /// `plain`, as `drops_none` told, nothing is dropped and the lists don't grow; `false` is right too.
+    /// Finishes the packet in service in an instance at `now` (ns), when it is due, and returns it:
+    /// the packet enters the delay line, and the service of the next one starts. The packets that
+    /// CoDel drops move from the shelf to `drops`, in order. That list is cleared first and keeps
+    /// its allocation, so a list that was once long enough stays so. Allocates before it changes
+    /// anything: for the delay line and, if the discipline is CoDel, for the lists of drops; if
+    /// allocation fails, only spare capacity changes. If the caller knows that the finish is
+    /// `plain` (see `drops_none`), nothing is dropped and the lists don't grow; `false` is always
+    /// correct.
     #[inline(always)]
     pub fn finish<S: Shelf>(
         &mut self,
@@ -473,11 +478,11 @@ impl Pipe {
         let slot = &mut self.slots[instance];
         let finished = slot.finish(shelf, owner, now, plain, &self.config, drops);
         self.dues
-            .set(instance, slot.due(self.number, instance as u8));
+            .set_least(instance, slot.due(self.number, instance as u8));
         finished
     }
 
-    /// A finish of an instance at this moment (ns) drops nothing for sure.
+    /// Returns true if a finish of an instance at `now` (ns) is certain to drop nothing.
     #[inline(always)]
     pub fn drops_none(&self, instance: usize, now: u64) -> bool
         requires { instance < length self.now.slots }
@@ -487,7 +492,8 @@ impl Pipe {
         slot.instance.drops_none(now)
     }
 
-    /// The packet that leaves first in an instance, which stays; None where nothing is on its way.
+    /// Returns the next packet to leave an instance, without removing it, or None if nothing is in
+    /// flight.
     #[inline(always)]
     pub fn front<S: Shelf>(&self, shelf: &S, owner: Owner, instance: usize) -> Option<Packet>
         requires inside { instance < length self.now.slots }
@@ -498,8 +504,8 @@ impl Pipe {
         slot.front(shelf, owner)
     }
 
-    /// What leaves first in an instance goes: the packet, which is taken from the shelf; None where
-    /// nothing is on its way. Takes no memory, and keeps room for arrivals.
+    /// Removes the next packet to leave an instance from the instance and from the shelf, and
+    /// returns it, or None if nothing is in flight. Does not allocate, and keeps room for arrivals.
     #[inline(always)]
     pub fn exit<S: Shelf>(&mut self, shelf: &mut S, owner: Owner, instance: usize) -> Option<Packet>
         requires inside { instance < length self.old.slots }
@@ -522,12 +528,12 @@ impl Pipe {
         let slot = &mut self.slots[instance];
         let packet = slot.exit(shelf, owner);
         self.dues
-            .set(instance, slot.due(self.number, instance as u8));
+            .set_least(instance, slot.due(self.number, instance as u8));
         packet
     }
 
-    /// A new configuration, which each instance takes over with all that it holds; or why it is refused:
-    /// a mask stays as it is once there is an instance. Takes no memory.
+    /// Changes the configuration of the pipe and of each instance, which keeps everything it holds.
+    /// Returns a refusal if the mask changes while there are instances. Does not allocate.
     pub fn configure(&mut self, config: PipeConfig) -> Option<Refusal>
         ensures refusal { (f : ℕ → Packet) → result ≡ mask_refusal config (seen_pipe f self.old) }
         ensures done { IfNone result
@@ -547,9 +553,10 @@ impl Pipe {
         None
     }
 
-    /// Gives up all that the pipe holds: the packets by instance number, in each the delay line from its
-    /// front, the packet in service, and what waits. They are taken from the shelf. The pipe is left
-    /// without instances; refused, nothing has changed.
+    /// Removes all packets from the pipe and the shelf, and returns them by instance number; in
+    /// each instance, first those in the delay line from its front, then the packet in service,
+    /// then those that wait. The pipe is left without instances. If allocation fails, nothing
+    /// changes.
     pub fn delete<S: Shelf>(
         &mut self,
         shelf: &mut S,
@@ -580,8 +587,8 @@ impl Pipe {
         Ok(gone)
     }
 
-    /// Moves all packets of the pipe from one shelf to another, which has room for them, and keeps the
-    /// keys that they have there. Takes no memory.
+    /// Moves all packets of the pipe from one shelf to another, which must have room for them, and
+    /// stores the new keys. Does not allocate.
     pub fn rehouse<S: Shelf, T: Shelf>(
         &mut self,
         from: &mut S,
@@ -606,7 +613,7 @@ impl Pipe {
         rehouse_all(&mut self.slots, from, owner, to, other);
     }
 
-    // How many packets all instances hold; None where that is more than a `usize` counts.
+    // Returns the number of packets in all instances, or None if it exceeds a `usize`.
     fn packet_count(&self) -> Option<usize>
         ensures { IfSome result (λ n. n ≡ length (keys_of self.now.slots)) }
     {
@@ -618,17 +625,17 @@ impl Pipe {
     }
 }
 
-/// A packet's instance is still to be made, or there is none for it.
+/// The place that means that a packet's instance doesn't exist yet, or that there is none for it.
 pub const NO_INSTANCE: usize = usize::MAX;
 
-// No bit of a packet tells its flow.
+// Returns true if the mask is zero, so that all packets have one identifier.
 fn is_zero(mask: &Mask) -> bool
     ensures { IsTrue result ↔ IsZero mask.now }
 {
     mask.proto == 0 && mask.src == 0 && mask.dst == 0 && mask.sport == 0 && mask.dport == 0
 }
 
-// Each instance's due is set anew.
+// Recomputes the due of each instance.
 fn index_all(slots: &[Slot], number: PipeNumber, dues: &mut DueIndex)
     requires few { length slots.now ≤ 256 }
     requires numbered { (i : ℕ) (s : Slot) → slice_get slots.now i ≡ Some s →
@@ -642,7 +649,7 @@ fn index_all(slots: &[Slot], number: PipeNumber, dues: &mut DueIndex)
     }
 }
 
-// Each instance takes over a new configuration.
+// Changes the configuration of each instance.
 fn configure_all(slots: &mut [Slot], old: &PipeConfig, new: &PipeConfig)
     requires { All (λ s. IsTuned old.now s.instance) slots.old }
     ensures { slots.new ≡ map (configured_slot old.now new.now) slots.old }

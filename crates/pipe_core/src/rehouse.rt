@@ -1,4 +1,4 @@
-//! Packets that move from one shelf to another, as their holders do.
+//! The move of packets from one shelf to another, together with their holders.
 
 ghost use Rattle.std.specs.Prelude.{◌≡◌, ◌+◌, ◌<◌, ◌≤◌, [], ◌∷◌, map, length};
 ghost use Rattle.packet_store.specs.Pocket.{OthersStay};
@@ -13,7 +13,7 @@ use crate::slot::Slot;
 use link_core::DelayLine;
 use packet_store::{Key, Owner, Shelf};
 
-/// Moves one packet to a shelf that has room for it, and tells the key that it has there.
+/// Moves one packet to a shelf that has room for it, and returns its new key.
 fn rehouse_one<S: Shelf, T: Shelf>(
     key: Key,
     from: &mut S,
@@ -39,8 +39,8 @@ fn rehouse_one<S: Shelf, T: Shelf>(
     there
 }
 
-/// Moves all packets of a delay line from one shelf to another, which has room for them, and keeps the
-/// keys that they have there. Takes no memory.
+/// Moves all packets of a delay line from one shelf to another, which must have room for them, and
+/// stores the new keys. Does not allocate.
 pub fn rehouse_line<S: Shelf, T: Shelf>(
     line: &mut DelayLine<Key>,
     from: &mut S,

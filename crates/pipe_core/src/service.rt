@@ -1,4 +1,4 @@
-//! What an instance serves: a key, in a busy period.
+//! The service of an instance: a key, in a busy period.
 
 ghost use Rattle.std.specs.Prelude.{◌≡◌, ◌*◌, ◌<◌, Some, None, option_map, is_some, IsSome};
 ghost use Rattle.std.specs.Option.{ForSome};
@@ -34,7 +34,7 @@ impl Model for Service {
 }
 
 impl Service {
-    /// At rest.
+    /// Creates an idle server.
     pub(crate) fn new(bw: Bandwidth) -> Self
         ensures { result ≡ record { bw = bw; busy = None } }
     {
@@ -44,7 +44,7 @@ impl Service {
         }
     }
 
-    /// The key of the packet in service.
+    /// Returns the key of the packet in service.
     #[inline(always)]
     pub(crate) fn key(&self) -> Option<Key>
         ensures { result ≡ option_map (λ s. s.item) self.now.busy }
@@ -52,7 +52,7 @@ impl Service {
         self.key
     }
 
-    /// Whether a packet is in service.
+    /// Returns true if a packet is in service.
     #[inline(always)]
     pub(crate) fn is_busy(&self) -> bool
         ensures { result ≡ is_some self.now.busy }
@@ -60,7 +60,7 @@ impl Service {
         self.key.is_some()
     }
 
-    /// The finish (ns) of the packet in service.
+    /// Returns the finish (ns) of the packet in service.
     #[inline(always)]
     pub(crate) fn due(&self) -> Option<u64>
         ensures { result ≡ option_map (λ s. s.period.finish) self.now.busy }
@@ -68,7 +68,7 @@ impl Service {
         self.server.due()
     }
 
-    /// Begins a busy period at `now` (ns).
+    /// Starts a busy period at `now` (ns).
     #[inline(always)]
     pub(crate) fn start(&mut self, key: Key, size: Size, now: u64)
         requires early { IsMoment now }
@@ -82,7 +82,7 @@ impl Service {
         self.key = Some(key);
     }
 
-    /// At a finish: what was given is served next, or the period ends.
+    /// Starts the service of the next packet at a finish, or ends the busy period if there is none.
     #[inline(always)]
     pub(crate) fn follow(&mut self, given: Option<Queued<Key>>)
         requires busy { IsSome self.old.busy }
@@ -102,7 +102,7 @@ impl Service {
         }
     }
 
-    /// Puts another key in the place of the one in service.
+    /// Replaces the key of the packet in service.
     pub(crate) fn replace(&mut self, key: Key)
         requires { IsSome self.old.busy }
         ensures { self.new ≡ record self.old { busy = option_map (with_key key) self.old.busy } }
@@ -110,7 +110,8 @@ impl Service {
         self.key = Some(key);
     }
 
-    /// Changes the rate: the packet in service keeps its finish, at which the next begins a period.
+    /// Changes the rate. The packet in service keeps its finish, and the next packet starts a busy
+    /// period there.
     pub(crate) fn configure(&mut self, bw: Bandwidth)
         ensures { self.new ≡ record { bw = bw; busy = option_map cut_service self.old.busy } }
     {

@@ -1,4 +1,4 @@
-//! One instance of a pipe beside its flow identifier, and what a packet does there.
+//! One instance of a pipe with its flow identifier, and what packets do there.
 
 ghost use Rattle.std.specs.Prelude.{◌≡◌, ◌+◌, ◌-◌, ◌*◌, ◌<◌, ◌≤◌, false, [], Some, None, length, option_map, IfSome, OnSome, IfOk, OnOk, OnErr, IsOk, IsTrue, vec_capacity};
 ghost use Rattle.emu_model.specs.Moments.{IsMoment};
@@ -25,20 +25,30 @@ pub(crate) struct Slot {
 }
 
 impl Slot {
-    /// What it has due first, by its pipe and its number there.
+    /// Returns the instance's next exit or its finish, whichever is first. At the same time the exit
+    /// is first.
+    #[tactic(auto, using(crate::proofs::DueLeaves::exit_first, crate::proofs::DueLeaves::finish_first, crate::proofs::DueLeaves::exit_alone))]
     #[inline(always)]
     pub(crate) fn due(&self, pipe: PipeNumber, instance: u8) -> DueNumber
         requires { pipe * 256 + instance ≡ instance_number self.now }
         ensures { result ≡ slot_due self.now }
     {
         let dues = self.instance.dues();
-        let exit = DueNumber::at_some(dues.exit, Source::exit(pipe, instance));
-        exit.or_earlier(DueNumber::at_some(dues.finish, Source::finish(pipe, instance)))
+        let Some(finish) = dues.finish else {
+            return DueNumber::at_some(dues.exit, Source::exit(pipe, instance));
+        };
+        if let Some(exit) = dues.exit {
+            if exit <= finish {
+                return DueNumber::at(exit, Source::exit(pipe, instance));
+            }
+        }
+        DueNumber::at(finish, Source::finish(pipe, instance))
     }
 
-    /// The packet in service finishes, at the moment at which it is due, and is told; the next is
-    /// served. What CoDel drops is taken from the shelf into `drops`, which loses what it held and
-    /// keeps its room: nothing where the caller knows that the finish is `plain`. All growths come first.
+    /// Finishes the packet in service, when it is due, and returns it; the service of the next one
+    /// starts. The packets that CoDel drops move from the shelf to `drops`, which is cleared first
+    /// and keeps its allocation; there are none if the caller knows that the finish is `plain`.
+    /// Allocates before it changes anything.
     #[inline(always)]
     pub(crate) fn finish<S: Shelf>(
         &mut self,
@@ -80,7 +90,7 @@ impl Slot {
         Ok(packet)
     }
 
-    // How many packets a finish can drop, at most.
+    // Returns an upper bound on the packets that a finish can drop.
     #[inline(always)]
     fn most_dropped(&self, plain: bool, config: &PipeConfig) -> usize
         requires { IsTuned config.now self.now.instance }
@@ -98,7 +108,7 @@ impl Slot {
         }
     }
 
-    /// The packet that leaves first, which stays; None where nothing is on its way.
+    /// Returns the next packet to leave, without removing it, or None if nothing is in flight.
     #[inline(always)]
     pub(crate) fn front<S: Shelf>(&self, shelf: &S, owner: Owner) -> Option<Packet>
         requires { AreNamed (S.pocket shelf.now owner) (keys_in self.now.instance) }
@@ -112,8 +122,8 @@ impl Slot {
         Some(packet)
     }
 
-    /// What leaves first goes, and its packet is taken from the shelf; None where nothing is on its
-    /// way.
+    /// Removes the next packet to leave from the instance and from the shelf, and returns it, or
+    /// None if nothing is in flight.
     #[inline(always)]
     pub(crate) fn exit<S: Shelf>(&mut self, shelf: &mut S, owner: Owner) -> Option<Packet>
         requires { AreNamed (S.pocket shelf.old owner) (keys_in self.old.instance) }
@@ -131,7 +141,7 @@ impl Slot {
         Some(packet)
     }
 
-    /// How many packets it holds; None where that is more than a `usize` counts.
+    /// Returns the number of packets in the instance, or None if it exceeds a `usize`.
     pub(crate) fn packet_count(&self) -> Option<usize>
         ensures { IfSome result (λ n. n ≡ length (keys_in self.now.instance)) }
     {

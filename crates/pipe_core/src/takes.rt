@@ -1,4 +1,4 @@
-//! Packets that are taken from a shelf by their keys.
+//! The removal of packets from a shelf by their keys.
 
 ghost use Rattle.std.specs.Prelude.{◌≡◌, ◌+◌, ◌≤◌, [], map, length, OnOk, IsOk, vec_len, vec_capacity};
 ghost use Rattle.packet_store.specs.Pocket.{OthersStay};
@@ -12,7 +12,7 @@ use packet_store::{Key, Owner, Shelf};
 use queue_disc::Queued;
 use std::alloc::AllocError;
 
-/// Empties a list, and makes room in it for so many.
+/// Clears a list, and reserves room for `most` packets in it.
 #[inline(always)]
 pub(crate) fn clear_for(most: usize, drops: &mut Vec<Packet>) -> Result<(), AllocError>
     ensures items { drops.new.items ≡ [] }
@@ -28,7 +28,7 @@ pub(crate) fn clear_for(most: usize, drops: &mut Vec<Packet>) -> Result<(), Allo
     drops.reserve(most)
 }
 
-/// Takes the packets of what was dropped, to the end of a list that has room for them.
+/// Moves the dropped packets from the shelf to the end of a list that has room for them.
 #[inline(always)]
 pub(crate) fn take_dropped<S: Shelf>(
     dropped: &[Queued<Key>],
@@ -43,14 +43,14 @@ pub(crate) fn take_dropped<S: Shelf>(
         (map (λ w. w.item) dropped.now) [] drops.old.items drops.new.items }
     ensures others { OthersStay owner (S.pocket shelf.old) (S.pocket shelf.new) }
 {
-    // Mostly nothing was.
+    // Usually nothing was dropped.
     if dropped.is_empty() {
         return;
     }
     take_each(dropped, shelf, owner, drops);
 }
 
-// Takes them one by one.
+// Moves the dropped packets one by one.
 fn take_each<S: Shelf>(
     dropped: &[Queued<Key>],
     shelf: &mut S,
@@ -72,7 +72,8 @@ fn take_each<S: Shelf>(
     }
 }
 
-/// Takes the packets of an instance that is no more, to the end of a list that has room for them.
+/// Moves the packets of a deleted instance from the shelf to the end of a list that has room for
+/// them.
 pub(crate) fn take_leftovers<S: Shelf>(
     mut leftovers: Leftovers,
     shelf: &mut S,
@@ -95,7 +96,7 @@ pub(crate) fn take_leftovers<S: Shelf>(
     }
 }
 
-/// Takes the packets of instances that are no more, in order.
+/// Moves the packets of deleted instances, in order.
 pub(crate) fn take_all<S: Shelf>(
     slots: Vec<Slot>,
     shelf: &mut S,

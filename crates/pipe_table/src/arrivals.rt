@@ -1,4 +1,4 @@
-//! What a trace says of a packet that comes to a pipe.
+//! The trace records of a packet's arrival at a pipe.
 
 ghost use Rattle.std.specs.Prelude.{◌≡◌, ℕ, ◌+◌, ◌≤◌, ◌++◌, []};
 ghost use Rattle.std.specs.Option.{option_map_or};
@@ -12,7 +12,7 @@ use crate::{PipeTable, RecordLog};
 use emu_model::{Mask, Packet, PipeNumber, Record};
 use pipe_core::Pipe;
 
-// The line of the instance that a packet makes.
+// Returns the record of the instance that a packet creates.
 fn identify_record(pipe: &Pipe, now: u64, instance: u8, packet: &Packet) -> Record
     ensures { result ≡ identify_record now pipe.now.number instance
         (flow_id pipe.now.config.mask packet.now) }
@@ -36,7 +36,7 @@ fn identify_record(pipe: &Pipe, now: u64, instance: u8, packet: &Packet) -> Reco
     }
 }
 
-// Records that a packet comes to an instance of a pipe, if there is one for it.
+// Records a packet's arrival at an instance of a pipe, if there is one for it.
 fn note_at(pipe: &Pipe, log: &mut RecordLog, now: u64, packet: &Packet)
     requires { 2 ≤ log.old.spare }
     ensures records { (f : ℕ → Packet) →
@@ -61,9 +61,9 @@ fn note_at(pipe: &Pipe, log: &mut RecordLog, now: u64, packet: &Packet)
 }
 
 impl PipeTable {
-    /// Records that a packet comes to an instance of a pipe at the moment `now` (ns), and before that
-    /// whose the instance is, where the packet is what makes it. Nothing where there is no such pipe, or
-    /// no instance for it.
+    /// Records a packet's arrival at an instance of a pipe at `now` (ns). If the packet creates the
+    /// instance, a record of the instance's flow identifier comes first. Records nothing if there
+    /// is no such pipe, or no instance for the packet.
     #[cold]
     #[inline(never)]
     pub fn note_arrival(&self, log: &mut RecordLog, now: u64, number: PipeNumber, packet: Packet)

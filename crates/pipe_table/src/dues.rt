@@ -1,4 +1,4 @@
-//! What is due first among the pipes.
+//! The first due among the pipes.
 
 ghost use Rattle.std.specs.Prelude.{◌≡◌, ℕ, ◌+◌, ◌*◌, ◌<◌, ◌≤◌, ◌++◌, length, Some, option_map, option_to_list, flat_map, slice_get, slice_set, IsTrue, IfSome, vec_len, vec_capacity, OnOk, OnErr};
 ghost use Rattle.std.specs.List.{sum_by};
@@ -19,7 +19,7 @@ use emu_model::{Due, Source};
 use pipe_core::Pipe;
 use std::alloc::AllocError;
 
-/// Each pipe's due is set anew.
+/// Recomputes the due of each pipe.
 pub(crate) fn index_all(pipes: &[Pipe], dues: &mut DueIndex)
     requires { length pipes.now ≤ length dues.old.leaves + dues.old.spare }
     ensures { AreIndexed pipes.now dues.new }
@@ -30,7 +30,7 @@ pub(crate) fn index_all(pipes: &[Pipe], dues: &mut DueIndex)
     }
 }
 
-// Appends a due that may be there.
+// Appends an optional due.
 fn append(dues: &mut Vec<Due>, source: Source, moment: Option<u64>)
     requires { vec_len dues.old + 1 ≤ vec_capacity dues.old }
     ensures items { dues.new.items
@@ -73,8 +73,8 @@ fn add_in(pipe: &Pipe, dues: &mut Vec<Due>)
 }
 
 impl PipeTable {
-    /// The least of a due, if there is one, and those of all pipes, by moment, class and number; the
-    /// first of equal ones. Walks nothing.
+    /// Returns the earliest of an optional due and those of all pipes, by time, class and number;
+    /// the first of equal ones. Does not traverse the pipes.
     #[inline(always)]
     pub fn earliest(&self, best: DueNumber) -> DueNumber
         ensures least { (p : Pocket) (n : Net) → result
@@ -88,8 +88,8 @@ impl PipeTable {
         best.or_earlier(self.dues.least())
     }
 
-    /// Appends the dues of all pipes, pipe by pipe and instance by instance, or leaves `dues` as it
-    /// was: that only where it has no room for two of each instance.
+    /// Appends the dues of all pipes, pipe by pipe and instance by instance. If allocation fails,
+    /// `dues` is unchanged; that is possible only if `dues` has no room for two dues per instance.
     pub fn add_dues(&self, dues: &mut Vec<Due>) -> Result<(), AllocError>
         ensures ok { OnOk result
             ((p : Pocket) (n : Net) →
@@ -106,7 +106,7 @@ impl PipeTable {
         Ok(())
     }
 
-    // How many instances the pipes have.
+    // Returns the number of instances of all pipes.
     fn instances(&self) -> usize
         ensures sum { result ≡ sum_by (λ p. length p.slots) self.now.pipes }
         ensures few { result ≤ 64 * 256 }

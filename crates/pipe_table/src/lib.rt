@@ -1,5 +1,5 @@
-//! The pipes of one experiment by number (ipfw(8), traffic shaper), over any shelf of packets; and the log of what the
-//! experiment records, with the counts of its packets beside it (our choice).
+//! The pipes of one experiment by number (ipfw(8), traffic shaper), over any shelf of packets, and
+//! the log of the experiment's records, with packet counts (our choice).
 #![tactic(auto)]
 
 mod arrivals;

@@ -13,7 +13,7 @@ use crate::{PipeTable, RecordLog};
 use emu_model::{PipeNumber, Record};
 use pipe_core::{Pipe, Shown};
 
-// The line of an instance.
+// Returns the line of an instance.
 fn instance_line(pipe: PipeNumber, index: usize, shown: Shown) -> Record
     requires { index < 256 }
     ensures { result
@@ -51,7 +51,7 @@ fn show_pipe(pipe: &Pipe, log: &mut RecordLog)
 }
 
 impl PipeTable {
-    /// How many lines `show` records: one for each pipe, and one for each instance.
+    /// Returns the number of lines that `show` records: one per pipe, and one per instance.
     pub fn lines(&self) -> usize
         ensures { (p : Pocket) (n : Net) →
             result ≡ length (flat_map pipe_lines (with_pipes p self.now n).pipes) }
@@ -63,7 +63,8 @@ impl PipeTable {
         lines
     }
 
-    /// Records a line for each pipe, and for each of its instances, by number, where there is room.
+    /// Records a line for each pipe, followed by its instances, by number. There must be room for
+    /// them.
     pub fn show(&self, log: &mut RecordLog)
         requires { (p : Pocket) (n : Net) →
             length (flat_map pipe_lines (with_pipes p self.now n).pipes) ≤ log.old.spare }

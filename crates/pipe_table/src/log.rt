@@ -6,8 +6,8 @@ use emu_model::{DropCause, Record};
 use std::alloc::{AllocError, Global};
 use std::marker::Model;
 
-/// Records in the order in which they came, and how many of them tell of a delivery, and of a drop
-/// for each cause.
+/// The records in order, the number of deliveries among them, and the number of drops for each
+/// cause.
 #[derive(Drop)]
 pub struct RecordLog {
     records: Vec<Record>,
@@ -30,7 +30,7 @@ impl Model for RecordLog {
         × (l.drops ≡ all_drops_of l.records.items) };
 }
 
-// One more was dropped for a cause.
+// Counts a drop.
 #[inline(always)]
 fn count_drop(drops: &mut [u64; 8], cause: DropCause)
     requires { (k : ℕ) → slice_index_or drops.old k 0 < 2 ^ 63 }
@@ -48,7 +48,7 @@ fn count_drop(drops: &mut [u64; 8], cause: DropCause)
     }
 }
 
-// One thing more at the end of a list that has room for it.
+// Appends a value to a list that has room for it.
 #[inline(always)]
 fn put<T: Copy>(list: &mut Vec<T>, value: &T)
     requires { vec_len list.old < vec_capacity list.old }
@@ -59,11 +59,11 @@ fn put<T: Copy>(list: &mut Vec<T>, value: &T)
     list.push_reserved(*value);
 }
 
-// How many records there is room for once there is any, so that the first few don't grow the list step by step.
+// The initial capacity for records. It avoids growing the list step by step for the first few.
 const FIRST_ROOM: usize = 2048;
 
 impl RecordLog {
-    /// No records. Takes no memory.
+    /// Creates an empty log. Does not allocate.
     pub fn new(alloc: Global) -> Self
         ensures { result.records ≡ [] }
     {
@@ -74,7 +74,7 @@ impl RecordLog {
         }
     }
 
-    /// Makes room for so many records more.
+    /// Reserves room for `additional` more records.
     #[inline(always)]
     pub fn reserve(&mut self, additional: usize) -> Result<(), AllocError>
         ensures ready { OnOk result (additional ≤ self.new.spare) }
@@ -88,7 +88,7 @@ impl RecordLog {
         self.grow(additional)
     }
 
-    // The same, where there is no room yet.
+    // Reserves room like `reserve`, for a log that is full.
     #[cold]
     #[inline(never)]
     fn grow(&mut self, additional: usize) -> Result<(), AllocError>
@@ -98,13 +98,13 @@ impl RecordLog {
         ensures room { self.old.spare ≤ self.new.spare }
     {
         if self.records.capacity() == 0 {
-            // Want of so much room is no want of the room that is asked for.
+            // The larger initial capacity is optional, so its failure is ignored.
             let _ = self.records.reserve(FIRST_ROOM);
         }
         self.records.reserve(additional)
     }
 
-    /// Records one thing more, where there is room.
+    /// Appends a record, for which there must be room.
     #[inline(always)]
     pub fn note(&mut self, entry: &Record)
         requires { 0 < self.old.spare }
@@ -119,7 +119,7 @@ impl RecordLog {
         put(&mut self.records, entry);
     }
 
-    /// No records any more; their room stays.
+    /// Removes all records. Keeps the allocation.
     pub fn clear(&mut self)
         ensures records { self.new.records ≡ [] }
         ensures room { self.old.spare ≤ self.new.spare }
@@ -129,35 +129,36 @@ impl RecordLog {
         self.drops = [0; 8];
     }
 
-    /// The records in their order.
+    /// Returns the records in order.
     pub fn as_slice(&self) -> &[Record]
         ensures { result.now ≡ self.now.records }
     {
         self.records.as_slice()
     }
 
-    /// How many packets were delivered.
+    /// Returns the number of delivered packets.
     pub fn delivered_count(&self) -> u64
         ensures { result ≡ delivered_of self.now.records }
     {
-        self.delivered // as counted
+        self.delivered // counted by `note`
     }
 
-    /// How many packets were dropped, by cause from `Denied` to `Budget`.
+    /// Returns the number of dropped packets by cause, from `Denied` to `Budget`.
     pub fn drops(&self) -> [u64; 8]
         ensures { result ≡ all_drops_of self.now.records }
     {
         self.drops
     }
 
-    /// The records as a `Vec`, which keeps no room if it has none. Takes no memory.
+    /// Converts the log into a `Vec`, which has no capacity if it is empty. Does not allocate.
     pub fn into_vec(self) -> Vec<Record>
         ensures records { result.items ≡ self.records }
         ensures room { vec_len result ≡ 0 → vec_capacity result ≡ 0 }
     {
         let RecordLog { mut records, .. } = self;
         if records.is_empty() {
-            // A run has many experiments that have ended: none keeps room for records that it forgot.
+            // A run has many finished experiments. None of them keeps capacity for records that it
+            // discarded.
             records.shrink_to_fit();
         }
         records

@@ -8,7 +8,7 @@ ghost use Rattle.pipe_table.specs.Table.{IsTable};
 use due_index::NumberTable;
 use pipe_core::Pipe;
 
-/// Each pipe's number leads to its place from now on.
+/// Sets the place of each pipe's number.
 pub(crate) fn lead_all(pipes: &[Pipe], places: &mut NumberTable)
     requires few { length pipes.now ≤ 64 }
     requires sorted { (seed : ℕ) × IsTable seed 0 pipes.now }

@@ -1,4 +1,4 @@
-//! The packets of all pipes move from one shelf to another.
+//! The move of all pipes' packets from one shelf to another.
 
 ghost use Rattle.std.specs.Prelude.{◌≡◌, ℕ, ◌+◌, ◌≤◌, length};
 ghost use Rattle.emu_model.specs.Net.{Net};
@@ -13,8 +13,8 @@ use packet_store::{Owner, Shelf};
 use pipe_core::{Pipe, keys_say_all};
 
 impl PipeTable {
-    /// Moves all packets of the pipes from one shelf to another, which has room for them, and keeps the
-    /// keys that they have there. Takes no memory.
+    /// Moves all packets of the pipes from one shelf to another, which must have room for them, and
+    /// stores the new keys. Does not allocate.
     pub fn rehouse<S: Shelf, T: Shelf>(
         &mut self,
         from: &mut S,

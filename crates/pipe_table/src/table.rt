@@ -1,4 +1,4 @@
-//! The table: pipes by number, and what a packet, a finish, an exit or a command does there.
+//! The table of pipes by number: arrivals, finishes, exits and commands.
 
 ghost use Rattle.std.specs.Prelude.{◌≡◌, ◌≢◌, ℕ, ◌+◌, ◌*◌, ◌<◌, ◌≤◌, ◌↔◌, [], Some, None, option_map, option_and_then, unwrap_or, position, is_some, IsSome, IsTrue, OnSome, OnOk, OnErr, IsOk, IfOk, MatchResult, Err, length, slice_get, vec_capacity};
 ghost use Rattle.std.specs.List.{position_or_len};
@@ -33,11 +33,11 @@ pub struct PipeTable {
     seed: u64,
     pub(crate) pipes: Vec<Pipe>,
     pub(crate) dues: DueIndex,
-    // For each number that a pipe has or had, the place where it stands or stood.
+    // The place of each number that a pipe has or had, even if the pipe was deleted.
     places: NumberTable,
 }
 
-/// Why a pipe was not configured.
+/// The reason why a pipe was not configured.
 #[derive(Clone, Copy)]
 pub enum ConfigureError {
     Refused(Refusal),
@@ -54,14 +54,15 @@ impl Model for PipeTable {
 
     ghost view = { λ t. record { seed = t.seed; pipes = t.pipes.items } };
 
-    // A number of no pipe leads nowhere, past the end or to a pipe of another number.
+    // A number that no pipe has may have no place, a place beyond the end, or the place of another
+    // pipe.
     ghost invariant = { λ t. (IsTable t.seed 0 t.pipes.items × (length t.pipes.items ≤ 64))
         × AreIndexed t.pipes.items t.dues
         × AreLed t.pipes.items t.places };
 }
 
 impl PipeTable {
-    /// No pipes, of an experiment with this seed. Takes no memory.
+    /// Creates a table without pipes, for an experiment with this seed. Does not allocate.
     #[tactic(auto, unfolding(crate::specs::Table::IsTable))]
     pub fn new(alloc: Global, seed: u64) -> Self
         ensures { result ≡ record { seed = seed; pipes = [] } }
@@ -75,7 +76,7 @@ impl PipeTable {
         }
     }
 
-    /// The place of a pipe in the list. Walks nothing.
+    /// Returns the place of a pipe in the list. Does not traverse the list.
     #[inline(always)]
     pub fn place_of(&self, number: PipeNumber) -> Option<usize>
         ensures { result ≡ position (has_number number) self.now.pipes }
@@ -88,8 +89,8 @@ impl PipeTable {
         None
     }
 
-    /// Makes the growths of an arrival at the pipe at a place, and tells its instance where there is one, else
-    /// `NO_INSTANCE`.
+    /// Reserves the memory for an arrival at the pipe at a place, and returns the place of the
+    /// packet's instance, or `NO_INSTANCE` if it doesn't exist yet.
     #[inline(always)]
     pub fn route_ready<S: Shelf>(
         &mut self,
@@ -125,7 +126,8 @@ impl PipeTable {
         self.pipes[place].route_ready(shelf, owner, now, packet)
     }
 
-    /// Makes the growth of an arrival at an instance, by their places.
+    /// Reserves the memory for an arrival at an instance, given the places of the pipe and the
+    /// instance.
     #[inline(always)]
     pub fn accept_ready_at(
         &mut self,
@@ -144,7 +146,7 @@ impl PipeTable {
         self.pipes[place].accept_ready(instance, size, now)
     }
 
-    /// A packet comes to its instance, by the places of pipe and instance.
+    /// Adds a packet to its instance, or drops it, given the places of the pipe and the instance.
     #[inline(always)]
     pub fn arrive_at<S: Shelf>(
         &mut self,
@@ -181,7 +183,8 @@ impl PipeTable {
         answer.cause
     }
 
-    /// A finish of an instance at this moment (ns) drops nothing for sure, by the places of pipe and instance.
+    /// Returns true if a finish of an instance at `now` (ns) is certain to drop nothing, given the
+    /// places of the pipe and the instance.
     #[inline(always)]
     pub fn drops_none(&self, place: usize, instance: usize, now: u64) -> bool
         requires { IsInside place instance self.now.pipes }
@@ -190,9 +193,10 @@ impl PipeTable {
         self.pipes[place].drops_none(instance, now)
     }
 
-    /// The packet in service in an instance finishes at the moment `now` (ns), at which it is due, and
-    /// is told. What CoDel drops stands in `drops` then, in order; the list keeps its room. Refused, only
-    /// room has grown. Where the caller knows that it is `plain`, as `drops_none` told, nothing is dropped.
+    /// Finishes the packet in service in an instance at `now` (ns), when it is due, and returns it.
+    /// Replaces the contents of `drops` with the packets that CoDel drops, in order, and keeps the
+    /// list's allocation. If allocation fails, only spare capacity changes. If the caller knows
+    /// that the finish is `plain` (see `drops_none`), nothing is dropped.
     #[inline(always)]
     pub fn finish<S: Shelf>(
         &mut self,
@@ -238,11 +242,12 @@ impl PipeTable {
         keys_say_all();
         let pipe = &mut self.pipes[place];
         let finished = pipe.finish(shelf, owner, instance, now, plain, drops);
-        self.dues.set(place, pipe.least());
+        self.dues.set_least(place, pipe.least());
         finished
     }
 
-    /// The packet that `exit` would give, which stays; None where nothing is in flight.
+    /// Returns the packet that `exit` would return, without removing it, or None if nothing is in
+    /// flight.
     #[inline(always)]
     pub fn front<S: Shelf>(
         &self,
@@ -260,9 +265,9 @@ impl PipeTable {
         self.pipes[place].front(shelf, owner, instance)
     }
 
-    /// The packet that leaves first in an instance goes, by the places of pipe and instance, which are there:
-    /// it is taken from the shelf. None where nothing is in flight. Takes no memory, and keeps room for
-    /// arrivals.
+    /// Removes the next packet to leave an instance from the pipe and from the shelf, given the
+    /// places of the pipe and the instance, which must exist. Returns None if nothing is in flight.
+    /// Does not allocate, and keeps room for arrivals.
     #[inline(always)]
     pub fn exit<S: Shelf>(
         &mut self,
@@ -297,11 +302,11 @@ impl PipeTable {
         keys_say_all();
         let pipe = &mut self.pipes[place];
         let packet = pipe.exit(shelf, owner, instance);
-        self.dues.set(place, pipe.least());
+        self.dues.set_least(place, pipe.least());
         packet
     }
 
-    /// There is a pipe of this number.
+    /// Returns true if there is a pipe with this number.
     pub fn has(&self, number: PipeNumber) -> bool
         ensures { (p : Pocket) (n : Net) →
             result ≡ is_some (find_pipe number (with_pipes p self.now n)) }
@@ -309,8 +314,9 @@ impl PipeTable {
         self.place_of(number).is_some()
     }
 
-    /// A packet comes to the pipe at a place at the moment `now` (ns), where its instance is found or made:
-    /// None where it is taken in, else why it is dropped. `route_ready` came before.
+    /// Adds a packet to the pipe at a place at `now` (ns), or drops it, and finds or creates its
+    /// instance. Returns None if the packet is accepted, otherwise the cause of the drop. Call
+    /// `route_ready` first.
     pub fn arrive<S: Shelf>(
         &mut self,
         place: usize,
@@ -343,9 +349,9 @@ impl PipeTable {
         answer
     }
 
-    /// A pipe's new configuration, or a new pipe; refused as `MaskFixed` where a pipe with instances is
-    /// to have another mask, and as `TooManyPipes` where there are 64 others. After an error nothing has
-    /// changed.
+    /// Configures a pipe, or creates it. Refuses with `MaskFixed` if the mask of a pipe with
+    /// instances would change, and with `TooManyPipes` if 64 others exist. After an error nothing
+    /// has changed.
     pub fn configure(
         &mut self,
         number: PipeNumber,
@@ -374,7 +380,7 @@ impl PipeTable {
         Ok(())
     }
 
-    // A new pipe, before the first of a greater number.
+    // Inserts a new pipe before the first one with a larger number.
     fn make(&mut self, number: PipeNumber, config: &PipeConfig) -> Result<(), ConfigureError>
         requires { pipe_of number self.old.pipes ≡ None }
         ensures seed { self.new.seed ≡ self.old.seed }
@@ -410,7 +416,7 @@ impl PipeTable {
         Ok(())
     }
 
-    // The place of the first pipe of a greater number, if there is one.
+    // Returns the place of the first pipe with a larger number, if there is one.
     fn place_above(&self, number: PipeNumber) -> Option<usize>
         ensures { result ≡ position (is_above number) self.now.pipes }
     {
@@ -420,16 +426,18 @@ impl PipeTable {
             .position(|pipe| number < pipe.number().get())
     }
 
-    // The place before the first pipe of a greater number.
+    // Returns the place of the first pipe with a larger number, or the length of the list if there
+    // is none.
     fn place_behind(&self, number: PipeNumber) -> usize
         ensures { result ≡ position_or_len (is_above number) self.now.pipes }
     {
         self.place_above(number).unwrap_or(self.pipes.len())
     }
 
-    /// A pipe goes, and the packets that it held are taken from the shelf: by instance number, in each
-    /// the delay line from its front, the packet in service, and what waits. None where there is no such
-    /// pipe. Refused, nothing has changed.
+    /// Deletes a pipe and removes its packets from the shelf; returns them by instance number: in
+    /// each instance, first those in the delay line from its front, then the packet in service,
+    /// then those that wait. Returns None if there is no such pipe. If allocation fails, nothing
+    /// changes.
     pub fn delete<S: Shelf>(
         &mut self,
         shelf: &mut S,
@@ -471,5 +479,5 @@ impl PipeTable {
     }
 }
 
-/// How many pipes there may be.
+/// The maximum number of pipes.
 const MAX_PIPES: usize = 64;

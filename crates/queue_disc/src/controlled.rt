@@ -1,4 +1,4 @@
-//! A queue under CoDel (RFC 8289, section 5) and nothing else.
+//! A queue under CoDel (RFC 8289, section 5), without other disciplines.
 
 ghost use Rattle.std.specs.Prelude.{◌≡◌, ◌+◌, ◌*◌, ◌^◌, ◌<◌, ◌≤◌, true, false, [], ◌∷◌, ◌++◌, length, map, IfErr, IfOk, OnOk, OnErr, IsOk, slice_get};
 ghost use Rattle.emu_model.specs.Moments.{IsMoment};
@@ -13,7 +13,7 @@ use emu_model::{CodelTime, Discipline, QueueLimit, Size};
 use std::alloc::{AllocError, Global};
 use std::marker::Model;
 
-/// A queue with a limit, whose head is dropped while what waits has waited for long.
+/// A queue with a limit, whose head is dropped while the packets that wait have waited for long.
 #[derive(Drop)]
 pub struct Codel<A> {
     pub(crate) queue: Queue<A>,
@@ -30,8 +30,8 @@ impl<A> Model for Codel<A> {
 }
 
 impl<A> Codel<A> {
-    /// An empty queue in CoDel's opening state. Takes no memory. `target` and `interval` are in
-    /// nanoseconds.
+    /// Creates an empty queue in CoDel's initial state. Does not allocate. `target` and `interval`
+    /// are in nanoseconds.
     pub fn new(alloc: Global, limit: QueueLimit, target: CodelTime, interval: CodelTime) -> Self
         ensures times { result.times ≡ record { target = target; interval = interval } }
         ensures limit { result.limit ≡ limit }
@@ -44,8 +44,8 @@ impl<A> Codel<A> {
         }
     }
 
-    /// Puts an item of `size` bytes last, stamped with `now`. Refused, the queue is as before and the
-    /// item comes back: `Full` by the limit, `NoMemory` where a growth was refused.
+    /// Appends an item of `size` bytes, stamped with `now`. On error the queue is unchanged and the
+    /// item is returned: `Full` because of the limit, `NoMemory` if an allocation fails.
     pub fn enqueue(&mut self, item: A, size: Size, now: u64) -> Result<(), Refused<A>>
         ensures ok { OnOk result (self.new ≡ record self.old {
           waiting = self.old.waiting ++ record { item = item; size = size; stamp = now } ∷ [];
@@ -67,7 +67,7 @@ impl<A> Codel<A> {
         self.queue.tail.enqueue(item, size, now)
     }
 
-    /// Makes the growth that `enqueue` of these can need.
+    /// Reserves the memory that `enqueue` of this item may need.
     #[inline(always)]
     pub fn enqueue_ready(&mut self, size: Size, now: u64) -> Result<(), AllocError>
         ensures ok { OnOk result (self.new ≡ record self.old { capacity = self.new.capacity }) }
@@ -83,8 +83,8 @@ impl<A> Codel<A> {
         self.queue.enqueue_ready(size, now)
     }
 
-    /// `dequeue` of RFC 8289 (section 5.5) at the moment `now`, in nanoseconds. It takes memory only
-    /// where it drops. Refused, the queue is as before.
+    /// Dequeues an item at `now`, in nanoseconds, by `dequeue` of RFC 8289 (section 5.5). Allocates
+    /// only if it drops. If allocation fails, the queue is unchanged.
     #[inline(always)]
     pub fn dequeue(&mut self, now: u64) -> Result<Dequeued<A>, AllocError>
         requires early { IsMoment now }
@@ -106,7 +106,7 @@ impl<A> Codel<A> {
         self.queue.dequeue(now)
     }
 
-    /// How many wait.
+    /// Returns the number of items that wait.
     #[inline(always)]
     pub fn waiting(&self) -> usize
         ensures waiting { result ≡ length self.now.waiting }
@@ -115,7 +115,7 @@ impl<A> Codel<A> {
         self.queue.waiting()
     }
 
-    /// The bytes of what waits.
+    /// Returns the bytes of the items that wait.
     #[inline(always)]
     pub fn bytes(&self) -> u64
         ensures bytes { result ≡ bytes_of self.now.waiting }
@@ -126,15 +126,15 @@ impl<A> Codel<A> {
 }
 
 impl<A: Copy> Codel<A> {
-    /// The item that waits at a place, the head at 0.
+    /// Returns the item that waits at a place, the head at 0.
     pub fn at(&self, place: usize) -> Option<A>
         ensures { result ≡ slice_get (map (λ w. w.item) self.now.waiting) place }
     {
         self.queue.at(place)
     }
 
-    /// Puts another item at a place, the head at 0. Its size, its stamp and CoDel's state stay. Takes
-    /// no memory.
+    /// Replaces the item at a place, the head at 0. Its size, its stamp and CoDel's state stay.
+    /// Does not allocate.
     pub fn replace(&mut self, place: usize, item: A)
         requires { place < length self.old.waiting }
         ensures { self.new ≡ record self.old { waiting = with_item self.old.waiting place item } }

@@ -1,9 +1,9 @@
-//! What waits, and why nothing more may.
+//! The items that wait, and the reasons why one is refused.
 
 use emu_model::Size;
 use std::marker::Model;
 
-/// What waits, its bytes, and the moment at which it came, in nanoseconds.
+/// An item that waits, its bytes, and its time of arrival in nanoseconds.
 #[derive(Drop)]
 pub struct Queued<A> {
     pub item: A,
@@ -19,16 +19,16 @@ impl<A> Model for Queued<A> {
     ghost view = { λ w. record { item = w.item; size = w.size; stamp = w.stamp } };
 }
 
-/// Why an item was not enqueued.
+/// The reason why an item was not enqueued.
 #[derive(Clone, Copy, Debug, PartialEq, Eq)]
 pub enum EnqueueError {
     /// The limit of the queue.
     Full,
-    /// A growth was refused.
+    /// An allocation failed.
     NoMemory,
 }
 
-/// An item that was not enqueued, and why.
+/// An item that was not enqueued, and the reason.
 #[derive(Drop)]
 pub struct Refused<A> {
     pub item: A,

@@ -5,8 +5,8 @@ ghost use Rattle.emu_model.specs.Codel.{control_law, IsControlStep};
 
 use emu_model::CodelTime;
 
-/// The moment of the next drop after one at `t`, the `count`-th since dropping began: `t` plus
-/// `interval / sqrt(count)`, rounded down. Nanoseconds.
+/// Returns the time of the next drop after one at `t`, the `count`-th since dropping began: `t`
+/// plus `interval / sqrt(count)`, rounded down. Nanoseconds.
 pub fn control_law(t: u64, count: u32, interval: CodelTime) -> u64
     requires some { 1 ≤ count }
     requires early { t < 2 ^ 63 }
@@ -17,7 +17,7 @@ pub fn control_law(t: u64, count: u32, interval: CodelTime) -> u64
     t + control_step(interval.get(), count)
 }
 
-/// The greatest whole number whose square times `count` is at most the square of `interval`.
+/// Returns the largest integer whose square times `count` is at most the square of `interval`.
 fn control_step(interval: u64, count: u32) -> u64
     requires small { interval < 2 ^ 36 }
     requires some { 1 ≤ count }

@@ -1,6 +1,6 @@
-//! The queue of a pipe, under ipfw(8)'s limits alone (drop-tail) or under CoDel (RFC 8289, section 5)
-//! as well; and either by itself. It keeps what waits in order, with its size and the moment at which
-//! it came, and the sum of the sizes, so no call goes through a list but where CoDel drops.
+//! The queue of a pipe, under ipfw(8)'s limits alone (drop-tail) or under CoDel (RFC 8289, section
+//! 5) as well; and either on its own. It keeps the items in order, with their sizes and times of
+//! arrival, and the sum of the sizes, so no call traverses a list unless CoDel drops.
 #![tactic(auto)]
 
 mod controlled;

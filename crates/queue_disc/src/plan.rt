@@ -1,4 +1,4 @@
-//! What a dequeue will drop, told before anything is taken.
+//! The drops of a dequeue, planned before anything is removed.
 
 ghost use Rattle.std.specs.Prelude.{◌≡◌, ◌+◌, ◌*◌, ◌^◌, ◌<◌, length, drop};
 ghost use Rattle.emu_model.specs.Moments.{IsMoment};
@@ -12,13 +12,13 @@ use crate::state::{CodelState, Times};
 use crate::tail::DropTail;
 use emu_model::Discipline;
 
-/// How many are dropped from the head, and the state after the dequeue.
+/// The number of drops from the head, and the state after the dequeue.
 pub(crate) struct DropPlan {
     pub(crate) drops: usize,
     pub(crate) control: CodelState,
 }
 
-/// Whether nothing waits, or the head's stay is short.
+/// Returns true if nothing waits, or the head's sojourn is short.
 #[inline(always)]
 pub(crate) fn stays_short<A>(queue: &DropTail<A>, times: Times, now: u64) -> bool
     ensures { result ≡ stays_short times now queue.now.waiting }
@@ -72,7 +72,7 @@ fn plan_head<A>(queue: &DropTail<A>, times: Times, control: CodelState, now: u64
     judge_first(queue, times, seen, now, left)
 }
 
-/// Where the head may be dropped and dropping begins; `left` bytes are behind it.
+/// Plans the drops if the head may be dropped and dropping begins; `left` bytes are behind it.
 fn judge_first<A>(
     queue: &DropTail<A>,
     times: Times,
@@ -98,7 +98,7 @@ fn judge_first<A>(
     }
 }
 
-/// Where the head may be dropped, while dropping; `left` bytes are behind it.
+/// Plans the drops if the head may be dropped, while dropping; `left` bytes are behind it.
 fn plan_dropping<A>(
     queue: &DropTail<A>,
     times: Times,

@@ -15,7 +15,7 @@ use emu_model::{Discipline, QueueLimit, Size};
 use std::alloc::{AllocError, Global};
 use std::marker::Model;
 
-/// A queue with a limit and a discipline. Under its limit alone CoDel's state stays as it is.
+/// A queue with a limit and a discipline. Under its limit alone, CoDel's state doesn't change.
 #[derive(Drop)]
 pub struct Queue<A> {
     pub(crate) tail: DropTail<A>,
@@ -37,7 +37,7 @@ impl<A> Model for Queue<A> {
     } };
 }
 
-/// What a dequeue dropped, in order, and what it gave to the server.
+/// The items that a dequeue dropped, in order, and the one that it passed to the server.
 #[derive(Drop)]
 pub struct Dequeued<A> {
     pub dropped: Vec<Queued<A>>,
@@ -45,7 +45,7 @@ pub struct Dequeued<A> {
 }
 
 impl<A> Queue<A> {
-    /// An empty queue, with CoDel's opening state. Takes no memory.
+    /// Creates an empty queue, with CoDel's initial state. Does not allocate.
     pub fn new(alloc: Global, limit: QueueLimit, discipline: Discipline) -> Self
         ensures { result ≡ record {
           limit = limit;
@@ -62,7 +62,7 @@ impl<A> Queue<A> {
         }
     }
 
-    /// Whether the limit lets an item of `size` bytes wait as well.
+    /// Returns true if the limit accepts another item of `size` bytes.
     #[inline(always)]
     pub fn accepts(&self, size: Size) -> bool
         ensures { result ≡ accepts self.now.limit self.now.waiting size }
@@ -70,7 +70,7 @@ impl<A> Queue<A> {
         self.tail.accepts(size)
     }
 
-    /// Makes the growth that `enqueue_reserved` of these can need.
+    /// Reserves the memory that `enqueue_reserved` of this item may need.
     #[inline(always)]
     pub fn enqueue_ready(&mut self, size: Size, _now: u64) -> Result<(), AllocError>
         ensures same { self.new ≡ record self.old { capacity = self.new.capacity } }
@@ -90,8 +90,8 @@ impl<A> Queue<A> {
         }
     }
 
-    /// Puts an item of `size` bytes last, stamped with `now`, where the limit lets it in and there is
-    /// room. Takes no memory.
+    /// Appends an item of `size` bytes, stamped with `now`; the limit must accept it, and there
+    /// must be room. Does not allocate.
     #[inline(always)]
     pub fn enqueue_reserved(&mut self, item: A, size: Size, now: u64)
         requires accepted { accepts self.old.limit self.old.waiting size ≡ true }
@@ -101,8 +101,8 @@ impl<A> Queue<A> {
         self.tail.enqueue_reserved(item, size, now);
     }
 
-    /// The discipline's dequeue at the moment `now` (ns), of RFC 8289, section 5.5, under CoDel. It
-    /// takes memory only where it drops; refused, the queue is as before.
+    /// Dequeues an item at `now` (ns) by the discipline; under CoDel, by RFC 8289, section 5.5.
+    /// Allocates only if it drops; if allocation fails, the queue is unchanged.
     #[inline(always)]
     pub fn dequeue(&mut self, now: u64) -> Result<Dequeued<A>, AllocError>
         requires early { IsMoment now }
@@ -119,7 +119,8 @@ impl<A> Queue<A> {
         self.dequeue_knowing(now, plain)
     }
 
-    /// The same for a caller who knows that it drops nothing for sure, as `drops_none` told, or doesn't know it.
+    /// Dequeues an item like `dequeue`, for a caller that may know that it is certain to drop
+    /// nothing (see `drops_none`).
     #[inline(always)]
     pub fn dequeue_knowing(&mut self, now: u64, plain: bool) -> Result<Dequeued<A>, AllocError>
         requires early { IsMoment now }
@@ -142,8 +143,8 @@ impl<A> Queue<A> {
         self.dequeue_long(now)
     }
 
-    /// A dequeue at the moment `now` (ns) drops nothing for sure: nothing waits, its head's stay is short, or
-    /// CoDel drops later.
+    /// Returns true if a dequeue at `now` (ns) is certain to drop nothing: nothing waits, the
+    /// head's sojourn is short, or CoDel drops later.
     #[inline(always)]
     pub fn drops_none(&self, now: u64) -> bool
         ensures plain { result ≡ is_plain self.now.discipline self.now.control now self.now.waiting }
@@ -158,7 +159,7 @@ impl<A> Queue<A> {
         }
     }
 
-    // Whether nothing waits, or the head's stay is short; always under the limit alone.
+    // Returns true if nothing waits, or the head's sojourn is short; always under the limit alone.
     #[inline(always)]
     fn is_short(&self, now: u64) -> bool
         ensures { result ≡ head_is_short self.now.discipline now self.now.waiting }
@@ -171,7 +172,7 @@ impl<A> Queue<A> {
         }
     }
 
-    // The dequeue at a moment (ns) at which `drops_none` is true. Takes no memory.
+    // Dequeues an item at a time (ns) at which `drops_none` is true. Does not allocate.
     #[tactic(auto, using(crate::proofs::Later::later_gives))]
     #[inline(always)]
     fn dequeue_plainly(&mut self, now: u64) -> Option<Queued<A>>
@@ -187,7 +188,7 @@ impl<A> Queue<A> {
         self.tail.dequeue()
     }
 
-    // The same where the head is judged, and those behind it.
+    // Dequeues an item like `dequeue`, and judges the head and the items behind it.
     #[inline(never)]
     fn dequeue_long(&mut self, now: u64) -> Result<Dequeued<A>, AllocError>
         requires early { IsMoment now }
@@ -212,7 +213,7 @@ impl<A> Queue<A> {
         Ok(Dequeued { dropped, given })
     }
 
-    /// What an item leaves behind that comes at the moment `now` (ns) while nothing waits, and is
+    /// Updates CoDel's state for an item that arrives at `now` (ns) while nothing waits, and is
     /// served at once.
     #[inline(always)]
     pub fn pass(&mut self, now: u64)
@@ -223,7 +224,7 @@ impl<A> Queue<A> {
         }
     }
 
-    /// Takes the head as it is, past the discipline. Takes no memory.
+    /// Removes the head, without the discipline. Does not allocate.
     pub fn take(&mut self) -> Option<Queued<A>>
         ensures given { MatchOption result (self.old.waiting ≡ [])
             (λ w. self.old.waiting ≡ w ∷ self.new.waiting) }
@@ -232,7 +233,7 @@ impl<A> Queue<A> {
         self.tail.dequeue()
     }
 
-    /// How many wait.
+    /// Returns the number of items that wait.
     #[inline(always)]
     pub fn waiting(&self) -> usize
         ensures waiting { result ≡ length self.now.waiting }
@@ -241,7 +242,7 @@ impl<A> Queue<A> {
         self.tail.waiting()
     }
 
-    /// The bytes of what waits.
+    /// Returns the bytes of the items that wait.
     pub fn bytes(&self) -> u64
         ensures bytes { result ≡ bytes_of self.now.waiting }
         ensures few { result ≤ 1500000 }
@@ -249,7 +250,8 @@ impl<A> Queue<A> {
         self.tail.bytes()
     }
 
-    /// Changes limit and discipline. What waits stays; CoDel's state stays where its times do.
+    /// Changes the limit and the discipline. Keeps the items; keeps CoDel's state if the discipline
+    /// and its times are unchanged.
     pub fn configure(&mut self, limit: QueueLimit, discipline: Discipline)
         ensures { self.new ≡ record self.old {
           limit = limit;
@@ -267,14 +269,14 @@ impl<A> Queue<A> {
 }
 
 impl<A: Copy> Queue<A> {
-    /// The item that waits at a place, the head at 0.
+    /// Returns the item that waits at a place, the head at 0.
     pub fn at(&self, place: usize) -> Option<A>
         ensures { result ≡ slice_get (map (λ w. w.item) self.now.waiting) place }
     {
         self.tail.at(place)
     }
 
-    /// Puts another item at a place, the head at 0. Nothing else changes. Takes no memory.
+    /// Replaces the item at a place, the head at 0. Nothing else changes. Does not allocate.
     pub fn replace(&mut self, place: usize, item: A)
         requires { place < length self.old.waiting }
         ensures { self.new ≡ record self.old { waiting = with_item self.old.waiting place item } }

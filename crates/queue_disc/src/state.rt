@@ -1,5 +1,5 @@
-//! CoDel's state, one small function for each step of RFC 8289's `dequeue` (section 5.5) and of its
-//! helpers (5.6).
+//! CoDel's state, with one small function for each step of RFC 8289's `dequeue` (section 5.5) and
+//! of its helpers (5.6).
 
 ghost use Rattle.std.specs.Prelude.{◌≡◌, ◌+◌, ◌-◌, ◌*◌, ◌^◌, ◌<◌, ◌≤◌, ◌==◌, ◌&&◌, ◌||◌, not, nat_lt, nat_le};
 ghost use Rattle.emu_model.specs.Moments.{IsMoment};
@@ -11,10 +11,11 @@ use crate::law::control_law;
 use emu_model::CodelTime;
 use std::marker::Model;
 
-/// The greatest packet, in bytes: no more than that left behind is a short queue (our choice).
+/// The maximum size of a packet, in bytes: a queue with no more than that behind the head is short
+/// (our choice).
 const MAX_PACKET: u64 = 1500;
 
-/// Dropping began a short while ago within so many intervals.
+/// The number of intervals within which dropping counts as recent.
 const RECENT_INTERVALS: u64 = 16;
 
 #[derive(Clone, Copy)]
@@ -34,7 +35,8 @@ impl Model for Times {
 }
 
 impl Times {
-    /// Whether a stay since `stamp` is short, or no more than one greatest packet is left behind.
+    /// Returns true if the sojourn since `stamp` is short, or no more than one maximum-size packet
+    /// is left behind.
     #[inline(always)]
     pub(crate) fn is_short(self, now: u64, stamp: u64, left: u64) -> bool
         ensures { result ≡ (nat_lt (now - stamp) self.target || nat_le left 1500) }
@@ -43,8 +45,8 @@ impl Times {
     }
 }
 
-/// What is found of a head: whether it may be dropped, and the moment (ns) at which the stay has been
-/// long for an interval.
+/// The result of examining a head: whether it may be dropped, and the time (ns) at which its
+/// sojourn has been long for an interval.
 #[derive(Clone, Copy)]
 pub(crate) struct Found {
     ok_to_drop: bool,
@@ -68,7 +70,7 @@ impl Model for Found {
 }
 
 impl Found {
-    /// Whether the head may be dropped: the stay has been long for an interval.
+    /// Returns true if the head may be dropped: its sojourn has been long for an interval.
     pub(crate) fn ok_to_drop(self) -> bool
         ensures { result ≡ self.ok_to_drop }
     {
@@ -130,14 +132,14 @@ impl CodelState {
         self.dropping
     }
 
-    /// Whether the moment of the next drop has come.
+    /// Returns true if the time of the next drop has been reached.
     pub(crate) fn is_due(self, now: u64) -> bool
         ensures { result ≡ not (nat_lt now self.drop_next) }
     {
         self.drop_next <= now
     }
 
-    /// What is found of a head whose stay is short, or isn't (RFC 8289, section 5.6, `dodequeue`).
+    /// Examines a head whose sojourn is short, or isn't (RFC 8289, section 5.6, `dodequeue`).
     pub(crate) fn examine(self, times: Times, now: u64, short: bool) -> Found
         requires early { IsMoment now }
         ensures { result ≡ found_by times now self.first_above_time short }
@@ -160,7 +162,7 @@ impl CodelState {
         }
     }
 
-    /// Once a head was looked at.
+    /// Returns the state after a head was examined.
     pub(crate) fn look(self, found: Found) -> Self
         ensures { result ≡ record self { first_above_time = found.first_above_time } }
     {
@@ -170,7 +172,7 @@ impl CodelState {
         }
     }
 
-    /// Once the queue was found empty.
+    /// Returns the state after the queue was found empty.
     pub(crate) fn look_empty(self) -> Self
         ensures { result ≡ look_empty self }
     {
@@ -180,7 +182,7 @@ impl CodelState {
         }
     }
 
-    /// After a head whose stay is short, or none.
+    /// Updates the state after a head whose sojourn is short, or after an empty queue.
     #[inline(always)]
     pub(crate) fn rest(&mut self)
         ensures { self.new ≡ stop_dropping (look_empty self.old) }
@@ -189,8 +191,9 @@ impl CodelState {
         self.dropping = false;
     }
 
-    /// Whether a head whose stay is long is not dropped yet: its stay hasn't been long for an interval, or the
-    /// moment of the next drop hasn't come. A stay that is long for the first time is judged the long way.
+    /// Returns true if a head whose sojourn is long is not dropped yet: its sojourn hasn't been
+    /// long for an interval, or the time of the next drop hasn't been reached. A sojourn that is
+    /// long for the first time is judged by the full dequeue.
     #[inline(always)]
     pub(crate) fn drops_later(self, now: u64) -> bool
         ensures { result ≡ drops_later self now }
@@ -199,7 +202,8 @@ impl CodelState {
             && (now < self.first_above_time || (self.dropping && now < self.drop_next))
     }
 
-    /// After a head that is given at the moment `now` (ns): its stay is short, or it is not dropped yet.
+    /// Updates the state after a head was dequeued at `now` (ns): its sojourn is short, or it is
+    /// not dropped yet.
     #[inline(always)]
     pub(crate) fn give_head(&mut self, short: bool, now: u64)
         ensures { self.new ≡ given short now self.old }
@@ -229,7 +233,7 @@ impl CodelState {
         }
     }
 
-    /// Sets the moment of the next drop after the last one.
+    /// Sets the time of the next drop after the last one.
     pub(crate) fn set_next(self, times: Times) -> Self
         requires some { 1 ≤ self.count }
         requires early { IsMoment self.drop_next }
@@ -241,7 +245,7 @@ impl CodelState {
         }
     }
 
-    /// Begins dropping, with a higher count where it ended a short while ago.
+    /// Starts dropping, with a higher count if dropping ended a short while ago.
     pub(crate) fn enter_drop_state(self, times: Times, now: u64) -> Self
         requires early { IsMoment now }
         ensures { result ≡ enter_drop_state times now self }

@@ -1,4 +1,4 @@
-//! Drop-tail (ipfw(8), queue): a limit, what waits, and the sum of its bytes.
+//! Drop-tail (ipfw(8), queue): a limit, the items that wait, and the sum of their bytes.
 
 ghost use Rattle.std.specs.Prelude.{◌≡◌, ◌+◌, ◌-◌, ◌*◌, ◌^◌, ◌<◌, ◌≤◌, true, false, [], ◌∷◌, ◌++◌, length, map, drop, IfErr, OnOk, OnErr, IsTrue, MatchOption, slice_get, take, vec_len, vec_capacity};
 ghost use Rattle.emu_model.specs.DropTail.{bytes_of, accepts};
@@ -10,10 +10,10 @@ use std::alloc::{AllocError, Global};
 use std::collections::VecDeque;
 use std::marker::Model;
 
-/// The places of the first growth.
+/// The number of places of the first allocation.
 const LEAST_GROWTH: usize = 4;
 
-// The range that the types of a limit keep; nothing of it is left in the program.
+// Shows the prover the ranges of a limit's types; it compiles to nothing.
 fn limit_in_range(limit: &QueueLimit)
     ensures { IsLimit limit.now }
 {
@@ -52,7 +52,7 @@ impl<A> Model for DropTail<A> {
 }
 
 impl<A> DropTail<A> {
-    /// An empty queue. Takes no memory.
+    /// Creates an empty queue. Does not allocate.
     pub fn new(alloc: Global, limit: QueueLimit) -> Self
         ensures limit { result.limit ≡ limit }
         ensures empty { result.waiting ≡ [] }
@@ -65,8 +65,8 @@ impl<A> DropTail<A> {
         }
     }
 
-    /// Puts an item of `size` bytes last, stamped with `now`. Refused, the queue is as before and the
-    /// item comes back: `Full` by the limit, `NoMemory` where a growth was refused.
+    /// Appends an item of `size` bytes, stamped with `now`. On error the queue is unchanged and the
+    /// item is returned: `Full` because of the limit, `NoMemory` if an allocation fails.
     pub fn enqueue(&mut self, item: A, size: Size, now: u64) -> Result<(), Refused<A>>
         ensures ok { OnOk result (self.new ≡ record self.old {
           waiting = self.old.waiting ++ record { item = item; size = size; stamp = now } ∷ [];
@@ -101,7 +101,8 @@ impl<A> DropTail<A> {
         Ok(())
     }
 
-    /// The same where the limit lets it in and there is room. Takes no memory.
+    /// Appends an item like `enqueue`; the limit must accept it, and there must be room. Does not
+    /// allocate.
     #[inline(always)]
     pub fn enqueue_reserved(&mut self, item: A, size: Size, now: u64)
         requires accepted { accepts self.old.limit self.old.waiting size ≡ true }
@@ -120,7 +121,7 @@ impl<A> DropTail<A> {
         });
     }
 
-    /// Takes the head. Takes no memory.
+    /// Removes the head, and returns it. Does not allocate.
     #[inline(always)]
     pub fn dequeue(&mut self) -> Option<Queued<A>>
         ensures given { MatchOption result (self.old.waiting ≡ [])
@@ -132,7 +133,7 @@ impl<A> DropTail<A> {
         Some(head)
     }
 
-    /// How many wait.
+    /// Returns the number of items that wait.
     #[inline(always)]
     pub fn waiting(&self) -> usize
         ensures waiting { result ≡ length self.now.waiting }
@@ -141,7 +142,7 @@ impl<A> DropTail<A> {
         self.waiting.len()
     }
 
-    /// The bytes of what waits.
+    /// Returns the bytes of the items that wait.
     #[inline(always)]
     pub fn bytes(&self) -> u64
         ensures bytes { result ≡ bytes_of self.now.waiting }
@@ -150,7 +151,7 @@ impl<A> DropTail<A> {
         self.bytes
     }
 
-    /// Whether the limit lets an item of `size` bytes wait as well.
+    /// Returns true if the limit accepts another item of `size` bytes.
     #[inline(always)]
     pub fn accepts(&self, size: Size) -> bool
         ensures value { result ≡ accepts self.now.limit self.now.waiting size }
@@ -164,7 +165,7 @@ impl<A> DropTail<A> {
         }
     }
 
-    /// Changes the limit. What waits stays, also where it is more than the limit.
+    /// Changes the limit. Keeps the items, even if they exceed the limit.
     pub fn set_limit(&mut self, limit: QueueLimit)
         ensures { self.new ≡ record self.old { limit = limit } }
     {
@@ -172,7 +173,7 @@ impl<A> DropTail<A> {
         self.limit = limit;
     }
 
-    /// What waits at a place, the head at 0.
+    /// Returns the item that waits at a place with its size and stamp, the head at 0.
     #[inline(always)]
     pub(crate) fn get(&self, index: usize) -> Option<&Queued<A>>
         ensures item { MatchOption result (drop index self.now.waiting ≡ [])
@@ -182,7 +183,7 @@ impl<A> DropTail<A> {
         self.waiting.get(index)
     }
 
-    /// Takes so many from the head to the end of a list that has room for them.
+    /// Moves `count` items from the head to the end of a list that has room for them.
     pub(crate) fn take_into(&mut self, count: usize, list: &mut Vec<Queued<A>>)
         requires enough { count ≤ length self.old.waiting }
         requires room { vec_len list.old + count ≤ vec_capacity list.old }
@@ -200,7 +201,7 @@ impl<A> DropTail<A> {
         *self.waiting.allocator()
     }
 
-    /// Makes room for one more: twice as many places where none is free.
+    /// Reserves room for one more item: doubles the number of places if none is free.
     #[inline(always)]
     pub(crate) fn reserve(&mut self) -> Result<(), AllocError>
         ensures ok { OnOk result (self.new ≡ record self.old { capacity = self.new.capacity }) }
@@ -216,7 +217,7 @@ impl<A> DropTail<A> {
         self.grow()
     }
 
-    /// Twice as many places.
+    /// Doubles the number of places.
     #[inline(never)]
     fn grow(&mut self) -> Result<(), AllocError>
         ensures ok { OnOk result (self.new ≡ record self.old { capacity = self.new.capacity }) }
@@ -235,7 +236,7 @@ impl<A> DropTail<A> {
 }
 
 impl<A: Copy> DropTail<A> {
-    /// The item that waits at a place, the head at 0.
+    /// Returns the item that waits at a place, the head at 0.
     pub fn at(&self, place: usize) -> Option<A>
         ensures { result ≡ slice_get (map (λ w. w.item) self.now.waiting) place }
     {
@@ -243,7 +244,7 @@ impl<A: Copy> DropTail<A> {
         Some(waiting.item)
     }
 
-    /// Puts another item at a place, the head at 0. Its size and its stamp stay. Takes no memory.
+    /// Replaces the item at a place, the head at 0. Its size and its stamp stay. Does not allocate.
     pub fn replace(&mut self, place: usize, item: A)
         requires { place < length self.old.waiting }
         ensures { self.new ≡ record self.old { waiting = with_item self.old.waiting place item } }

@@ -1,5 +1,5 @@
-//! A Reno sender and its receiver (RFC 5681; adaptive retransmission times: RFC 6298; the reply to
-//! each segment: our choice).
+//! A Reno sender and its receiver (RFC 5681; adaptive retransmission timeouts: RFC 6298; the reply
+//! to each segment: our choice).
 #![tactic(auto)]
 
 mod receiver;

@@ -1,4 +1,5 @@
-//! A receiver (our choice): it acknowledges each segment at once, with the least byte that did not come.
+//! A receiver (our choice), which acknowledges each segment at once, with the smallest byte that
+//! has not arrived.
 
 ghost use Rattle.std.specs.Prelude.{◌≡◌, ◌+◌, ◌<◌, ◌≤◌, ◌↔◌, [], length, IfOk, IsOk, IsTrue, OnOk, OnErr};
 ghost use Rattle.std.specs.VecDeque.{deque_capacity};
@@ -10,11 +11,13 @@ use std::alloc::{AllocError, Global};
 use std::collections::VecDeque;
 use std::marker::Model;
 
-/// How many segments a receiver takes, far above what a flow sends: then no position wraps (our choice).
+/// The maximum number of segments that a receiver takes, far above what a flow sends, so that no
+/// position wraps (our choice).
 const MAX_SEGMENTS: u64 = 4_294_967_296;
 
-/// Keeps which segments came: how many in order, and beside them only those past the first gap. A
-/// contract sees the first bytes of all of them, and how many more can come without memory.
+/// The segments that have arrived: the number of those in order, and a list of only those past the
+/// first gap. Contracts see the first bytes of all of them, and how many more can arrive without an
+/// allocation.
 #[derive(Drop)]
 pub struct Receiver {
     smss: SegmentSize,
@@ -39,7 +42,7 @@ impl Model for Receiver {
 }
 
 impl Receiver {
-    /// A receiver of segments of `smss` bytes, to which none came yet. Takes no memory.
+    /// Creates a receiver of segments of `smss` bytes, before the first one. Does not allocate.
     pub fn new(alloc: Global, smss: SegmentSize) -> Self
         ensures smss { result.smss ≡ smss }
         ensures came { result.came ≡ [] }
@@ -52,9 +55,9 @@ impl Receiver {
         }
     }
 
-    /// Takes the segment that begins at `first`, and answers what it acknowledges: the least byte that
-    /// did not come. A segment that came before changes nothing. Only one that leaves a gap can need
-    /// memory; where that is refused nothing changes.
+    /// Receives the segment that begins at `first`, and returns the acknowledgement: the smallest
+    /// byte that has not arrived. A segment that arrived before changes nothing. Only one that
+    /// leaves a gap may need memory; if allocation fails, nothing changes.
     #[inline(always)]
     pub fn take(&mut self, first: u64) -> Result<u64, AllocError>
         ensures upto { IfOk result (λ upto. upto ≡ missing self.old.smss self.new.came) }
@@ -63,7 +66,7 @@ impl Receiver {
         ensures smss { self.new.smss ≡ self.old.smss }
         ensures room { self.old.room ≤ self.new.room + 1 }
 
-        // Without room, only what is neither next nor there already can be refused.
+        // Without room, only a segment that is neither the next one nor a repetition can fail.
         ensures succeeds { 0 < self.old.room → IsOk result }
         ensures next { first ≡ missing self.old.smss self.old.came →
             length self.old.came < most_segments → IsOk result }
@@ -90,7 +93,8 @@ impl Receiver {
         Ok(next)
     }
 
-    /// Makes the growth of a `take` of any segment, which then isn't refused until one came.
+    /// Reserves the memory for a `take` of any segment, which then doesn't fail until one has
+    /// arrived.
     #[inline(always)]
     pub fn take_ready(&mut self, _first: u64) -> Result<(), AllocError>
         ensures ready { OnOk result (0 < self.new.room) }
@@ -116,8 +120,8 @@ fn is_full(in_order: u64, others: &VecDeque<u64>) -> bool
     in_order + others.len() as u64 >= MAX_SEGMENTS
 }
 
-// Takes out of `others` what follows in order on the first `count` segments, and answers how many
-// came in order then.
+// Removes from `others` the segments that follow the first `count` ones in order, and returns the
+// number of segments that are then in order.
 #[inline(always)]
 fn absorb(smss: u64, count: u64, others: &mut VecDeque<u64>) -> u64
     requires least { 1 ≤ smss }
@@ -137,7 +141,7 @@ fn absorb(smss: u64, count: u64, others: &mut VecDeque<u64>) -> u64
     absorb_some(smss, count, others)
 }
 
-// The same where something may stand past a gap.
+// Removes segments like `absorb`, if there may be some past a gap.
 #[inline(never)]
 fn absorb_some(smss: u64, mut count: u64, others: &mut VecDeque<u64>) -> u64
     requires least { 1 ≤ smss }

@@ -9,8 +9,8 @@ use crate::state::State;
 use emu_model::FlowSpec;
 use std::marker::Model;
 
-/// Sends the segments of a flow by RFC 5681, with a fixed retransmission time or those of RFC 6298.
-/// Positions and windows are in bytes, moments in nanoseconds. Takes no memory.
+/// A sender of a flow's segments by RFC 5681, with a fixed retransmission timeout or those of RFC
+/// 6298. Positions and windows are in bytes, times in nanoseconds. Does not allocate.
 #[derive(Drop)]
 pub struct Sender {
     flow: FlowSpec,
@@ -31,7 +31,7 @@ impl Model for Sender {
 }
 
 impl Sender {
-    /// A sender that sent nothing yet.
+    /// Creates a sender that has sent nothing.
     pub fn new(flow: FlowSpec) -> Self
         ensures { result ≡ record { flow = flow; sender = initial_sender flow } }
     {
@@ -39,7 +39,7 @@ impl Sender {
         Sender { flow, state }
     }
 
-    /// The flow whose segments it sends.
+    /// Returns the flow whose segments the sender sends.
     pub fn flow(&self) -> FlowSpec
         ensures flow { result ≡ self.now.flow }
         ensures sound { IsSound self.now.flow self.now.sender }
@@ -47,7 +47,7 @@ impl Sender {
         self.flow
     }
 
-    /// The same, which stays here.
+    /// Returns a reference to the flow.
     #[inline(always)]
     pub fn flow_ref(&self) -> &FlowSpec
         ensures flow { result.now ≡ self.now.flow }
@@ -55,7 +55,7 @@ impl Sender {
         &self.flow
     }
 
-    /// Takes an acknowledgement of all bytes below `upto` at the moment `now`.
+    /// Processes an acknowledgement of all bytes below `upto` at `now`.
     #[inline(always)]
     pub fn ack(&mut self, now: u64, upto: u64)
         requires early { IsMoment now }
@@ -65,7 +65,7 @@ impl Sender {
         self.state.ack(&self.flow, now, upto);
     }
 
-    /// Its timer came due at the moment `now`.
+    /// Processes the expiry of the timer at `now`.
     pub fn expire(&mut self, now: u64)
         requires early { IsMoment now }
         ensures { self.new
@@ -74,7 +74,7 @@ impl Sender {
         self.state.expire(&self.flow, now);
     }
 
-    /// Sends one segment at the moment `now`, and answers its first byte.
+    /// Sends one segment at `now`, and returns its first byte.
     #[inline(always)]
     pub fn emit(&mut self, now: u64) -> u64
         requires early { IsMoment now }
@@ -88,7 +88,7 @@ impl Sender {
         self.state.emit(&self.flow, now)
     }
 
-    /// A segment may be sent now: one that is to be sent again, or one that the windows let through.
+    /// Returns true if a segment may be sent now: a retransmission, or one that the windows allow.
     #[inline(always)]
     pub fn may_emit(&self) -> bool
         ensures { result ≡ may_emit self.now.flow self.now.sender }
@@ -96,7 +96,7 @@ impl Sender {
         self.state.resend || self.state.has_room(&self.flow)
     }
 
-    /// When its timer is due (ns), if it runs.
+    /// Returns the time (ns) at which the timer is due, if it is running.
     #[inline(always)]
     pub fn due(&self) -> Option<u64>
         ensures { result ≡ self.now.sender.timer }
@@ -104,7 +104,7 @@ impl Sender {
         self.state.timer
     }
 
-    /// The congestion window in bytes.
+    /// Returns the congestion window in bytes.
     #[inline(always)]
     pub fn cwnd(&self) -> u64
         ensures { result ≡ self.now.sender.cwnd }
@@ -112,7 +112,7 @@ impl Sender {
         self.state.cwnd
     }
 
-    /// The slow start threshold in bytes.
+    /// Returns the slow start threshold in bytes.
     #[inline(always)]
     pub fn ssthresh(&self) -> u64
         ensures { result ≡ self.now.sender.ssthresh }

@@ -1,4 +1,4 @@
-//! What a sender knows, and how each event changes it: one function for each rule.
+//! The state of a sender, and its changes: one function for each rule.
 
 ghost use Rattle.std.specs.Prelude.{◌≡◌, ◌+◌, ◌-◌, ◌*◌, ◌<◌, ◌≤◌, true, false, Some, None, option_map, min, max};
 ghost use Rattle.emu_model.specs.Moments.{IsMoment};
@@ -9,15 +9,16 @@ ghost use Rattle.reno_core.specs.Sound.{IsSound, IsFlow, IsEstimate};
 use crate::times::{Estimate, FIRST_RTO, MAX_RTO, Sample, nanoseconds};
 use emu_model::{FlowSpec, Timing};
 
-/// Where cwnd and duplicates stay (our choice).
+/// The value at which cwnd and the count of duplicates saturate (our choice).
 const MAX_WORD: u64 = 4_294_967_295;
 
-/// The least segment size for which a sender begins with three segments and not four (RFC 5681,
-/// section 3.1).
+/// The smallest segment size for which a sender begins with three segments instead of four (RFC
+/// 5681, section 3.1).
 const LARGE_SEGMENT: u64 = 1096;
 
-/// The bytes below `snd_una` are acknowledged, `snd_nxt` is the next to be sent, and all below `snd_max` were
-/// sent once (RFC 5681). Moments and times are in nanoseconds.
+/// The state of a sender: the bytes below `snd_una` are acknowledged, `snd_nxt` is the next byte to
+/// send, and all bytes below `snd_max` were sent at least once (RFC 5681). Times are in
+/// nanoseconds.
 #[derive(Clone, Copy)]
 pub(crate) struct State {
     pub(crate) snd_una: u64,
@@ -28,7 +29,7 @@ pub(crate) struct State {
     pub(crate) duplicates: u64,
     pub(crate) recovery: bool,
     pub(crate) resend: bool,
-    // The last timer expired, and no new data was acknowledged since.
+    // True if the last timer expired, and no new data has been acknowledged since.
     pub(crate) backed_off: bool,
     pub(crate) rto: u64,
     pub(crate) timer: Option<u64>,
@@ -36,7 +37,7 @@ pub(crate) struct State {
     pub(crate) estimate: Option<Estimate>,
 }
 
-/// The bytes of a segment.
+/// Returns the size of a segment in bytes.
 pub(crate) fn segment_bytes(flow: &FlowSpec) -> u64
     ensures value { result ≡ flow.now.smss }
     ensures least { 1 ≤ result }
@@ -45,7 +46,7 @@ pub(crate) fn segment_bytes(flow: &FlowSpec) -> u64
     u64::from(flow.smss.get())
 }
 
-/// The bytes of all segments.
+/// Returns the size of all segments in bytes.
 pub(crate) fn total_bytes(flow: &FlowSpec) -> u64
     ensures value { result ≡ total_bytes flow.now }
     ensures most { result ≤ 1460000000 }
@@ -54,7 +55,7 @@ pub(crate) fn total_bytes(flow: &FlowSpec) -> u64
 }
 
 impl State {
-    /// Nothing is sent yet (RFC 5681, section 3.1).
+    /// Creates the state before the first segment (RFC 5681, section 3.1).
     pub(crate) fn new(flow: &FlowSpec) -> Self
         ensures sender { sender_of result ≡ initial_sender flow.now }
         ensures flow { IsFlow flow.now }
@@ -85,7 +86,8 @@ impl State {
         }
     }
 
-    /// A segment at `snd_nxt` is left, and fits the lesser of both windows.
+    /// Returns true if a segment at `snd_nxt` is left to send, and fits the smaller of both
+    /// windows.
     #[inline(always)]
     pub(crate) fn has_room(&self, flow: &FlowSpec) -> bool
         requires { IsSound flow.now (sender_of self.now) }
@@ -96,7 +98,7 @@ impl State {
             && self.snd_nxt + segment_bytes(flow) - self.snd_una <= window
     }
 
-    /// Half of what is under way, and at least two segments (RFC 5681, equation 4).
+    /// Returns half of the data in flight, but at least two segments (RFC 5681, equation 4).
     fn halved_ssthresh(&self, flow: &FlowSpec) -> u64
         requires { self.now.snd_una ≤ self.now.snd_max }
         ensures { result ≡ halved_ssthresh flow.now (sender_of self.now) }
@@ -104,8 +106,8 @@ impl State {
         ((self.snd_max - self.snd_una) / 2).max(2 * segment_bytes(flow))
     }
 
-    /// The window after an acknowledgement of `count` new bytes: at recovery's end, in slow start, or
-    /// in congestion avoidance (RFC 5681, sections 3.1 and 3.2).
+    /// Returns the window after an acknowledgement of `count` new bytes: at the end of recovery, in
+    /// slow start, or in congestion avoidance (RFC 5681, sections 3.1 and 3.2).
     fn window_after(&self, flow: &FlowSpec, count: u64) -> u64
         requires { IsSound flow.now (sender_of self.now) }
         ensures { result ≡ window_after flow.now count (sender_of self.now) }
@@ -120,7 +122,8 @@ impl State {
         (self.cwnd + (smss * smss / self.cwnd).max(1)).min(MAX_WORD)
     }
 
-    /// The round trip that an acknowledgement of all bytes below `upto` completes.
+    /// Returns the round-trip time that an acknowledgement of all bytes below `upto` completes, if
+    /// any.
     #[inline(always)]
     fn round_trip(&self, now: u64, upto: u64) -> Option<u64>
         ensures { result ≡ round_trip now upto (option_map sample_of self.now.sample) }
@@ -131,8 +134,8 @@ impl State {
         }
     }
 
-    /// Completes a sample, and takes the time that holds after new data was acknowledged: restored
-    /// where it is fixed, else estimated anew.
+    /// Completes a sample, and sets the timeout after an acknowledgement of new data: the fixed
+    /// one, or a new estimate.
     #[inline(always)]
     fn take_round_trip(&mut self, flow: &FlowSpec, now: u64, upto: u64)
         requires early { IsMoment now }
@@ -155,7 +158,8 @@ impl State {
         }
     }
 
-    /// An acknowledgement of new data (RFC 5681, sections 3.1 and 3.2; RFC 6298, 5.2 and 5.3).
+    /// Processes an acknowledgement of new data (RFC 5681, sections 3.1 and 3.2; RFC 6298, 5.2 and
+    /// 5.3).
     #[inline(always)]
     fn ack_new(&mut self, flow: &FlowSpec, now: u64, upto: u64)
         requires early { IsMoment now }
@@ -178,7 +182,8 @@ impl State {
         };
     }
 
-    /// The third duplicate: the segment at `snd_una` is sent again (RFC 5681, section 3.2, steps 2 and 3).
+    /// Enters recovery at the third duplicate, to retransmit the segment at `snd_una` (RFC 5681,
+    /// section 3.2, steps 2 and 3).
     fn enter_recovery(&mut self, flow: &FlowSpec)
         requires sound { IsSound flow.now (sender_of self.old) }
         ensures { sender_of self.new ≡ enter_recovery flow.now (sender_of self.old) }
@@ -190,7 +195,7 @@ impl State {
         self.sample = None;
     }
 
-    /// A duplicate is counted, and inflates the window in recovery (RFC 5681, section 3.2, step 4).
+    /// Counts a duplicate, which inflates the window in recovery (RFC 5681, section 3.2, step 4).
     fn ack_duplicate(&mut self, flow: &FlowSpec)
         requires sound { IsSound flow.now (sender_of self.old) }
         ensures { sender_of self.new ≡ ack_duplicate flow.now (sender_of self.old) }
@@ -217,8 +222,8 @@ impl State {
         upto == self.snd_una && self.snd_una < self.snd_max
     }
 
-    /// An acknowledgement of all bytes below `upto`. One that is neither of new data nor a duplicate
-    /// changes nothing.
+    /// Processes an acknowledgement of all bytes below `upto`. One that is neither of new data nor
+    /// a duplicate changes nothing.
     #[inline(always)]
     pub(crate) fn ack(&mut self, flow: &FlowSpec, now: u64, upto: u64)
         requires early { IsMoment now }
@@ -232,7 +237,7 @@ impl State {
         }
     }
 
-    /// The timer came due (RFC 5681, section 3.1; doubling: RFC 6298, section 5.5).
+    /// Processes the expiry of the timer (RFC 5681, section 3.1; doubling: RFC 6298, section 5.5).
     pub(crate) fn expire(&mut self, flow: &FlowSpec, now: u64)
         requires early { IsMoment now }
         requires sound { IsSound flow.now (sender_of self.old) }
@@ -252,7 +257,7 @@ impl State {
         self.sample = None; // its segment may be sent again
     }
 
-    /// Sends one segment, and answers its first byte.
+    /// Sends one segment, and returns its first byte.
     #[inline(always)]
     pub(crate) fn emit(&mut self, flow: &FlowSpec, now: u64) -> u64
         requires early { IsMoment now }
@@ -269,7 +274,7 @@ impl State {
         }
         let first = self.snd_nxt;
         let end = first + segment_bytes(flow);
-        // What was sent before is not timed (RFC 6298, section 3, Karn).
+        // A segment that was sent before is not timed (RFC 6298, section 3, Karn).
         if self.sample.is_none() && first == self.snd_max {
             self.sample = Some(Sample { end, sent: now });
         }

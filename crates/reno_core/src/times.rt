@@ -1,4 +1,4 @@
-//! Retransmission times: fixed, or from round trips (RFC 6298).
+//! Retransmission timeouts: fixed, or from round-trip times (RFC 6298).
 
 ghost use Rattle.std.specs.Prelude.{◌≡◌, ◌*◌, ◌^◌, ◌<◌, ◌≤◌, option_map};
 ghost use Rattle.emu_model.specs.Moments.{IsMoment};
@@ -10,23 +10,24 @@ use emu_model::Timeout;
 
 const NANOSECONDS_PER_MILLISECOND: u64 = 1_000_000;
 
-/// RTO before a round trip was measured, in nanoseconds (RFC 6298, section 2.1).
+/// The RTO before a round trip was measured, in nanoseconds (RFC 6298, section 2.1).
 pub(crate) const FIRST_RTO: u64 = 1_000_000_000;
 
-/// The shortest adaptive time, in nanoseconds (RFC 6298, section 2.4).
+/// The minimum of adaptive timeouts, in nanoseconds (RFC 6298, section 2.4).
 pub(crate) const LEAST_RTO: u64 = 1_000_000_000;
 
-/// The longest retransmission time, in nanoseconds (RFC 6298, section 2.5).
+/// The maximum of retransmission timeouts, in nanoseconds (RFC 6298, section 2.5).
 pub(crate) const MAX_RTO: u64 = 60_000_000_000;
 
-/// A segment whose acknowledgement is timed: its end, and the moment (ns) at which it was sent.
+/// A segment whose acknowledgement is timed: its end, and the time (ns) at which it was sent.
 #[derive(Clone, Copy)]
 pub(crate) struct Sample {
     pub(crate) end: u64,
     pub(crate) sent: u64,
 }
 
-/// What the samples so far say of the round trip, in nanoseconds (RFC 6298, section 2).
+/// The estimate of the round-trip time from the samples so far, in nanoseconds (RFC 6298, section
+/// 2).
 #[derive(Clone, Copy)]
 pub(crate) struct Estimate {
     pub(crate) srtt: u64,
@@ -34,7 +35,7 @@ pub(crate) struct Estimate {
 }
 
 impl Estimate {
-    /// After a round trip; quotients are rounded down (sections 2.2 and 2.3).
+    /// Returns the estimate after a round trip; quotients are rounded down (sections 2.2 and 2.3).
     pub(crate) fn after(round_trip: u64, before: Option<Estimate>) -> Self
         requires trip { IsMoment round_trip }
         requires before { IsEstimate (option_map estimate_of before) }
@@ -52,7 +53,7 @@ impl Estimate {
         }
     }
 
-    /// The time (ns), with a granularity of 1 ns.
+    /// Returns the timeout (ns), with a granularity of 1 ns.
     pub(crate) fn timeout(self) -> u64
         requires srtt { IsMoment self.srtt }
         requires rttvar { IsMoment self.rttvar }
@@ -63,7 +64,7 @@ impl Estimate {
     }
 }
 
-/// A fixed time in nanoseconds.
+/// Converts a fixed timeout to nanoseconds.
 pub(crate) fn nanoseconds(time: Timeout) -> u64
     ensures value { result ≡ time * 10 ^ 6 }
     ensures least { 1000000 ≤ result }

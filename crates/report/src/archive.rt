@@ -1,4 +1,4 @@
-//! The records of an experiment in sixteen bytes each, for as long as a report isn't written (our choice).
+//! The records of an experiment in sixteen bytes each, until its report is written (our choice).
 
 ghost use Rattle.std.specs.Prelude.{◌≡◌, ◌+◌, ◌<◌, ◌≤◌, ◌∷◌, ◌++◌, [], length, map, take, vec_len, vec_capacity, ℕ, IfSome, OnOk, OnErr};
 ghost use Rattle.std.specs.List.{All};
@@ -13,17 +13,18 @@ use emu_model::Record;
 use std::alloc::{AllocError, Global};
 use std::marker::Model;
 
-/// Records in their order. A contract sees their list.
+/// Records in order. Contracts see the list of records.
 #[derive(Drop)]
 pub struct Archive {
     words: Vec<Packed>,
-    // What doesn't fit into a word, or comes seldom.
+    // The records that don't fit into a word, or that are rare.
     others: Vec<Record>,
     listings: Listings,
 }
 
-// The last two listings: where their words begin, and where those of the last one end. Most lines of a listing say what the
-// one before it said, and then have its words: so `show` a thousand times takes the memory of one (our choice).
+// The last two listings: the places of their first words, and the end of the last one. Most lines
+// of a listing are equal to those of the listing before it, and then share their records: the
+// records of a thousand equal listings are stored once (our choice).
 #[derive(Clone, Copy)]
 struct Listings {
     before: usize,
@@ -32,7 +33,8 @@ struct Listings {
 }
 
 impl Listings {
-    // The place where the listing before has the line that comes next.
+    // Registers a line of a listing at `place`, and returns the place of the same line in the
+    // listing before.
     fn advance(&mut self, place: usize) -> usize {
         if place != self.end {
             self.before = self.last;
@@ -56,7 +58,7 @@ impl Model for Archive {
     ghost invariant = { λ a. All (IsEntry a.others.items) a.words.items };
 }
 
-// Whether it is a line of a listing.
+// Returns true if a record is a line of a listing.
 fn is_listed(entry: &Record) -> bool {
     match entry {
         Record::RuleLine { .. } | Record::PipeLine { .. } | Record::InstanceLine { .. } => true,
@@ -64,7 +66,7 @@ fn is_listed(entry: &Record) -> bool {
     }
 }
 
-// The word at a place, if it stands for the same record as this one, whole.
+// Returns the word at a place, if it refers to a whole record that is equal to this one.
 fn same_at(words: &[Packed], others: &[Record], place: usize, entry: &Record) -> Option<Packed>
     requires sound { All (IsEntry others.now) words.now }
     ensures same { IfSome result (λ w. entry_of others.now w ≡ entry.now) }
@@ -80,7 +82,7 @@ fn same_at(words: &[Packed], others: &[Record], place: usize, entry: &Record) ->
     Some(word)
 }
 
-// One record more, for whose word there is room; `AllocError` changes nothing.
+// Appends a record, for whose word there must be room. After `AllocError` nothing has changed.
 #[tactic(auto, unfolding(crate::specs::Room::spare))]
 #[inline(always)]
 fn note(
@@ -107,7 +109,7 @@ fn note(
     note_whole(words, others, listings, entry)
 }
 
-// The same of one that stands whole.
+// Appends a record like `note`, as a whole.
 #[tactic(auto, unfolding(crate::specs::Room::spare))]
 #[inline(never)]
 fn note_whole(
@@ -138,7 +140,8 @@ fn note_whole(
     Ok(())
 }
 
-// Records more, for whose words there is room; `AllocError` leaves of them what was appended by then.
+// Appends records, for whose words there must be room. After `AllocError` a prefix of them has been
+// appended.
 #[tactic(auto, unfolding(crate::specs::Room::spare))]
 fn note_all(
     words: &mut Vec<Packed>,
@@ -163,7 +166,7 @@ fn note_all(
 }
 
 impl Archive {
-    /// No records. Takes no memory.
+    /// Creates an empty archive. Does not allocate.
     pub fn new(alloc: Global) -> Self
         ensures { result ≡ [] }
     {
@@ -178,7 +181,7 @@ impl Archive {
         }
     }
 
-    /// Appends records; `AllocError` changes nothing.
+    /// Appends records. After `AllocError` nothing has changed.
     #[tactic(auto, unfolding(crate::specs::Room::spare))]
     pub fn append(&mut self, records: &[Record]) -> Result<(), AllocError>
         ensures ok { OnOk result (self.new ≡ self.old ++ records.now) }

@@ -1,5 +1,5 @@
-//! The digits of a moment, kept for the next line. The lines of one step have one moment, and moments of one report
-//! mostly differ in their last eight digits alone.
+//! The digits of a time, cached for the next line. The lines of one step have the same time, and
+//! most times of a report differ only in their last eight digits.
 
 ghost use Rattle.std.specs.Prelude.{◌≡◌, ℕ, ◌+◌, ◌≤◌, ◌<◌, ◌++◌, List, decimal, drop, length, take};
 ghost use Rattle.report.specs.Alike.{AreAlike};
@@ -10,19 +10,19 @@ use emu_model::unreachable_unchecked;
 use itoa::write_digits;
 use std::marker::Model;
 
-/// So many bytes are copied for a moment, which has 20 digits at most.
+/// The number of bytes that are copied for a time, which has at most 20 digits.
 const WIDTH: usize = 24;
 
-/// A moment (ns), and its digits. A contract sees the moment.
+/// A time (ns), and its digits. Contracts see the time.
 #[derive(Drop)]
 pub struct Clock {
     moment: u64,
-    // Moments from `first` to `last` have as many digits, and the same but for the last eight: `base` is what these
-    // are counted from.
+    // All times from `first` to `last` have the same number of digits, and differ only in the last
+    // eight, which are the digits of the difference to `base`.
     first: u64,
     last: u64,
     base: u64,
-    // Where the digits begin: they end at `WIDTH`.
+    // The place of the first digit; the last one is before `WIDTH`.
     start: usize,
     digits: [u8; 2 * WIDTH],
 }
@@ -42,7 +42,8 @@ impl Model for Clock {
         × (take 24 c.digits ≡ take 16 c.digits ++ eight_of (c.moment - c.base)) };
 }
 
-// The first and the last moment with as many digits as one that has eight at most, and where these begin.
+// Returns the first and the last time with as many digits as this one, which has at most eight, and
+// the place of the first digit.
 fn as_long(moment: u64) -> (u64, u64, usize)
     requires { moment < 100000000 }
     ensures inside { (result.0 ≤ moment) × (moment ≤ result.1) }
@@ -74,7 +75,7 @@ fn as_long(moment: u64) -> (u64, u64, usize)
     (0, 9, 23)
 }
 
-// Eight bytes from a place on.
+// Returns eight bytes from a place on.
 #[inline(always)]
 fn eight_from(bytes: &[u8], from: usize) -> [u8; 8]
     requires { from + 8 ≤ length bytes.now }
@@ -87,7 +88,7 @@ fn eight_from(bytes: &[u8], from: usize) -> [u8; 8]
 }
 
 impl Clock {
-    /// At the first moment.
+    /// Creates a clock at time 0.
     pub fn new() -> Self
         ensures { result ≡ 0 }
     {
@@ -101,7 +102,7 @@ impl Clock {
         }
     }
 
-    /// Puts a moment, and returns where it ends.
+    /// Writes a time, and returns its end.
     #[inline(always)]
     pub fn put(&mut self, text: &mut [u8], at: usize, moment: u64) -> usize
         requires { at + 24 ≤ length text.old }
@@ -114,7 +115,7 @@ impl Clock {
         self.put_kept(text, at)
     }
 
-    // Puts the moment that is kept.
+    // Writes the cached time.
     #[inline(always)]
     fn put_kept(&self, text: &mut [u8], at: usize) -> usize
         requires { at + 24 ≤ length text.old }
@@ -128,7 +129,7 @@ impl Clock {
         at + (WIDTH - start)
     }
 
-    // Keeps another moment.
+    // Caches another time.
     #[inline(always)]
     fn turn(&mut self, moment: u64)
         ensures { self.new ≡ moment }
@@ -143,7 +144,7 @@ impl Clock {
         self.moment = moment;
     }
 
-    // Keeps a moment that begins otherwise.
+    // Caches a time whose number of digits or leading digits differ.
     #[inline(never)]
     fn turn_over(&mut self, moment: u64)
         ensures { self.new ≡ moment }
@@ -154,7 +155,7 @@ impl Clock {
         self.turn_long(moment);
     }
 
-    // Keeps a moment of eight digits at most.
+    // Caches a time of at most eight digits.
     fn turn_short(&mut self, moment: u64)
         requires { moment < 100000000 }
         ensures { self.new ≡ moment }
@@ -168,7 +169,7 @@ impl Clock {
         self.start = start;
     }
 
-    // Keeps a moment of nine digits or more.
+    // Caches a time of at least nine digits.
     fn turn_long(&mut self, moment: u64)
         requires { 100000000 ≤ moment }
         ensures { self.new ≡ moment }

@@ -1,4 +1,4 @@
-//! Numbers in decimal digits, two at a time, each put behind what stands before a place.
+//! Numbers in decimal digits, two at a time, each written after the text before a place.
 
 ghost use Rattle.std.specs.Prelude.{◌≡◌, ◌+◌, ◌/◌, ◌%◌, ◌<◌, ◌≤◌, ◌++◌, decimal, length, take};
 ghost use Rattle.report.specs.Words.{pair_of, eight_of};
@@ -7,10 +7,10 @@ ghost use Rattle.report.specs.Words.{pair_of, eight_of};
 static PAIRS: [u8; 200] =
     *b"00010203040506070809101112131415161718192021222324252627282930313233343536373839404142434445464748495051525354555657585960616263646566676869707172737475767778798081828384858687888990919293949596979899";
 
-/// The least number with nine digits.
+/// The smallest number with nine digits.
 pub const EIGHT_DIGITS: u64 = 100_000_000;
 
-// Puts two digits.
+// Writes two digits.
 #[inline(always)]
 fn put_pair(text: &mut [u8], at: usize, pair: u32)
     requires { (pair < 100) × (at + 2 ≤ length text.old) }
@@ -22,7 +22,7 @@ fn put_pair(text: &mut [u8], at: usize, pair: u32)
     text[at + 1] = ones;
 }
 
-// The first two of four digits.
+// Returns the first two of four digits.
 #[inline(always)]
 fn hundreds(four: u32) -> u32
     requires { four < 10000 }
@@ -31,7 +31,7 @@ fn hundreds(four: u32) -> u32
     (four * 5243) >> 19
 }
 
-// Puts four digits.
+// Writes four digits.
 #[inline(always)]
 fn put_four(text: &mut [u8], at: usize, four: u32)
     requires { (four < 10000) × (at + 4 ≤ length text.old) }
@@ -43,7 +43,7 @@ fn put_four(text: &mut [u8], at: usize, four: u32)
     put_pair(text, at + 2, four - high * 100);
 }
 
-/// Puts eight digits, zeros in front.
+/// Writes eight digits, with leading zeros.
 #[inline(always)]
 pub fn put_eight(text: &mut [u8], at: usize, eight: u32)
     requires { (eight < 100000000) × (at + 8 ≤ length text.old) }
@@ -54,7 +54,7 @@ pub fn put_eight(text: &mut [u8], at: usize, eight: u32)
     put_four(text, at + 4, eight - high * 10_000);
 }
 
-// Puts a number of one digit or two, and returns where it ends.
+// Writes a number of one or two digits, and returns its end.
 #[inline(always)]
 fn put_first(text: &mut [u8], at: usize, number: u32) -> usize
     requires { (number < 100) × (at + 2 ≤ length text.old) }
@@ -69,7 +69,7 @@ fn put_first(text: &mut [u8], at: usize, number: u32) -> usize
     at + 2
 }
 
-// Puts a number of up to four digits, and returns where it ends.
+// Writes a number of up to four digits, and returns its end.
 #[inline(always)]
 fn put_short(text: &mut [u8], at: usize, number: u32) -> usize
     requires { (number < 10000) × (at + 4 ≤ length text.old) }
@@ -85,7 +85,7 @@ fn put_short(text: &mut [u8], at: usize, number: u32) -> usize
     end + 2
 }
 
-// Puts a number of up to eight digits, and returns where it ends.
+// Writes a number of up to eight digits, and returns its end.
 #[inline(always)]
 fn put_middle(text: &mut [u8], at: usize, number: u32) -> usize
     requires { (number < 100000000) × (at + 8 ≤ length text.old) }
@@ -101,7 +101,7 @@ fn put_middle(text: &mut [u8], at: usize, number: u32) -> usize
     end + 4
 }
 
-// Puts a number of up to twelve digits, and returns where it ends.
+// Writes a number of up to twelve digits, and returns its end.
 fn put_high(text: &mut [u8], at: usize, number: u64) -> usize
     requires { (number < 1000000000000) × (at + 12 ≤ length text.old) }
     ensures end { (at ≤ result) × (result ≤ at + 12) }
@@ -115,7 +115,7 @@ fn put_high(text: &mut [u8], at: usize, number: u64) -> usize
     end + 8
 }
 
-// Puts a number of nine digits or more, and returns where it ends.
+// Writes a number of nine or more digits, and returns its end.
 #[cold]
 #[inline(never)]
 fn put_long(text: &mut [u8], at: usize, number: u64) -> usize
@@ -128,7 +128,7 @@ fn put_long(text: &mut [u8], at: usize, number: u64) -> usize
     end + 8
 }
 
-/// Puts a number, and returns where it ends.
+/// Writes a number, and returns its end.
 #[inline(always)]
 pub fn put_number(text: &mut [u8], at: usize, number: u64) -> usize
     requires { at + 20 ≤ length text.old }
@@ -141,7 +141,8 @@ pub fn put_number(text: &mut [u8], at: usize, number: u64) -> usize
     put_long(text, at, number)
 }
 
-/// Puts a number that mostly has few digits, as a flow, a pipe or an instance, and returns where it ends.
+/// Writes a number that usually has few digits, such as that of a flow, a pipe or an instance, and
+/// returns its end.
 #[inline(always)]
 pub fn put_small(text: &mut [u8], at: usize, number: u64) -> usize
     requires { at + 20 ≤ length text.old }
@@ -158,7 +159,7 @@ pub fn put_small(text: &mut [u8], at: usize, number: u64) -> usize
     put_wide(text, at, number)
 }
 
-// `put_number`, called: so what puts a small number stays short enough to be put into its callers.
+// Calls `put_number`, so that `put_small` stays short enough to be inlined.
 #[inline(never)]
 fn put_wide(text: &mut [u8], at: usize, number: u64) -> usize
     requires { at + 20 ≤ length text.old }

@@ -1,4 +1,4 @@
-//! The lines of events, each put behind what stands before a place.
+//! The lines of events, each written after the text before a place.
 
 ghost use Rattle.std.specs.Prelude.{◌≡◌, ◌+◌, ◌≤◌, ◌++◌, codes, decimal, false, length, take, IfSome, None};
 ghost use Rattle.report.specs.Archive.{Names, record_of};
@@ -11,7 +11,7 @@ use crate::forward::{put_byte, put_cause, put_instance, put_load, put_next, put_
 use crate::packed::{Kind, Parts, cause_at, flow_of, pipe_of};
 use emu_model::{DropCause, Load, PipeNumber, Record, unreachable_unchecked};
 
-/// Puts a moment, what happened then, and to which number; returns where the number ends.
+/// Writes a time, an event and a number, and returns the end of the number.
 #[inline(always)]
 pub fn put_event(
     clock: &mut Clock,
@@ -32,7 +32,7 @@ pub fn put_event(
     put_number(text, at, number)
 }
 
-// Puts that a command was done.
+// Writes that a command was done.
 #[inline(always)]
 fn put_done(clock: &mut Clock, text: &mut [u8], at: usize, moment: u64, command: u64) -> usize
     requires { at + 256 ≤ length text.old }
@@ -45,7 +45,7 @@ fn put_done(clock: &mut Clock, text: &mut [u8], at: usize, moment: u64, command:
     put_byte(text, at, b'\n')
 }
 
-// Puts what a packet did at an instance.
+// Writes an event of a packet at an instance.
 #[inline(always)]
 fn put_at_instance(
     clock: &mut Clock,
@@ -71,7 +71,7 @@ fn put_at_instance(
     put_byte(text, at, b'\n')
 }
 
-// Puts that a packet was delivered.
+// Writes that a packet was delivered.
 #[inline(always)]
 fn put_delivery(
     clock: &mut Clock,
@@ -95,7 +95,7 @@ fn put_delivery(
     put_byte(text, at, b'\n')
 }
 
-// Puts that a packet was dropped, and why.
+// Writes that a packet was dropped, and the cause.
 #[inline(never)]
 fn put_drop(
     clock: &mut Clock,
@@ -121,7 +121,7 @@ fn put_drop(
     put_byte(text, at, b'\n')
 }
 
-// Puts what a sender's window is after an acknowledgement or a timeout.
+// Writes a sender's window after an acknowledgement or a timeout.
 #[inline(always)]
 fn put_window(
     clock: &mut Clock,
@@ -151,8 +151,8 @@ fn put_window(
     put_byte(text, at, b'\n')
 }
 
-/// Puts the line of an event, and returns where it ends; `None` where the record is none.
-// It is so large that only a single call of it is put into its caller.
+/// Writes the line of an event, and returns its end, or `None` if the record isn't an event.
+// The function is so large that only a single call of it is inlined.
 #[inline(always)]
 pub fn put_line(clock: &mut Clock, text: &mut [u8], at: usize, line: &Record) -> Option<usize>
     requires { at + 256 ≤ length text.old }
@@ -265,7 +265,7 @@ pub fn put_line(clock: &mut Clock, text: &mut [u8], at: usize, line: &Record) ->
     Some(end)
 }
 
-/// Puts the line of a common record, and returns where it ends.
+/// Writes the line of a common record, and returns its end.
 #[inline(always)]
 pub(crate) fn put_parts(clock: &mut Clock, text: &mut [u8], at: usize, parts: Parts) -> usize
     requires room { at + 256 ≤ length text.old }

@@ -1,5 +1,6 @@
-//! What the lines of events are made of, each piece put behind the one before. Short words are written as eight bytes,
-//! which takes one move: what stands past their end is written over by the next piece.
+//! The pieces of an event's line, each written after the one before. Short words are written as
+//! eight bytes, which takes one move; the bytes past a word's end are overwritten by the next
+//! piece.
 
 ghost use Rattle.std.specs.Prelude.{◌≡◌, ◌+◌, ◌≤◌, ◌<◌, ◌++◌, [], ◌∷◌, codes, decimal, length, take};
 ghost use Rattle.report.specs.Words.{instance_name, load_of, cause_of};
@@ -7,7 +8,7 @@ ghost use Rattle.report.specs.Words.{instance_name, load_of, cause_of};
 use crate::digits::{put_number, put_small};
 use emu_model::{DropCause, Load, PipeNumber};
 
-/// Puts one byte, and returns where it ends.
+/// Writes one byte, and returns its end.
 #[inline(always)]
 pub fn put_byte(text: &mut [u8], at: usize, byte: u8) -> usize
     requires { at < length text.old }
@@ -18,7 +19,8 @@ pub fn put_byte(text: &mut [u8], at: usize, byte: u8) -> usize
     at + 1
 }
 
-/// Puts eight bytes one by one, which takes one move: a slice that is copied is first tested not to overlap.
+/// Writes eight bytes one by one, which takes one move: copying a slice would first check for
+/// overlap.
 #[inline(always)]
 pub fn put_bytes(text: &mut [u8], at: usize, bytes: [u8; 8])
     requires { at + 8 ≤ length text.old }
@@ -35,7 +37,7 @@ pub fn put_bytes(text: &mut [u8], at: usize, bytes: [u8; 8])
     text[at + 7] = h;
 }
 
-/// Puts the first bytes of eight, and returns where they end.
+/// Writes the first `count` of eight bytes, and returns their end.
 #[inline(always)]
 pub fn put_word(text: &mut [u8], at: usize, word: &[u8; 8], count: usize) -> usize
     requires { (count ≤ 8) × (at + 8 ≤ length text.old) }
@@ -46,7 +48,7 @@ pub fn put_word(text: &mut [u8], at: usize, word: &[u8; 8], count: usize) -> usi
     at + count
 }
 
-/// Puts a space and a number, and returns where it ends.
+/// Writes a space and a number, and returns its end.
 #[inline(always)]
 pub fn put_next(text: &mut [u8], at: usize, number: u64) -> usize
     requires { at + 21 ≤ length text.old }
@@ -57,7 +59,7 @@ pub fn put_next(text: &mut [u8], at: usize, number: u64) -> usize
     put_number(text, at, number)
 }
 
-/// Puts a space and an instance's name, and returns where it ends.
+/// Writes a space and an instance's name, and returns its end.
 #[inline(always)]
 pub fn put_instance(text: &mut [u8], at: usize, pipe: PipeNumber, instance: u8) -> usize
     requires { at + 42 ≤ length text.old }
@@ -71,7 +73,7 @@ pub fn put_instance(text: &mut [u8], at: usize, pipe: PipeNumber, instance: u8) 
     put_small(text, at, u64::from(instance))
 }
 
-/// Puts a space and what a packet holds, and returns where it ends.
+/// Writes a space and a packet's load, and returns its end.
 #[inline(always)]
 pub fn put_load(text: &mut [u8], at: usize, load: Load) -> usize
     requires { at + 47 ≤ length text.old }
@@ -87,7 +89,7 @@ pub fn put_load(text: &mut [u8], at: usize, load: Load) -> usize
     put_next(text, end, number)
 }
 
-/// Puts a space and why a packet was dropped, and returns where it ends.
+/// Writes a space and the cause of a drop, and returns its end.
 #[inline(always)]
 pub fn put_cause(text: &mut [u8], at: usize, cause: DropCause) -> usize
     requires { at + 16 ≤ length text.old }

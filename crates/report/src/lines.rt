@@ -1,5 +1,5 @@
-//! The lines of a report, each appended to a text (our choice). Moments are in ns. Where memory is refused,
-//! the text stays as it was.
+//! The lines of a report, each appended to a text (our choice). Times are in ns. If allocation
+//! fails, the text is unchanged.
 
 ghost use Rattle.std.specs.Prelude.{◌≡◌, ◌+◌, ◌≤◌, ◌++◌, length, codes, decimal, false, vec_len, vec_capacity, IsOk, OnOk, OnErr};
 ghost use Rattle.report.specs.Room.{spare, Appends};
@@ -23,7 +23,7 @@ use emu_model::{
 };
 use std::alloc::AllocError;
 
-// No line is longer, nor a heading without its name.
+// The maximum length of a line, and of a heading without its name.
 const LONGEST_LINE: usize = 400;
 
 fn append_rule(out: &mut Vec<u8>, rule: &Rule, packets: u64, bytes: u64)
@@ -60,7 +60,7 @@ fn append_pipe(out: &mut Vec<u8>, pipe: PipeNumber, config: &PipeConfig)
     append_discipline(out, config.discipline);
 }
 
-// What a packet that was made begins with: its moment, its number, what it holds.
+// Appends the start of the line of a packet's creation: the time, the packet's number and its load.
 fn append_made(out: &mut Vec<u8>, moments: &mut Moments, moment: u64, packet: u64, load: Load)
     requires { 128 ≤ spare out.old }
     ensures { Appends
@@ -74,7 +74,7 @@ fn append_made(out: &mut Vec<u8>, moments: &mut Moments, moment: u64, packet: u6
     append(out, &moments.page[..end]);
 }
 
-// The line of a record that tells of no event, or of one that is seldom told.
+// Appends the line of a record that is not an event, or of a rare event.
 fn append_other(out: &mut Vec<u8>, moments: &mut Moments, line: &Record)
     requires { (400 ≤ spare out.old) × (is_event line.now ≡ false) }
     ensures { Appends (line_of line.now) 400 out.old out.new }
@@ -176,7 +176,7 @@ fn append_other(out: &mut Vec<u8>, moments: &mut Moments, line: &Record)
     }
 }
 
-// The line of a record.
+// Appends the line of a record.
 fn append_line(out: &mut Vec<u8>, moments: &mut Moments, line: &Record)
     requires { 400 ≤ spare out.old }
     ensures { Appends (line_of line.now) 400 out.old out.new }
@@ -189,8 +189,8 @@ fn append_line(out: &mut Vec<u8>, moments: &mut Moments, line: &Record)
     append(out, &moments.page[..end]);
 }
 
-/// Appends the line of one record; `AllocError` leaves the text as it was. What is kept of moments
-/// changes nothing of the text: where the same is handed to the next line, that costs less.
+/// Appends the line of one record. After `AllocError` the text is unchanged. The cache in `moments`
+/// doesn't change the text: passing it on to the next line makes that line cheaper.
 #[tactic(auto, unfolding(crate::specs::Room::spare))]
 pub fn write_record(
     out: &mut Vec<u8>,
@@ -208,8 +208,8 @@ pub fn write_record(
     Ok(())
 }
 
-/// Appends the line of an experiment's name, the first of its report; `AllocError` leaves the text
-/// as it was.
+/// Appends the line with an experiment's name, the first of its report. After `AllocError` the text
+/// is unchanged.
 #[tactic(auto, unfolding(crate::specs::Room::spare))]
 pub fn write_heading(out: &mut Vec<u8>, name: &[u8]) -> Result<(), AllocError>
     ensures ok { OnOk result (out.new.items ≡ out.old.items ++ heading_of name.now) }
@@ -234,7 +234,8 @@ fn append_drops(out: &mut Vec<u8>, drops: &[u64; 8])
     }
 }
 
-/// Appends the line of the counters, the last of a report; `AllocError` leaves the text as it was.
+/// Appends the line of the counters, the last of a report. After `AllocError` the text is
+/// unchanged.
 #[tactic(auto, unfolding(crate::specs::Room::spare))]
 pub fn write_counters(out: &mut Vec<u8>, counters: &Counters) -> Result<(), AllocError>
     ensures ok { OnOk result (out.new.items ≡ out.old.items ++ counters_of counters.now) }

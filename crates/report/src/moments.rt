@@ -1,24 +1,24 @@
-//! What lines leave for the next one.
+//! The cache that is passed from line to line.
 
 use crate::clock::Clock;
 
-/// How many bytes of lines a page holds before it is full.
+/// The number of bytes at which a page is full.
 pub const FULL: usize = 4096;
 
-/// The page has room for one line more, and for what is written past its end.
+/// The size of a page, with room for one more line, and for what is written past the line's end.
 pub const ROOM: usize = FULL + 256;
 
-/// What lines leave for the next one: the digits of their moment, and the page on which they are made, which so needs
-/// no clearing. Nothing of it is seen in the text.
+/// The cache that is passed from line to line: the digits of the last time, and the page on which
+/// lines are built, which therefore needs no clearing. It doesn't change the text.
 #[derive(Drop)]
 pub struct Moments {
-    // It comes first, so that one register leads to both.
+    // The page is the first field, so that one register addresses both.
     pub(crate) page: [u8; ROOM],
     pub(crate) clock: Clock,
 }
 
 impl Moments {
-    /// Before the first line.
+    /// Creates the cache for the first line.
     pub fn new() -> Self {
         Moments {
             page: [0; ROOM],

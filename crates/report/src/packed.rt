@@ -7,7 +7,7 @@ ghost use Rattle.report.specs.declared.packed.Kind.TheVariants.{Whole};
 
 use emu_model::{DropCause, FlowNumber, Load, PipeNumber, Record, unreachable_unchecked};
 
-/// What a record is, so far as sixteen bytes hold it; `Whole` stands by itself elsewhere.
+/// The kind of a record that fits into sixteen bytes; a `Whole` record is stored elsewhere.
 #[derive(Clone, Copy)]
 pub(crate) enum Kind {
     Whole,
@@ -23,8 +23,8 @@ pub(crate) enum Kind {
     Expired,
 }
 
-/// What a common record says: its kind; its moment (ns); its flow, its pipe, or why it was dropped; its packet, or a
-/// window; and a number besides.
+/// The parts of a common record: its kind; its time (ns); its flow, its pipe, or the cause of a
+/// drop; its packet, or a window; and another number.
 #[derive(Clone, Copy)]
 pub(crate) struct Parts {
     pub(crate) kind: Kind,
@@ -41,14 +41,14 @@ pub(crate) struct Packed {
     pub(crate) low: u64,
 }
 
-/// How far apart the parts of a word stand.
+/// The weights of the parts in a word.
 const MOMENT: u64 = 65_536;
 
 const PACKET: u64 = 16;
 
 const NUMBER: u64 = 1_073_741_824;
 
-/// The first moment, packet and number that have no room: 2^48, 2^26, 2^34.
+/// The first time, packet and number that don't fit: 2^48, 2^26, 2^34.
 const MOMENTS: u64 = 281_474_976_710_656;
 
 const PACKETS: u64 = 67_108_864;
@@ -73,8 +73,8 @@ fn rank(kind: Kind) -> u64
     }
 }
 
-// The kind of a rank that four bits hold. Each of the sixteen is named, so that it is read from a table and nothing is
-// compared.
+// Returns the kind of a rank, which has four bits. All sixteen are listed, so that the kind is read
+// from a table without comparisons.
 fn kind_at(rank: u64) -> Kind
     requires { rank < 16 }
     ensures { result ≡ kind_at rank }
@@ -131,7 +131,7 @@ fn number_of(cause: DropCause) -> u16
     }
 }
 
-/// The parts of a common record; `None` where it is none.
+/// Returns the parts of a common record, or `None` if the record isn't common.
 #[inline(always)]
 pub(crate) fn parts_of(entry: &Record) -> Option<Parts>
     ensures { IfSome result (λ p. (record_of p ≡ entry.now) × Names p.kind p.tag p.number) }
@@ -196,7 +196,7 @@ pub(crate) fn parts_of(entry: &Record) -> Option<Parts>
     Some(parts)
 }
 
-// The parts of what a packet did at an instance.
+// Returns the parts of an event of a packet at an instance.
 #[inline(always)]
 fn at_instance(kind: Kind, moment: u64, packet: u64, pipe: PipeNumber, instance: u8) -> Parts
     ensures { (result.kind ≡ kind) × (result.moment ≡ moment) × (result.tag ≡ pipe)
@@ -212,7 +212,7 @@ fn at_instance(kind: Kind, moment: u64, packet: u64, pipe: PipeNumber, instance:
     }
 }
 
-// The parts of a delivery.
+// Returns the parts of a delivery.
 #[inline(always)]
 fn delivery(moment: u64, packet: u64, load: Load) -> Parts
     ensures { (record_of result ≡ PacketDelivered moment packet load)
@@ -243,7 +243,7 @@ fn delivery(moment: u64, packet: u64, load: Load) -> Parts
     }
 }
 
-// The parts of a sender's window (bytes).
+// Returns the parts of a sender's window (bytes).
 #[inline(always)]
 fn window(kind: Kind, moment: u64, flow: FlowNumber, cwnd: u64, ssthresh: u64) -> Parts
     ensures { (result.kind ≡ kind) × (result.moment ≡ moment) × (result.tag ≡ flow)
@@ -258,7 +258,7 @@ fn window(kind: Kind, moment: u64, flow: FlowNumber, cwnd: u64, ssthresh: u64) -
     }
 }
 
-/// The record of parts.
+/// Returns the record with these parts.
 #[inline(always)]
 pub(crate) fn record_of(parts: Parts) -> Record
     requires { Names parts.kind parts.tag parts.number }
@@ -359,13 +359,13 @@ pub(crate) fn pipe_of(tag: u16) -> PipeNumber
     pipe
 }
 
-/// Parts in two words; `None` where they have no room.
+/// Packs parts into two words. Returns `None` if they don't fit.
 #[tactic(auto, using(crate::proofs::Packing::packed))]
 #[inline(always)]
 pub(crate) fn pack(parts: Parts) -> Option<Packed>
     ensures { IfSome result (λ w. parts_in w ≡ parts) }
 {
-    // One comparison for three.
+    // One comparison instead of three.
     if parts.moment / MOMENTS + parts.packet / PACKETS + parts.number / NUMBERS != 0 {
         return None;
     }
@@ -375,7 +375,7 @@ pub(crate) fn pack(parts: Parts) -> Option<Packed>
     })
 }
 
-/// What stands whole at a place.
+/// Returns the words that refer to a whole record at a place.
 pub(crate) fn place_mark(place: usize) -> Packed
     ensures kind { (parts_in result).kind ≡ Whole }
     ensures place { result.high ≡ place }
@@ -386,7 +386,7 @@ pub(crate) fn place_mark(place: usize) -> Packed
     }
 }
 
-/// The parts of two words.
+/// Returns the parts of two words.
 #[inline(always)]
 pub(crate) fn unpack(word: Packed) -> Parts
     ensures { result ≡ parts_in word }

@@ -1,4 +1,4 @@
-//! What every line is made of. Each call finds the room that it needs.
+//! The pieces of a line. Each function requires that the room it needs is reserved.
 
 ghost use Rattle.std.specs.Prelude.{◌+◌, ◌≤◌, ◌++◌, length, decimal};
 ghost use Rattle.report.specs.Room.{spare, Appends};
@@ -7,7 +7,7 @@ ghost use Rattle.report.specs.Words.{places};
 use emu_model::unreachable_unchecked;
 use itoa::Buffer;
 
-/// These bytes.
+/// Appends bytes.
 #[tactic(auto, unfolding(crate::specs::Room::spare))]
 #[inline]
 pub fn append(out: &mut Vec<u8>, bytes: &[u8])
@@ -19,13 +19,13 @@ pub fn append(out: &mut Vec<u8>, bytes: &[u8])
     };
 }
 
-/// A number in decimal digits, at most 20.
+/// Appends a number in decimal digits, at most 20.
 #[inline]
 pub fn append_number(out: &mut Vec<u8>, number: u64)
     requires { 20 ≤ spare out.old }
     ensures { Appends (decimal number) 20 out.old out.new }
 {
-    // Half of all numbers are a flow, a pipe or an instance of one digit.
+    // Half of all numbers are those of a flow, a pipe or an instance with one digit.
     if number < 10 {
         return append(out, &[b'0' + number as u8]);
     }
@@ -33,7 +33,7 @@ pub fn append_number(out: &mut Vec<u8>, number: u64)
     append(out, buffer.format(number).as_bytes());
 }
 
-/// A number behind its label.
+/// Appends a label and a number.
 #[inline]
 pub fn append_labelled(out: &mut Vec<u8>, label: &[u8], number: u64)
     requires { length label.now + 20 ≤ spare out.old }
@@ -43,7 +43,7 @@ pub fn append_labelled(out: &mut Vec<u8>, label: &[u8], number: u64)
     append_number(out, number);
 }
 
-/// The lowest digits of a number, zeros in front.
+/// Appends the lowest digits of a number, with leading zeros.
 #[tactic(auto, unfolding(crate::specs::Words::places))]
 pub fn append_places(out: &mut Vec<u8>, base: u32, count: u32, number: u32)
     requires base { (2 ≤ base) × (base ≤ 16) }

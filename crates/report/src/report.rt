@@ -1,4 +1,5 @@
-//! Whole reports and listings, as bytes (our choice). `AllocError` where memory is refused.
+//! Whole reports and listings, as bytes (our choice). They fail with `AllocError` if memory runs
+//! out.
 
 ghost use Rattle.std.specs.Prelude.{◌≡◌, IfOk};
 ghost use Rattle.report.specs.Lines.{report_of, rules_of, pipes_of};
@@ -9,10 +10,10 @@ use crate::runs::write_records;
 use emu_model::{Counters, Record};
 use std::alloc::{AllocError, Global};
 
-// How many bytes a line has, its line feed included: most have fewer.
+// The bytes to reserve per line, including its line feed; most lines have fewer.
 const LINE: usize = 32;
 
-/// The report of an experiment: its name, a line for each record, its counters.
+/// Returns the report of an experiment: its name, a line for each record, and its counters.
 pub fn report_text(
     alloc: Global,
     name: &[u8],
@@ -23,7 +24,8 @@ pub fn report_text(
 {
     let mut text = Vec::new(alloc);
     let mut moments = Moments::new();
-    // Most lines fit, so that the text grows once at most; without that room it grows as it needs.
+    // Most lines are shorter, so the text grows at most once; if this allocation fails, the text
+    // grows as needed.
     let _ = text.reserve(records.len().saturating_mul(LINE));
     write_heading(&mut text, name)?;
     write_records(&mut text, &mut moments, records)?;
@@ -31,7 +33,7 @@ pub fn report_text(
     Ok(text)
 }
 
-/// The lines of the rules that were listed.
+/// Returns the lines of the rules that were listed.
 pub fn rule_listing(alloc: Global, records: &[Record]) -> Result<Vec<u8>, AllocError>
     ensures { IfOk result (λ text. text.items ≡ rules_of records.now) }
 {
@@ -45,7 +47,7 @@ pub fn rule_listing(alloc: Global, records: &[Record]) -> Result<Vec<u8>, AllocE
     Ok(text)
 }
 
-/// The lines of the pipes and instances that were listed.
+/// Returns the lines of the pipes and instances that were listed.
 pub fn pipe_listing(alloc: Global, records: &[Record]) -> Result<Vec<u8>, AllocError>
     ensures { IfOk result (λ text. text.items ≡ pipes_of records.now) }
 {

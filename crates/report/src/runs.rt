@@ -1,5 +1,5 @@
-//! The lines of many records. Those of events are made on one page and appended together, so that what an append
-//! costs isn't paid for each line.
+//! The lines of many records. The lines of events are built on one page and appended together, so
+//! that the cost of an append isn't paid for each line.
 
 ghost use Rattle.std.specs.Prelude.{◌≡◌, ◌+◌, ◌-◌, ◌*◌, ◌<◌, ◌≤◌, ◌++◌, true, drop, length, take, slice_index_or, vec_len, vec_capacity, IfOk, IsOk, OnOk, OnErr};
 ghost use Rattle.std.specs.List.{flat_map};
@@ -13,8 +13,8 @@ use crate::source::{Listed, Source};
 use emu_model::Record;
 use std::alloc::AllocError;
 
-/// Puts the lines from a place on the page, until it is full or the source leaves one; says of how many records, and where
-/// they end.
+/// Writes lines on the page from a place on, until the page is full or the source leaves a line to
+/// its caller. Returns the number of lines, and their end.
 pub(crate) fn put_lines<S: Source>(moments: &mut Moments, source: &S, from: usize) -> (usize, usize)
     requires { from < length (S.list source.now) }
     ensures count { from + result.0 ≤ length (S.list source.now) }
@@ -38,8 +38,8 @@ pub(crate) fn put_lines<S: Source>(moments: &mut Moments, source: &S, from: usiz
     (count, end)
 }
 
-/// Appends the lines of some records from a place on, and says of how many; `AllocError` leaves the text as it was. A
-/// page's room (4,624 bytes) is enough.
+/// Appends the lines of some records from a place on, and returns their number. After `AllocError`
+/// the text is unchanged. Room for a page (4,624 bytes) is enough.
 #[tactic(auto, unfolding(crate::specs::Room::spare))]
 pub fn write_some<S: Source>(
     out: &mut Vec<u8>,
@@ -66,7 +66,7 @@ pub fn write_some<S: Source>(
     Ok(count)
 }
 
-/// Appends the lines of all records; `AllocError` leaves of them what was appended by then.
+/// Appends the lines of all records. After `AllocError` a prefix of them has been appended.
 #[tactic(auto, unfolding(crate::specs::Room::spare))]
 pub fn write_source<S: Source>(
     out: &mut Vec<u8>,
@@ -86,8 +86,8 @@ pub fn write_source<S: Source>(
     Ok(())
 }
 
-/// Appends the lines of records, one after the other; `AllocError` leaves the text as it was. What is
-/// kept of moments changes nothing of the text. Many records cost less so than one after the other.
+/// Appends the lines of records, one after the other. After `AllocError` the text is unchanged. The
+/// cache in `moments` doesn't change the text. This is cheaper than a call per record.
 #[tactic(auto, unfolding(crate::specs::Room::spare))]
 pub fn write_records(
     out: &mut Vec<u8>,

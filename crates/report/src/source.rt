@@ -1,4 +1,4 @@
-//! Where the records of a report stand.
+//! The sources of a report's records.
 
 ghost use Rattle.std.specs.Prelude.{◌≡◌, ◌+◌, ◌<◌, ◌≤◌, ◌++◌, Bool, List, None, true, length, take, slice_index_or, IfSome};
 ghost use Rattle.emu_model.specs.declared.records.Record.{Record};
@@ -9,24 +9,25 @@ use crate::clock::Clock;
 use crate::events::put_line;
 use emu_model::Record;
 
-/// Where records stand in their order.
+/// A sequence of records.
 pub trait Source {
     /// The records.
     ghost list: { Self → List Record };
 
-    /// Whether it may leave a record's line to its caller.
+    /// True if the source may leave a record's line to its caller.
     ghost leaves: { Record → Bool };
 
-    /// How many.
+    /// Returns the number of records.
     fn len(&self) -> usize
         ensures { result ≡ length (list self.now) };
 
-    /// The record at a place.
+    /// Returns the record at a place.
     fn record(&self, place: usize) -> Record
         requires { place < length (list self.now) }
         ensures { result ≡ slice_index_or (list self.now) place (StepsSpent 0) };
 
-    /// Puts the line of the record at a place, and returns where it ends; `None` where it leaves the line.
+    /// Writes the line of the record at a place, and returns its end, or `None` if it leaves the
+    /// line to the caller.
     fn put(&self, clock: &mut Clock, text: &mut [u8], at: usize, place: usize) -> Option<usize>
         requires room { at + 256 ≤ length text.old }
         requires inside { place < length (list self.now) }

@@ -10,7 +10,7 @@ use emu_model::{
     Refusal, SendSpec,
 };
 
-/// The name of an instance: its pipe, a point, its number.
+/// Appends the name of an instance: the pipe's number, a dot, and its own number.
 #[inline]
 pub fn append_instance(out: &mut Vec<u8>, pipe: PipeNumber, instance: u8)
     requires { 41 ≤ spare out.old }
@@ -20,14 +20,14 @@ pub fn append_instance(out: &mut Vec<u8>, pipe: PipeNumber, instance: u8)
     append_labelled(out, b".", u64::from(instance));
 }
 
-/// The code of a refused command (docs/reference/report.md).
+/// Returns the code of a refused command (docs/reference/report.md).
 pub fn refusal_code(refusal: Refusal) -> u64
     ensures { result ≡ code_of refusal }
 {
     u64::from(refusal as u8)
 }
 
-/// What a rule does, in the words of a scenario.
+/// Appends the action of a rule, in the words of a scenario.
 pub fn append_action(out: &mut Vec<u8>, action: Action)
     requires { 27 ≤ spare out.old }
     ensures { Appends (action_of action) 27 out.old out.new }
@@ -41,7 +41,7 @@ pub fn append_action(out: &mut Vec<u8>, action: Action)
     }
 }
 
-/// The protocol of a rule: `ip`, `tcp` or `udp`.
+/// Appends the protocol of a rule: `ip`, `tcp` or `udp`.
 pub fn append_protocol(out: &mut Vec<u8>, proto: ProtocolMatch)
     requires { 3 ≤ spare out.old }
     ensures { Appends (protocol_of proto) 3 out.old out.new }
@@ -81,7 +81,7 @@ fn append_address_and_port(out: &mut Vec<u8>, address: u32, port: u16)
     append_labelled(out, b" ", u64::from(port));
 }
 
-/// What stands in a packet's header.
+/// Appends the fields of a packet's header.
 pub fn append_header(out: &mut Vec<u8>, send: &SendSpec)
     requires { 234 ≤ spare out.old }
     ensures items { let s = send.now in
@@ -123,7 +123,7 @@ fn append_ports(out: &mut Vec<u8>, ports: PortRange)
     append_labelled(out, b"-", u64::from(ports.last()));
 }
 
-/// Where a packet comes from or goes to.
+/// Appends the source or the destination of a rule.
 pub fn append_end(out: &mut Vec<u8>, prefix: Prefix, ports: Option<PortRange>)
     requires { 146 ≤ spare out.old }
     ensures { Appends (end_of prefix ports) 146 out.old out.new }
@@ -136,7 +136,7 @@ pub fn append_end(out: &mut Vec<u8>, prefix: Prefix, ports: Option<PortRange>)
     append_ports(out, ports);
 }
 
-/// The limit of a queue, in slots or in KBytes of 1024 bytes.
+/// Appends the limit of a queue, in slots or in KBytes of 1024 bytes.
 pub fn append_queue(out: &mut Vec<u8>, queue: QueueLimit)
     requires { 26 ≤ spare out.old }
     ensures { Appends (queue_of queue) 26 out.old out.new }
@@ -150,7 +150,7 @@ pub fn append_queue(out: &mut Vec<u8>, queue: QueueLimit)
     }
 }
 
-/// A mask: its five fields in hexadecimal digits.
+/// Appends a mask: its five fields in hexadecimal digits.
 pub fn append_mask(out: &mut Vec<u8>, mask: Mask)
     requires { 30 ≤ spare out.old }
     ensures { Appends (mask_of mask) 30 out.old out.new }
@@ -166,7 +166,7 @@ pub fn append_mask(out: &mut Vec<u8>, mask: Mask)
     append_places(out, 16, 4, u32::from(mask.dport));
 }
 
-/// The discipline of a queue, of CoDel with its target and interval (ns).
+/// Appends the discipline of a queue; for CoDel, with its target and interval (ns).
 pub fn append_discipline(out: &mut Vec<u8>, discipline: Discipline)
     requires { 63 ≤ spare out.old }
     ensures { Appends (discipline_of discipline) 63 out.old out.new }

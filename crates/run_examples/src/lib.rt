@@ -1,4 +1,5 @@
-//! Worked examples of many experiments, on shards, benches and worlds: all of it is tests. Our choice.
+//! Worked examples of many experiments, on shards, benches and worlds. The crate contains only
+//! tests. Our choice.
 #![tactic(auto)]
 
 #[cfg(test)]

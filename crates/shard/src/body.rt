@@ -1,4 +1,5 @@
-//! What moves as one: an experiment, and its mail, which may keep the records that the experiment has forgotten.
+//! The part of a resident that moves as one: an experiment, and its mail, which may keep the
+//! records that the experiment has discarded.
 
 ghost use Rattle.std.specs.Prelude.{◌≡◌, ◌≤◌, ◌<◌, ◌++◌, ◌↔◌, IsFalse, length, take, slice_index_or};
 ghost use Rattle.emu_model.specs.declared.records.Record.TheVariants.{StepsSpent};
@@ -19,14 +20,14 @@ use packet_store::{Owner, ReservedShelf, Shelf};
 use std::alloc::AllocError;
 use std::marker::Model;
 
-/// An experiment and its mail. A contract sees the experiment with all its records.
+/// An experiment and its mail. Contracts see the experiment with all its records.
 #[derive(Drop)]
 pub(crate) struct Body<M: Mail> {
     name: u32,
     experiment: Experiment,
     mail: M,
     published: u128,
-    // Of the records that the mail keeps.
+    // The counts of the records that the mail keeps.
     counts: RecordCounts,
 }
 
@@ -48,7 +49,7 @@ impl<M: Mail> Model for Body<M> {
         × AreRising 0 b.experiment.consumed };
 }
 
-// The record at a place: those that the mail keeps come first.
+// Returns the record at a place; those that the mail keeps are first.
 fn record_at<M: Mail>(mail: &M, fresh: &[Record], place: u128) -> Record
     requires { place < length (M.kept mail.now ++ fresh.now) }
     ensures { result ≡ slice_index_or (M.kept mail.now ++ fresh.now) place (StepsSpent 0) }
@@ -63,7 +64,7 @@ fn record_at<M: Mail>(mail: &M, fresh: &[Record], place: u128) -> Record
     fresh[(place - kept) as usize]
 }
 
-// Publishes records while the mail takes them, and answers how many are published.
+// Publishes records while the mail accepts them, and returns the number of records published.
 #[inline(never)]
 fn publish_more<M: Mail>(mail: &mut M, fresh: &[Record], published: u128) -> u128
     requires told { (M.seen mail.old).letters ≡ take published (M.kept mail.old ++ fresh.now) }
@@ -86,8 +87,9 @@ fn publish_more<M: Mail>(mail: &mut M, fresh: &[Record], published: u128) -> u12
     count
 }
 
-// The same. Asked first, since mostly nobody reads and no letter is taken. Whether its other end has made room is
-// looked at only where `look` says so: that end may be another thread's.
+// Publishes records like `publish_more`, but first checks whether the mail accepts a letter, since
+// usually nobody reads and it accepts none. Checks whether the mail's other end has made room only
+// if `look` is true, because that end may belong to another thread.
 #[inline(always)]
 fn publish<M: Mail>(mail: &mut M, fresh: &[Record], published: u128, look: bool) -> u128
     requires told { (M.seen mail.old).letters ≡ take published (M.kept mail.old ++ fresh.now) }
@@ -107,7 +109,8 @@ fn publish<M: Mail>(mail: &mut M, fresh: &[Record], published: u128, look: bool)
     publish_more(mail, fresh, published)
 }
 
-// Whether an event looks at the mail's other end: the last one does, since none follows.
+// Returns true if an event checks the mail's other end: the first one does, and the last one, since
+// none follows it.
 #[inline(always)]
 fn looks(first: bool, event: Event) -> bool
     ensures { IsFalse result ↔ (IsFalse first × (event ≡ Ran)) }
@@ -115,7 +118,7 @@ fn looks(first: bool, event: Event) -> bool
     first || event != Event::Ran
 }
 
-// Has the mail keep what was recorded, which the experiment forgets then.
+// Moves the records from the experiment to the mail, if the mail keeps them.
 #[inline(never)]
 fn keep<M: Mail>(experiment: &mut Experiment, mail: &mut M, counts: &mut RecordCounts)
     requires counts { AreCountsOf (M.kept mail.old) counts.old }
@@ -148,7 +151,7 @@ impl<M: Mail> Body<M> {
     ghost use Rattle.shard.specs.Kept.{IsKept, IsGoing};
     ghost use Rattle.shard.specs.Seen.{IsToldMore, IsPublished};
 
-    /// An experiment whose records are all its own, and a mail that keeps none.
+    /// Creates a body from an experiment that has all its records, and a mail that keeps none.
     pub(crate) fn new(name: u32, experiment: Experiment, mail: M) -> Self
         requires kept { M.kept mail ≡ [] }
         requires new { experiment.consumed ≡ [] }
@@ -168,56 +171,56 @@ impl<M: Mail> Body<M> {
         }
     }
 
-    /// Its name.
+    /// Returns the name.
     pub(crate) fn name(&self) -> u32
         ensures { result ≡ self.now.name }
     {
         self.name
     }
 
-    /// What it was given.
+    /// Returns the specification of the experiment.
     pub(crate) fn spec(&self) -> Spec
         ensures { result ≡ self.now.experiment.spec }
     {
         self.experiment.spec()
     }
 
-    /// The commands that came, the next one among them.
+    /// Returns the commands so far, including the next one.
     pub(crate) fn consumed(&self) -> &[Timed]
         ensures { result.now ≡ self.now.experiment.consumed }
     {
         self.experiment.consumed()
     }
 
-    /// How many steps were made.
+    /// Returns the number of steps made.
     pub(crate) fn events(&self) -> u64
         ensures { result ≡ self.now.experiment.steps }
     {
         self.experiment.events()
     }
 
-    /// The moment of the last event (ns), 0 before the first.
+    /// Returns the time of the last event (ns), or 0 before the first.
     pub(crate) fn clock(&self) -> u64
         ensures { result ≡ self.now.experiment.clock }
     {
         self.experiment.clock()
     }
 
-    /// Whether a command is the next one.
+    /// Returns true if there is a next command.
     pub(crate) fn has_next(&self) -> bool
         ensures { result ≡ is_some self.now.experiment.next }
     {
         self.experiment.has_next()
     }
 
-    /// How it ended, if it has.
+    /// Returns the ending, if the experiment has ended.
     pub(crate) fn ending(&self) -> Option<Ending>
         ensures { result ≡ self.now.experiment.ending }
     {
         self.experiment.ending()
     }
 
-    /// What comes next, and when (ns); None without a next command.
+    /// Returns the earliest due (its time in ns), or None if there is no next command.
     pub(crate) fn next_due(&self) -> Option<Due>
         ensures due { (p : Pocket) → result ≡ next_due_in (view p self.now.experiment) }
         ensures early { IfSome result (λ d. d.moment ≤ 10 ^ 15) }
@@ -228,7 +231,7 @@ impl<M: Mail> Body<M> {
         self.experiment.next_due()
     }
 
-    /// Publishes records while the mail takes them.
+    /// Publishes records while the mail accepts them.
     #[inline(always)]
     pub(crate) fn publish(&mut self)
         requires told { (M.seen self.old.mail).letters
@@ -250,8 +253,9 @@ impl<M: Mail> Body<M> {
         );
     }
 
-    /// Makes the next event, and publishes records while the mail takes them: with a look at its other end where `look` says
-    /// so. The mail keeps what it records, a batch at a time, and all of it in the end.
+    /// Makes the next event, and publishes records while the mail accepts them; checks the mail's
+    /// other end if `look` is true. Moves the records to the mail, if it keeps them: one batch at a
+    /// time, and the rest at the end.
     #[inline(always)]
     pub(crate) fn event(&mut self, shelf: &mut ReservedShelf, look: bool) -> Event
         requires going { IsGoing M.seen (own_pocket shelf.old) self.old.experiment
@@ -283,7 +287,8 @@ impl<M: Mail> Body<M> {
         event
     }
 
-    /// Makes room for one command more, and changes nothing else: the next `apply` needs no memory then.
+    /// Reserves memory for one more command, so that the next `apply` needs no allocation. Nothing
+    /// else changes.
     pub(crate) fn apply_ready(&mut self) -> Result<(), AllocError>
         ensures ready { OnOk result (0 < self.new.experiment.spare) }
         ensures same { self.new ≡ record self.old {
@@ -293,7 +298,7 @@ impl<M: Mail> Body<M> {
         self.experiment.apply_ready()
     }
 
-    /// Takes the next command out of the mail, if one is known to wait there.
+    /// Removes the next command from the mail and returns it, if one is known to wait there.
     pub(crate) fn take_command(&mut self) -> Option<Timed>
         ensures some { IfSome result
             (λ t. M.seen self.new.mail ≡ record (M.seen self.old.mail) {
@@ -308,7 +313,7 @@ impl<M: Mail> Body<M> {
         self.mail.take_command()
     }
 
-    /// Makes a command the next one, as `Experiment::apply` does.
+    /// Makes a command the next one, like `Experiment::apply`.
     pub(crate) fn apply(&mut self, command: &Timed) -> Result<(), ApplyError>
         requires { command.now.moment ≤ 10 ^ 15 }
         ensures rest { self.new ≡ record self.old { experiment = self.new.experiment } }
@@ -342,7 +347,7 @@ impl<M: Mail> Body<M> {
         self.experiment.apply(command)
     }
 
-    /// Moves all packets from one shelf to another, as `Experiment::rehouse` does.
+    /// Moves all packets from one shelf to another, like `Experiment::rehouse`.
     pub(crate) fn rehouse<S: Shelf, T: Shelf>(
         &mut self,
         from: &mut S,
@@ -375,7 +380,7 @@ impl<M: Mail> Body<M> {
         self.experiment.rehouse(from, owner, to, other);
     }
 
-    /// The packets that were made, delivered, are held, and were dropped by cause.
+    /// Returns the counters: the packets created, delivered, held, and dropped by cause.
     pub(crate) fn counters(&self) -> Counters
         requires { (p : Pocket) × IsHousedIn p self.now.experiment × IsAlone p self.now.experiment }
         ensures { (p : Pocket) → IsHousedIn p self.now.experiment →
@@ -385,7 +390,7 @@ impl<M: Mail> Body<M> {
         self.counts.counters(&self.experiment)
     }
 
-    /// Its mail alone.
+    /// Returns the mail alone.
     pub(crate) fn into_mail(self) -> M
         ensures { result ≡ self.mail }
     {
@@ -399,8 +404,8 @@ impl<M: Mail> Body<M> {
         mail
     }
 
-    /// Its parts: the name, the commands that came, the mail, the records behind those that it keeps, and how many records
-    /// were published.
+    /// Returns the parts: the name, the commands so far, the mail, the records after those that the
+    /// mail keeps, and the number of records published.
     pub(crate) fn into_parts(self) -> (u32, Vec<Timed>, M, Vec<Record>, u128)
         ensures name { result.0 ≡ self.name }
         ensures commands { result.1.items ≡ self.experiment.consumed }
@@ -424,14 +429,14 @@ impl Body<ListMail> {
     ghost use Rattle.std.specs.Prelude.{◌≡◌, ◌≤◌, ◌<◌, ◌^◌, OnOk, IfErr, OnErr, length};
     ghost use Rattle.shard.specs.Posts.{with_command, Reads};
 
-    /// What was recorded.
+    /// Returns the records.
     pub(crate) fn records(&self) -> &[Record]
         ensures { result.now ≡ self.now.experiment.net.log.records }
     {
         self.experiment.records()
     }
 
-    /// Puts a command into its mail; where 64 wait it comes back.
+    /// Adds a command to the mail, or returns it if 64 are waiting.
     pub(crate) fn put(&mut self, timed: Timed) -> Result<(), Timed>
         requires { timed.moment ≤ 10 ^ 15 }
         ensures ok { OnOk result
@@ -444,7 +449,7 @@ impl Body<ListMail> {
         self.mail.put(timed)
     }
 
-    /// Reads a letter from its mail.
+    /// Removes the first unread letter from the mail, and returns it.
     pub(crate) fn read(&mut self) -> Option<Record>
         ensures reads { Reads result self.old.mail self.new.mail }
         ensures same { self.new ≡ record self.old { mail = self.new.mail } }

@@ -1,4 +1,4 @@
-//! What ended experiments leave.
+//! The dossiers of ended experiments.
 
 ghost use Rattle.std.specs.Prelude.{◌≡◌, ◌≤◌, ◌++◌, ℕ, [], slice_get, take, Some};
 ghost use Rattle.emu_model.specs.Net.{counters_of};
@@ -11,13 +11,13 @@ use crate::mail::Mail;
 use emu_model::{Counters, Ending, Record, Spec, Timed};
 use std::marker::Model;
 
-/// What an experiment leaves that ended, or was halted for want of memory.
+/// The results of an experiment that has ended, or that was halted because memory ran out.
 #[derive(Drop)]
 pub struct Dossier<M: Mail> {
     pub(crate) name: u32,
     pub(crate) spec: Spec,
     pub(crate) commands: Vec<Timed>,
-    // Those behind the ones that the mail keeps.
+    // The records after those that the mail keeps.
     pub(crate) records: Vec<Record>,
     pub(crate) counters: Counters,
     pub(crate) ending: Ending,
@@ -58,28 +58,28 @@ impl<M: Mail> Model for Dossier<M> {
 }
 
 impl<M: Mail> Dossier<M> {
-    /// Its name.
+    /// Returns the name.
     pub fn name(&self) -> u32
         ensures { result ≡ self.now.name }
     {
         self.name
     }
 
-    /// What it was given.
+    /// Returns the specification of the experiment.
     pub fn spec(&self) -> Spec
         ensures { result ≡ self.now.spec }
     {
         self.spec
     }
 
-    /// The commands that came.
+    /// Returns the commands so far.
     pub fn consumed(&self) -> &[Timed]
         ensures { result.now ≡ self.now.commands }
     {
         &self.commands
     }
 
-    /// The record at a place; None where there are no more.
+    /// Returns the record at a place, or None if there is none.
     pub fn record(&self, place: usize) -> Option<Record>
         ensures { result ≡ slice_get self.now.records place }
     {
@@ -90,35 +90,35 @@ impl<M: Mail> Dossier<M> {
         self.records.as_slice().get(place - kept).copied()
     }
 
-    /// The packets that were made, delivered, are held, and were dropped by cause.
+    /// Returns the counters: the packets created, delivered, held, and dropped by cause.
     pub fn counters(&self) -> Counters
         ensures { result ≡ self.now.counters }
     {
         self.counters
     }
 
-    /// How it ended.
+    /// Returns the ending.
     pub fn ending(&self) -> Ending
         ensures { result ≡ self.now.ending }
     {
         self.ending
     }
 
-    /// Its mail.
+    /// Returns the mail.
     pub fn mail(&self) -> &M
         ensures { result.now ≡ self.now.mail }
     {
         &self.mail
     }
 
-    /// How many steps were made.
+    /// Returns the number of steps made.
     pub fn events(&self) -> u64
         ensures { result ≡ self.now.events }
     {
         self.events
     }
 
-    /// The commands that came, its mail, and the records behind those that the mail keeps.
+    /// Returns the commands so far, the mail, and the records after those that the mail keeps.
     pub fn into_parts(self) -> (Vec<Timed>, M, Vec<Record>)
         ensures commands { result.0.items ≡ self.commands }
         ensures mail { result.1 ≡ self.mail }
@@ -138,8 +138,9 @@ impl<M: Mail> Dossier<M> {
         (commands, mail, records)
     }
 
-    /// What every dossier keeps: its records and counters are those of running it alone on the commands that came,
-    /// which its mail gave; the letters that its mail took are the first of its records.
+    /// Reveals the invariant of every dossier: its records and counters are those of running it
+    /// alone on its commands, which came from its mail, and the letters that its mail accepted are
+    /// the first of its records.
     pub fn reveal_invariant(&self)
         ensures records { self.now.records
             ≡ (alone self.now.spec self.now.commands self.now.events).net.records }
@@ -162,14 +163,15 @@ impl Dossier<ListMail> {
     ghost use Rattle.std.specs.Prelude.{◌≡◌, ◌≤◌, ◌<◌, ◌^◌, OnOk, IfErr, OnErr, length};
     ghost use Rattle.shard.specs.Posts.{with_command, Reads};
 
-    /// What was recorded.
+    /// Returns the records.
     pub fn records(&self) -> &[Record]
         ensures { result.now ≡ self.now.records }
     {
         &self.records
     }
 
-    /// Puts a command into its mail, which nobody takes any more; where 64 wait it comes back. Takes no memory.
+    /// Adds a command to the mail, from which nobody takes it any more, or returns it if 64 are
+    /// waiting. Does not allocate.
     pub fn put(&mut self, timed: Timed) -> Result<(), Timed>
         requires { timed.moment ≤ 10 ^ 15 }
         ensures ok { OnOk result
@@ -185,7 +187,7 @@ impl Dossier<ListMail> {
         }
     }
 
-    /// Takes the first letter that wasn't read from its mail; None where there is none.
+    /// Removes the first unread letter from the mail, and returns it, or None if there is none.
     pub fn read(&mut self) -> Option<Record>
         ensures reads { Reads result self.old.mail self.new.mail }
         ensures same { self.new ≡ record self.old { mail = self.new.mail } }

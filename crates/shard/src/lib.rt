@@ -1,5 +1,5 @@
-//! The residents of one worker: experiments on one shared store, due on one agenda, each of which can be packed
-//! into one owned value and taken in elsewhere. Own.
+//! The residents of one worker: experiments on one shared store and on one agenda (event queue).
+//! Each can be packed into one owned value and taken in elsewhere. Our choice.
 #![tactic(auto)]
 
 mod body;

@@ -1,4 +1,4 @@
-//! A mail of two lists, whose other ends are beside it.
+//! A mail of two lists, which has both ends of each.
 
 ghost use Rattle.std.specs.Prelude.{◌≡◌, ◌≤◌, ◌<◌, ◌^◌, [], ◌∷◌, ◌++◌, length, IfOk, IfErr, OnOk, OnErr, IfSome, IfNone, IsOk};
 ghost use Rattle.rtrb.specs.Ring.{sent, received, known_items, producer_capacity, IsPair};
@@ -10,22 +10,22 @@ use rtrb::{Consumer, Producer, Protocol, RingBuffer};
 use std::alloc::{AllocError, Global};
 use std::marker::Model;
 
-/// How many commands may wait in a mail, and how many letters.
+/// The maximum number of commands that wait in a mail, and of letters.
 pub const SLOTS: usize = 64;
 
-// A command on its way.
+// A command in transit.
 #[derive(Clone, Copy)]
 struct Posted {
     timed: Timed,
 }
 
-// A record on its way.
+// A record in transit.
 #[derive(Clone, Copy)]
 struct News {
     record_of: Record,
 }
 
-/// What a mail lets in: commands at moments of at most 10^15 ns.
+/// The commands that a mail accepts: those at times of at most 10^15 ns.
 pub struct Moments;
 
 impl Protocol<Posted> for Moments {
@@ -34,8 +34,9 @@ impl Protocol<Posted> for Moments {
     ghost allows = { λ before p. p.timed.moment ≤ 10 ^ 15 };
 }
 
-/// A mail of two lists of at most 64 items, both of whose ends are here: commands that were put and wait, and
-/// letters that are not read yet. A contract sees what it gave, what waits, what was read, and what wasn't.
+/// A mail of two lists of at most 64 items, with both ends of each: commands that wait, and letters
+/// that are unread. Contracts see the commands it has delivered, those that wait, and the read and
+/// unread letters.
 #[derive(Drop)]
 pub struct ListMail {
     put: Producer<Posted, Global, Moments>,
@@ -66,7 +67,7 @@ impl Model for ListMail {
 }
 
 impl ListMail {
-    /// An empty mail, with room for all that it may hold.
+    /// Creates an empty mail, with room for everything that it may hold.
     pub fn new(alloc: Global) -> Result<Self, AllocError>
         ensures { IfOk result
             (λ m. m ≡ record { given = []; waiting = []; read = []; unread = [] }) }
@@ -81,7 +82,7 @@ impl ListMail {
         })
     }
 
-    /// Puts a command behind those that wait; where 64 wait it comes back. Takes no memory.
+    /// Adds a command after those that wait, or returns it if 64 are waiting. Does not allocate.
     pub fn put(&mut self, timed: Timed) -> Result<(), Timed>
         requires { timed.moment ≤ 10 ^ 15 }
         ensures ok { OnOk result
@@ -100,7 +101,7 @@ impl ListMail {
         Ok(())
     }
 
-    /// Takes the first letter that wasn't read; None where there is none.
+    /// Removes the first unread letter, and returns it, or None if there is none.
     pub fn read(&mut self) -> Option<Record>
         ensures some { IfSome result
             (λ r. (self.old.unread ≡ r ∷ self.new.unread)

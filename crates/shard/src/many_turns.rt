@@ -1,12 +1,12 @@
-//! That many turns are single ones, as the contract of a function that does nothing, so that the check
-//! proves it.
+//! The law that many turns are single ones, stated as the contract of a function with an empty
+//! body, so that the checker proves it.
 
 ghost use Rattle.shard.specs.Turns.{ManyAreSingle};
 
 use crate::mail::Mail;
 
-/// Many turns of `turns` are as many single ones of the same resident as ran, each a case of `turn` with its
-/// letters, and one more where it ended in that.
+/// A call of `turns` equals as many single turns of the same resident as ran, each a case of `turn`
+/// with its letters, and one more if the resident ended in it.
 pub fn many_turns_are_turns<M: Mail>()
     ensures { ManyAreSingle M.seen }
 {}

@@ -13,16 +13,16 @@ use packet_store::OwnShelf;
 use std::alloc::{AllocError, Global};
 use std::marker::Model;
 
-/// An experiment in transit, with its packets and its mail: one owned value, that may go to another worker. A
-/// contract sees how it stands.
+/// An experiment in transit, with its packets and its mail: one owned value, which can move to
+/// another worker. Contracts see its state.
 #[derive(Drop)]
 pub struct Parcel<M: Mail> {
-    // It stays where it is in memory while the parcel moves.
+    // The body keeps its address while the parcel moves.
     pub(crate) body: Box<Body<M>>,
     pub(crate) shelf: OwnShelf,
 }
 
-/// A mail whose experiment was not opened, for want of memory.
+/// A mail whose experiment was not created because memory ran out.
 #[derive(Drop)]
 pub struct Unopened<M: Mail> {
     pub mail: M,
@@ -43,7 +43,7 @@ impl<M: Mail> Model for Parcel<M> {
         p.body.value.published p.body.value.mail };
 }
 
-// An experiment to which no command came.
+// Creates an experiment without commands.
 fn new_experiment(alloc: Global, spec: Spec) -> Result<Experiment, AllocError>
     ensures { IfOk result (IsNew spec) }
 {
@@ -52,8 +52,8 @@ fn new_experiment(alloc: Global, spec: Spec) -> Result<Experiment, AllocError>
 }
 
 impl<M: Mail> Parcel<M> {
-    /// An experiment to which no command came, and whose mail gave, took and keeps nothing yet. Refused for want of
-    /// memory, the mail comes back.
+    /// Creates an experiment without commands, with a mail that has delivered, accepted and kept
+    /// nothing yet. Returns the mail if memory runs out.
     pub fn open(alloc: Global, name: u32, spec: Spec, mail: M) -> Result<Self, Unopened<M>>
         requires given { (M.seen mail).given ≡ [] }
         requires letters { (M.seen mail).letters ≡ [] }
@@ -64,7 +64,7 @@ impl<M: Mail> Parcel<M> {
             return Err(Unopened { mail });
         };
         let packets = experiment.spec().budget.packets;
-        // At least one.
+        // The budget is at least one packet.
         let _packets = packets.get();
         match Box::new(alloc, Body::new(name, experiment, mail)) {
             Ok(body) => Ok(Parcel {
@@ -77,35 +77,35 @@ impl<M: Mail> Parcel<M> {
         }
     }
 
-    /// Its name.
+    /// Returns the name.
     pub fn name(&self) -> u32
         ensures { result ≡ self.now.name }
     {
         self.body.name()
     }
 
-    /// What it was given.
+    /// Returns the specification of the experiment.
     pub fn spec(&self) -> Spec
         ensures { result ≡ self.now.spec }
     {
         self.body.spec()
     }
 
-    /// The commands that came, the next one among them.
+    /// Returns the commands so far, including the next one.
     pub fn consumed(&self) -> &[Timed]
         ensures { result.now ≡ self.now.consumed }
     {
         self.body.consumed()
     }
 
-    /// How many steps were made.
+    /// Returns the number of steps made.
     pub fn events(&self) -> u64
         ensures { result ≡ self.now.state.steps }
     {
         self.body.events()
     }
 
-    /// What every parcel keeps: it shows the state of running it alone.
+    /// Reveals that the state of every parcel is that of running it alone.
     pub fn reveal_invariant(&self)
         ensures { IsTold M.seen self.now }
     {
@@ -117,14 +117,15 @@ impl Parcel<ListMail> {
     ghost use Rattle.std.specs.Prelude.{◌≡◌, ◌≤◌, ◌<◌, ◌^◌, OnOk, IfErr, OnErr, length};
     ghost use Rattle.shard.specs.Posts.{with_command, Reads};
 
-    /// What was recorded.
+    /// Returns the records.
     pub fn records(&self) -> &[Record]
         ensures { result.now ≡ self.now.state.net.records }
     {
         self.body.records()
     }
 
-    /// Puts a command into its mail, behind those that wait there; where 64 wait it comes back. Takes no memory.
+    /// Adds a command to the mail after those that wait, or returns it if 64 are waiting. Does not
+    /// allocate.
     pub fn put(&mut self, timed: Timed) -> Result<(), Timed>
         requires { timed.moment ≤ 10 ^ 15 }
         ensures ok { OnOk result
@@ -140,7 +141,7 @@ impl Parcel<ListMail> {
         }
     }
 
-    /// Takes the first letter that wasn't read from its mail; None where there is none.
+    /// Removes the first unread letter from the mail, and returns it, or None if there is none.
     pub fn read(&mut self) -> Option<Record>
         ensures reads { Reads result self.old.mail self.new.mail }
         ensures same { self.new ≡ record self.old { mail = self.new.mail } }

@@ -1,4 +1,4 @@
-//! The other ends of the residents' mails, where a mail is of two lists.
+//! The other ends of the residents' mails, for mails of two lists.
 
 use crate::list_mail::ListMail;
 use crate::resident::Resident;
@@ -6,16 +6,16 @@ use crate::shard::Shard;
 use emu_model::{Record, Timed};
 use timer_wheel::Agenda;
 
-/// A command that was not put.
+/// The reason why a command was not added, with the command.
 #[derive(Clone, Copy, PartialEq)]
 pub enum PostError {
-    /// Nobody is there.
+    /// The slot has no resident.
     Vacant(Timed),
-    /// 64 commands wait.
+    /// 64 commands are waiting.
     Full(Timed),
 }
 
-/// Nobody is there.
+/// The slot has no resident.
 #[derive(Clone, Copy, Debug, PartialEq, Eq)]
 pub struct Vacant;
 
@@ -23,14 +23,14 @@ impl Resident<ListMail> {
     ghost use Rattle.std.specs.Prelude.{◌≡◌, ◌≤◌, ◌<◌, ◌^◌, OnOk, IfErr, OnErr, length};
     ghost use Rattle.shard.specs.Posts.{with_command, Reads};
 
-    // What was recorded.
+    // Returns the records.
     fn records(&self) -> &[Record]
         ensures { result.now ≡ self.now.experiment.net.log.records }
     {
         self.body.records()
     }
 
-    // Puts a command into its mail.
+    // Adds a command to the mail.
     fn put(&mut self, timed: Timed) -> Result<(), Timed>
         requires { timed.moment ≤ 10 ^ 15 }
         ensures ok { OnOk result
@@ -43,7 +43,7 @@ impl Resident<ListMail> {
         self.body.put(timed)
     }
 
-    // Reads a letter from its mail.
+    // Removes the first unread letter from the mail, and returns it.
     fn read(&mut self) -> Option<Record>
         ensures reads { Reads result self.old.mail self.new.mail }
         ensures same { self.new ≡ record self.old { mail = self.new.mail } }
@@ -58,8 +58,9 @@ impl<A: Agenda> Shard<A, ListMail> {
     ghost use Rattle.shard.specs.Stand.{Seat, seat_at};
     ghost use Rattle.shard.specs.Posts.{ChangedMail, with_command, IsNotPut, Reads};
 
-    /// Puts a command into the mail of a slot's resident, behind those that wait there. Refused, it comes back,
-    /// and the shard is as before: `Vacant` where nobody is there, and `Full` where 64 wait. Takes no memory.
+    /// Adds a command to the mail of a slot's resident, after those that wait. On error returns the
+    /// command, and the shard is unchanged: `Vacant` if the slot has no resident, and `Full` if 64
+    /// are waiting. Does not allocate.
     pub fn put(&mut self, slot: usize, timed: Timed) -> Result<(), PostError>
         requires { timed.moment ≤ 10 ^ 15 }
         ensures ok { OnOk result ((s : Seat MailBook) × (length s.stand.mail.waiting < 64)
@@ -79,7 +80,8 @@ impl<A: Agenda> Shard<A, ListMail> {
         }
     }
 
-    /// Takes the first letter that wasn't read from the mail of a slot's resident; None where there is none.
+    /// Removes the first unread letter from the mail of a slot's resident, and returns it, or None
+    /// if there is none.
     pub fn read(&mut self, slot: usize) -> Result<Option<Record>, Vacant>
         ensures ok { IfOk result
             (λ letter. (s : Seat MailBook) × (mail : MailBook) × Reads letter s.stand.mail mail
@@ -96,7 +98,7 @@ impl<A: Agenda> Shard<A, ListMail> {
         Ok(resident.read())
     }
 
-    /// What the resident of a slot recorded; `Vacant` where nobody is.
+    /// Returns the records of a slot's resident, or `Vacant` if the slot has none.
     pub fn records(&self, slot: usize) -> Result<&[Record], Vacant>
         ensures there { IfOk result (λ rs. (s : Seat MailBook) × (seat_at self.now.seats slot ≡ Some s)
             × (rs.now ≡ s.stand.state.net.records)) }

@@ -1,4 +1,4 @@
-//! One resident's part in a shard's calls.
+//! The part of a shard's calls that concerns one resident.
 
 ghost use Rattle.std.specs.Prelude.{◌+◌, ◌^◌, ◌<◌, ◌≤◌};
 ghost use Rattle.emu_model.specs.Moments.{end_of_time};
@@ -15,20 +15,20 @@ use packet_store::{OwnShelf, Owner, ReservedShelf, Shelf, Store};
 use std::marker::Model;
 use timer_wheel::Agenda;
 
-/// The source of a resident's entry: it has one, whatever it does next.
+/// The source of a resident's entry: it has one entry, whatever it does next.
 const TURN: Source = Source {
     class: Class::NextCommand,
     number: 0,
 };
 
-/// One that lives in a shard.
+/// A resident of a shard.
 #[derive(Drop)]
 pub(crate) struct Resident<M: Mail> {
     pub(crate) owner: Owner,
-    // It stays where it is in memory while what is around it moves.
+    // The body keeps its address while the resident moves.
     pub(crate) body: Box<Body<M>>,
-    // What is added to the moment of its next event in the agenda (ns); None where it is parked, and has no entry
-    // there.
+    // The number that is added to the time of the next event to get its time on the agenda (ns), or
+    // None if the resident is parked and has no entry there.
     pub(crate) offset: Option<u64>,
 }
 
@@ -47,8 +47,8 @@ impl<M: Mail> Model for Resident<M> {
     } };
 }
 
-// An offset by which a moment that isn't before its experiment's clock isn't before the agenda's: the one
-// that there is, where it serves, else a later one.
+// Returns an offset with which a time that isn't before its experiment's clock isn't before the
+// agenda's: the present offset, if that is enough, otherwise a larger one.
 fn offset_from(clock: u64, own: u64, moment: u64, offset: u64) -> u64
     requires own { own ≤ moment }
     requires early { moment ≤ 10 ^ 15 }
@@ -77,49 +77,49 @@ impl<M: Mail> Resident<M> {
     ghost use Rattle.shard.specs.Turns.{Polls};
     ghost use Rattle.shard.specs.Steps.{IsLeast, IsStale, Advances, HeardAt, RunsOn, Runs};
 
-    // Its name.
+    // Returns the name.
     pub(crate) fn name(&self) -> u32
         ensures { result ≡ self.now.name }
     {
         self.body.name()
     }
 
-    // Whose packets are its own.
+    // Returns the owner of the resident's packets.
     pub(crate) fn owner(&self) -> Owner
         ensures { result ≡ self.now.owner }
     {
         self.owner
     }
 
-    // What it was given.
+    // Returns the specification of the experiment.
     pub(crate) fn spec(&self) -> Spec
         ensures { result ≡ self.now.experiment.spec }
     {
         self.body.spec()
     }
 
-    // What is added to the moment of its next event (ns), if it has an entry.
+    // Returns the number that is added to the time of the next event (ns), if there is an entry.
     fn offset(&self) -> Option<u64>
         ensures { result ≡ self.now.offset }
     {
         self.offset
     }
 
-    // The moment of the last event (ns), 0 before the first.
+    // Returns the time of the last event (ns), or 0 before the first.
     fn clock(&self) -> u64
         ensures { result ≡ self.now.experiment.clock }
     {
         self.body.clock()
     }
 
-    // Whether a command is the next one.
+    // Returns true if there is a next command.
     fn has_next(&self) -> bool
         ensures { result ≡ is_some self.now.experiment.next }
     {
         self.body.has_next()
     }
 
-    // What comes next, and when (ns); None without a next command.
+    // Returns the earliest due (its time in ns), or None if there is no next command.
     fn next_due(&self) -> Option<Due>
         ensures due { (p : Pocket) → result ≡ next_due_in (view p self.now.experiment) }
         ensures early { IfSome result (λ d. d.moment ≤ 10 ^ 15) }
@@ -129,15 +129,15 @@ impl<M: Mail> Resident<M> {
         self.body.next_due()
     }
 
-    // The commands that came, the next one among them.
+    // Returns the commands so far, including the next one.
     pub(crate) fn consumed(&self) -> &[Timed]
         ensures { result.now ≡ self.now.experiment.consumed }
     {
         self.body.consumed()
     }
 
-    // Sets its entry anew, from the agenda's clock on. Parked where it has no next command, or where memory is
-    // refused.
+    // Sets the entry again, from the agenda's clock on. Parks the resident if it has no next
+    // command, or if memory runs out.
     pub(crate) fn enter<A: Agenda>(&mut self, agenda: &mut A, slot: usize)
         requires alone { (p : Pocket) × IsAlone p self.old.experiment }
         requires early { A.time agenda.old < 2 ^ 62 + end_of_time }
@@ -164,8 +164,8 @@ impl<M: Mail> Resident<M> {
         self.offset = Some(offset);
     }
 
-    // Once the agenda's time began anew: sets its entry again, in place of the one that it had, which takes no memory.
-    // A parked one tries to have one.
+    // Sets the entry again after the agenda was rewound; it replaces the old entry, so no memory is
+    // needed. A parked resident tries to get an entry.
     pub(crate) fn begin_anew<A: Agenda>(&mut self, agenda: &mut A, slot: usize)
         requires was { (p : Pocket) × (clock : ℕ)
             × IsSeated M.seen p (A.entries agenda.old slot) clock self.old }
@@ -186,7 +186,8 @@ impl<M: Mail> Resident<M> {
         self.set_again(agenda, slot);
     }
 
-    // Makes one step, and leaves its entry as it was. The mail's other end is looked at where `look` says so.
+    // Makes one step, and leaves the entry unchanged. Checks the mail's other end if `look` is
+    // true.
     #[inline(always)]
     fn advance(&mut self, shelf: &mut ReservedShelf, look: bool) -> Event
         requires going { IsGoing M.seen
@@ -200,7 +201,7 @@ impl<M: Mail> Resident<M> {
         self.body.event(shelf, look)
     }
 
-    // Makes one step and at most `more` others, with its packets on a shelf of its own.
+    // Makes one step and at most `more` others, with the resident's packets on a shelf of its own.
     fn advance_on<W: Watch>(&mut self, shelf: &mut ReservedShelf, more: u32, watch: &mut W) -> Event
         requires going { IsGoing M.seen
             (own_pocket shelf.old) self.old.experiment self.old.published self.old.mail }
@@ -223,8 +224,9 @@ impl<M: Mail> Resident<M> {
         Event::Ran
     }
 
-    // The same, and leaves its entry as it was. The mail's other end is looked at in the first step, and in one that ends:
-    // it costs more than all else that a step does about its mail. All steps find the shelf at once.
+    // Makes steps like `advance_on`, and leaves the entry unchanged. Checks the mail's other end in
+    // the first step, and in one that ends: the check costs more than everything else that a step
+    // does with its mail. Looks up the shelf once for all steps.
     fn run_on<W: Watch>(&mut self, store: &mut Store, more: u32, watch: &mut W) -> Event
         requires going { IsGoing M.seen
             (pocket_of store.old self.old.owner) self.old.experiment self.old.published
@@ -248,8 +250,8 @@ impl<M: Mail> Resident<M> {
         event
     }
 
-    // Makes one step and at most `more` others while it has a next command, it doesn't end and `watch` says yes. Its
-    // entry is the agenda's least.
+    // Makes one step and at most `more` others, while there is a next command, the experiment
+    // doesn't end, and `watch` returns true. The entry must be the agenda's first.
     pub(crate) fn run<A: Agenda, W: Watch>(
         &mut self,
         store: &mut Store,
@@ -276,7 +278,7 @@ impl<M: Mail> Resident<M> {
         event
     }
 
-    // Takes a command, or sets the entry of a parked one again.
+    // Takes a command from the mail, or sets the entry of a parked resident again.
     pub(crate) fn poll<A: Agenda>(&mut self, agenda: &mut A, slot: usize) -> Polled
         requires seated { (p : Pocket)
             × IsSeated M.seen p (A.entries agenda.old slot) (A.time agenda.old) self.old }
@@ -318,8 +320,8 @@ impl<M: Mail> Resident<M> {
         }
     }
 
-    // Makes a resident of a parcel, whose packets keep their keys or get new ones. It has no entry yet. Refused for want
-    // of memory, the parcel comes back as it was.
+    // Converts a parcel into a resident, whose packets keep their keys or get new ones. It has no
+    // entry yet. Returns the unchanged parcel if memory runs out.
     pub(crate) fn settle(
         parcel: Parcel<M>,
         store: &mut Store,
@@ -340,7 +342,7 @@ impl<M: Mail> Resident<M> {
         Resident::move_in(parcel, store)
     }
 
-    // The same, where its shelf comes into the store as it is.
+    // Converts a parcel like `settle`, and moves its shelf into the store as it is.
     fn come_back(parcel: Parcel<M>, store: &mut Store) -> Result<Resident<M>, Parcel<M>>
         ensures going { IfOk result (λ r. IsGoing M.seen
             (pocket_of store.new r.owner) r.experiment r.published r.mail) }
@@ -362,7 +364,7 @@ impl<M: Mail> Resident<M> {
         }
     }
 
-    // The same, where each packet gets a new key.
+    // Converts a parcel like `settle`, and gives each packet a new key.
     fn move_in(parcel: Parcel<M>, store: &mut Store) -> Result<Resident<M>, Parcel<M>>
         ensures going { IfOk result (λ r. IsGoing M.seen
             (pocket_of store.new r.owner) r.experiment r.published r.mail) }
@@ -380,7 +382,7 @@ impl<M: Mail> Resident<M> {
             mut body,
             mut shelf,
         } = parcel;
-        // What it holds is within its budget.
+        // The packets are within the budget.
         let _held = shelf.count(0);
         body.rehouse(&mut shelf, 0, store, owner);
         Ok(Resident {
@@ -390,7 +392,7 @@ impl<M: Mail> Resident<M> {
         })
     }
 
-    // Makes a parcel of a resident, whose packets stay at their keys.
+    // Converts a resident into a parcel, whose packets keep their keys.
     pub(crate) fn leave(self, store: &mut Store) -> Parcel<M>
         requires going { IsGoing M.seen
             (pocket_of store.old self.owner) self.experiment self.published self.mail }
@@ -409,7 +411,7 @@ impl<M: Mail> Resident<M> {
         Parcel { body, shelf }
     }
 
-    // What is left of a resident that has ended. What it held is dropped.
+    // Converts a resident that has ended into its dossier. Discards its packets.
     pub(crate) fn end(self, store: &mut Store) -> Dossier<M>
         requires kept { IsKept M.seen
             (pocket_of store.old self.owner) self.experiment self.published self.mail }
@@ -445,7 +447,7 @@ impl<M: Mail> Resident<M> {
         }
     }
 
-    // After a step: sets its entry to what comes next. Parked where there is no next command.
+    // Sets the entry to the next due after a step. Parks the resident if there is no next command.
     fn set_again<A: Agenda>(&mut self, agenda: &mut A, slot: usize)
         requires stale { (p : Pocket)
             × IsStale M.seen p (A.entries agenda.old slot) (A.time agenda.old) self.old }

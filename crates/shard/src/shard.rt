@@ -21,14 +21,14 @@ use std::marker::Model;
 use std::mem;
 use timer_wheel::Agenda;
 
-/// How many residents a shard may have.
+/// The maximum number of residents of a shard.
 pub const MAX_RESIDENTS: usize = 256;
 
-/// The agenda's time begins anew once its clock is this far (ns), so that it stays below 2^63.
+/// The clock (ns) at which the agenda is rewound, so that its times stay below 2^63.
 const LATEST_CLOCK: u64 = 1 << 62;
 
-/// What a turn was: one event of the resident of that name, the end of one, or nothing, where nobody has a next
-/// command on the agenda.
+/// The result of a turn: an event of the resident with that name, the end of a resident, or nothing
+/// if no resident has a next command on the agenda.
 #[derive(Drop)]
 pub enum Turned<M: Mail> {
     Ran(u32),
@@ -36,7 +36,7 @@ pub enum Turned<M: Mail> {
     Idle,
 }
 
-/// A parcel that was not taken in.
+/// The reason why a parcel was not taken in, with the parcel.
 #[derive(Drop)]
 pub enum TakeInError<M: Mail> {
     /// There are 256 residents (30).
@@ -44,8 +44,9 @@ pub enum TakeInError<M: Mail> {
     NoMemory(Parcel<M>),
 }
 
-/// What a poll was, with the resident's name: nobody is there; a command was taken; a parked one has its entry
-/// again; its next command waits still; no command came; or want of memory.
+/// The result of a poll, with the resident's name: the slot is vacant; a command was taken; a
+/// parked resident has its entry again; the next command is still pending; no command was taken; or
+/// memory ran out.
 #[derive(Clone, Copy, Debug, PartialEq, Eq)]
 pub enum Polled {
     Vacant,
@@ -56,22 +57,23 @@ pub enum Polled {
     NoMemory(u32),
 }
 
-/// Why a resident was not packed.
+/// The reason why a resident was not packed.
 #[derive(Clone, Copy, Debug, PartialEq, Eq)]
 pub enum PackError {
     Vacant = 31,
     NoMemory = 99,
 }
 
-/// The residents of one worker: each has a slot, a reservation in the one store, and, unless it is parked, an entry
-/// in the one agenda: when its next event is due. A contract sees who stands in which slot, and the agenda's clock (ns).
+/// The residents of one worker: each has a slot, a reservation in the one store, and, unless it is
+/// parked, an entry in the one agenda at the time of its next event. Contracts see the resident of
+/// each slot, and the agenda's clock (ns).
 #[derive(Drop)]
 pub struct Shard<A: Agenda, M: Mail> {
     alloc: Global,
     store: Store,
     agenda: A,
     pub(crate) slots: Vec<Option<Resident<M>>>,
-    // The slot of the last turn, where `slot_of` looks first.
+    // The slot of the last turn, which `slot_of` checks first.
     turned: usize,
 }
 
@@ -97,7 +99,7 @@ impl<A: Agenda, M: Mail> Shard<A, M> {
     ghost use Rattle.shard.specs.Stand.{seat_at, Seat, IsTold};
     ghost use Rattle.shard.specs.Turns.{TurnsSettled, ManyTurns, ManyTurnsSettled, HeardOf, NamesIt, TakenIn, ComesBack, HasVacancy, PackedAt, IsPoll, IsRebased};
 
-    /// A shard without residents, whose clock is 0.
+    /// Creates a shard without residents, whose clock is 0.
     pub fn new(alloc: Global) -> Result<Self, AllocError>
         ensures vacant { IfOk result (λ s. (k : ℕ) → seat_at s.seats k ≡ None) }
         ensures clock { IfOk result (λ s. s.clock ≡ 0) }
@@ -105,7 +107,7 @@ impl<A: Agenda, M: Mail> Shard<A, M> {
         Shard::with_clock(alloc, 0)
     }
 
-    /// A shard without residents, whose clock (ns) is at most 2^62.
+    /// Creates a shard without residents, whose clock (ns) is at most 2^62.
     pub fn with_clock(alloc: Global, clock: u64) -> Result<Self, AllocError>
         requires { clock ≤ 2 ^ 62 }
         ensures vacant { IfOk result (λ s. (k : ℕ) → seat_at s.seats k ≡ None) }
@@ -125,18 +127,19 @@ impl<A: Agenda, M: Mail> Shard<A, M> {
         })
     }
 
-    /// One event of the resident whose entry is least, by its moment and then by slot. Its records are published while
-    /// its mail takes them; it has an entry again where a next command is there. One that has ended, or is halted for
-    /// want of memory, comes out as a dossier. Where the agenda's clock has come to 2^62 ns, its time begins anew
-    /// before.
+    /// Makes one event of the resident whose entry is first, by time and then by slot. Publishes
+    /// its records while its mail accepts them, and sets its entry again if it has a next command.
+    /// Returns a resident that has ended, or that is halted because memory ran out, as a dossier.
+    /// Rewinds the agenda first if its clock has reached 2^62 ns.
     pub fn turn(&mut self) -> Turned<M>
         ensures { TurnsSettled M.seen result self.old self.new }
     {
         self.turns(0, &mut Unwatched)
     }
 
-    /// `turn`, and then at most `more` further events of the same resident, whatever else is due before: while it has
-    /// a next command, doesn't end, and `watch` says yes, which hears of each that ran.
+    /// Makes a turn like `turn`, and then at most `more` further events of the same resident,
+    /// whatever else is due before them: while it has a next command, doesn't end, and `watch`,
+    /// which is called after each that ran, returns true.
     pub fn turns<W: Watch>(&mut self, more: u32, watch: &mut W) -> Turned<M>
         ensures { (ran name : ℕ) × HeardOf W.hears result name ran watch.old watch.new × NamesIt result name
             × ManyTurnsSettled M.seen W.may_refuse more ran result self.old self.new }
@@ -147,7 +150,7 @@ impl<A: Agenda, M: Mail> Shard<A, M> {
         self.turns_now(more, watch)
     }
 
-    // The events of one resident.
+    // Makes the events of one resident.
     fn turns_now<W: Watch>(&mut self, more: u32, watch: &mut W) -> Turned<M>
         requires early { self.old.clock < 2 ^ 62 }
         ensures { (ran name : ℕ) × HeardOf W.hears result name ran watch.old watch.new × NamesIt result name
@@ -170,9 +173,9 @@ impl<A: Agenda, M: Mail> Shard<A, M> {
         Turned::Ended(take_ended(&mut self.slots[slot], &mut self.store))
     }
 
-    /// Takes a command for a resident without a next one, or sets the entry of a parked one again. Room for a
-    /// command is made before one is taken; one whose moment is below the last isn't consumed. Records are
-    /// published while the mail takes them.
+    /// Takes a command for a resident without a next one, or sets the entry of a parked resident
+    /// again. Reserves memory for a command before it takes one; a command whose time is before the
+    /// last is not consumed. Publishes records while the mail accepts them.
     pub fn poll(&mut self, slot: usize) -> Polled
         ensures { IsPoll M.seen result self.old self.new slot }
     {
@@ -185,9 +188,9 @@ impl<A: Agenda, M: Mail> Shard<A, M> {
         resident.poll(&mut self.agenda, slot)
     }
 
-    /// Takes a parcel in, at the least vacant slot; its packets come into the store at new keys, and its entry onto the
-    /// agenda, or it is parked where memory is refused for it. Refused itself, it comes back as it was, and the
-    /// shard is as before: `Crowded` before `NoMemory`.
+    /// Takes a parcel in at the first vacant slot. Its packets get new keys in the store, and its
+    /// entry is added to the agenda, or it is parked if there is no memory for the entry. On error
+    /// returns the unchanged parcel, and the shard is unchanged: `Crowded` before `NoMemory`.
     pub fn take_in(&mut self, parcel: Parcel<M>) -> Result<usize, TakeInError<M>>
         ensures ok { IfOk result (λ slot. (s : Seat M) × TakenIn parcel self.old self.new slot s) }
         ensures back { IfErr result (ComesBack parcel self.old) }
@@ -197,7 +200,8 @@ impl<A: Agenda, M: Mail> Shard<A, M> {
         self.admit(parcel, false)
     }
 
-    /// `take_in` of a parcel that was packed here: its packets stay at their keys, so the time doesn't grow with them.
+    /// Takes in a parcel that was packed here, like `take_in`: its packets keep their keys, so the
+    /// time doesn't grow with their number.
     pub fn take_back(&mut self, parcel: Parcel<M>) -> Result<usize, TakeInError<M>>
         ensures ok { IfOk result (λ slot. (s : Seat M) × TakenIn parcel self.old self.new slot s) }
         ensures back { IfErr result (ComesBack parcel self.old) }
@@ -226,8 +230,8 @@ impl<A: Agenda, M: Mail> Shard<A, M> {
         Ok(slot)
     }
 
-    /// Makes a parcel of a resident: one owned value with all that it holds. Takes no memory, and the time doesn't grow
-    /// with its packets.
+    /// Packs a resident into a parcel: one owned value with everything that it holds. Does not
+    /// allocate, and the time doesn't grow with the number of its packets.
     pub fn pack(&mut self, slot: usize) -> Result<Parcel<M>, PackError>
         ensures ok { IfOk result
             (λ parcel. (s : Seat M) × PackedAt parcel self.old self.new slot s) }
@@ -249,8 +253,9 @@ impl<A: Agenda, M: Mail> Shard<A, M> {
         Ok(gone.leave(&mut self.store))
     }
 
-    /// Begins the agenda's time anew: its clock is 0, and each entry is set again from what comes next, below
-    /// 2 * 10^15 ns, which takes no memory. A parked one has its entry again, or stays parked where memory is refused.
+    /// Rewinds the agenda: its clock is then 0, and each entry is set again to the resident's next
+    /// due, below 2 * 10^15 ns, which needs no memory. A parked resident gets an entry again, or
+    /// stays parked if memory runs out.
     pub fn rebase(&mut self)
         ensures { IsRebased self.old self.new }
     {
@@ -258,8 +263,8 @@ impl<A: Agenda, M: Mail> Shard<A, M> {
         begin_all_anew(&mut self.slots, &mut self.agenda);
     }
 
-    /// The slot of the resident of a name. That of the last turn is found at once; else the time grows with the
-    /// slots.
+    /// Returns the slot of the resident with a name. The slot of the last turn is found at once;
+    /// otherwise the time grows with the number of slots.
     pub fn slot_of(&self, name: u32) -> Option<usize>
         ensures some { IfSome result
             (λ slot. (s : Seat M) × (seat_at self.now.seats slot ≡ Some s)
@@ -278,7 +283,7 @@ impl<A: Agenda, M: Mail> Shard<A, M> {
         None
     }
 
-    // Whether the resident of a slot has a name.
+    // Returns true if the resident of a slot has a name.
     fn is_named(&self, slot: usize, name: u32) -> bool
         ensures yes { IsTrue result →
             (s : Seat M) × (seat_at self.now.seats slot ≡ Some s) × (s.stand.name ≡ name) }
@@ -294,7 +299,8 @@ impl<A: Agenda, M: Mail> Shard<A, M> {
         resident.name() == name
     }
 
-    // The resident of a slot, with what its experiment recorded and consumed.
+    // Returns the resident of a slot. The contract relates its records and commands to the slot's
+    // state.
     pub(crate) fn resident(&self, slot: usize) -> Result<&Resident<M>, Vacant>
         ensures there { IfOk result (λ r. (s : Seat M) × (seat_at self.now.seats slot ≡ Some s)
             × (r.now.experiment.net.log.records ≡ s.stand.state.net.records)
@@ -310,7 +316,8 @@ impl<A: Agenda, M: Mail> Shard<A, M> {
         Ok(resident)
     }
 
-    /// The commands that came to the resident of a slot, the next one among them; `Vacant` where nobody is.
+    /// Returns the commands so far of a slot's resident, including the next one, or `Vacant` if the
+    /// slot has none.
     pub fn consumed(&self, slot: usize) -> Result<&[Timed], Vacant>
         ensures there { IfOk result (λ cs. (s : Seat M) × (seat_at self.now.seats slot ≡ Some s)
             × (cs.now ≡ s.stand.consumed)) }
@@ -320,7 +327,7 @@ impl<A: Agenda, M: Mail> Shard<A, M> {
         Ok(resident.consumed())
     }
 
-    /// What each resident keeps: it shows the state of running it alone.
+    /// Reveals that the state of every resident is that of running it alone.
     pub fn reveal_invariant(&self)
         ensures { (slot : ℕ) (s : Seat M) → seat_at self.now.seats slot ≡ Some s →
             IsTold M.seen s.stand }
@@ -329,8 +336,8 @@ impl<A: Agenda, M: Mail> Shard<A, M> {
     }
 }
 
-// Takes a resident that has ended out of its slot, and makes its dossier. By itself, since a turn that ends nobody
-// would clear the room for one.
+// Removes a resident that has ended from its slot, and returns its dossier. A function of its own,
+// since otherwise a turn that ends nobody would clear the memory for a dossier.
 fn take_ended<M: Mail>(place: &mut Option<Resident<M>>, store: &mut Store) -> Dossier<M>
     requires there { IsSome place.old }
     requires kept { IfSome place.old
@@ -347,7 +354,7 @@ fn take_ended<M: Mail>(place: &mut Option<Resident<M>>, store: &mut Store) -> Do
     gone.end(store)
 }
 
-// The least slot with nobody.
+// Returns the first vacant slot.
 fn first_vacant<M: Mail>(slots: &[Option<Resident<M>>]) -> Option<usize>
     ensures some { IfSome result
         (λ k. (k < length slots.now) × (slice_index_or slots.now k None ≡ None)
@@ -363,7 +370,7 @@ fn first_vacant<M: Mail>(slots: &[Option<Resident<M>>]) -> Option<usize>
     None
 }
 
-// Once the agenda's time began anew: sets the entry of each resident again.
+// Sets the entry of each resident again after the agenda was rewound.
 fn begin_all_anew<A: Agenda, M: Mail>(slots: &mut Vec<Option<Resident<M>>>, agenda: &mut A)
     requires was { (pockets : ℕ → Pocket) × (clock : ℕ)
         × IsShard M.seen pockets (A.entries agenda.old) clock slots.old.items }

@@ -1,22 +1,23 @@
-//! Who hears of each turn.
+//! Observers of turns.
 
 ghost use Rattle.std.specs.Prelude.{◌≡◌, ℕ, Bool, true, false, IsFalse};
 
-/// Hears of each turn that ran, right after it.
+/// An observer that is called right after each turn that ran.
 pub trait Watch {
-    /// Whether one of this type may ever say no.
+    /// True if an observer of this type may return false.
     ghost may_refuse: { Bool };
 
-    /// What a call with a name that is answered so may do to it.
+    /// The effect that a call with a name and a result may have on the observer.
     ghost hears: { ℕ → Bool → Self → Self → Type 0 };
 
-    /// Called after each turn that ran, with the name of the experiment. At false no turn follows at once.
+    /// Observes a turn of the experiment with this name. If it returns false, no turn follows at
+    /// once.
     fn ran(&mut self, name: u32) -> bool
         ensures hears { hears name result self.old self.new }
         ensures refused { IsFalse result → may_refuse ≡ true };
 }
 
-/// Hears nothing, and always says yes.
+/// An observer that does nothing, and always returns true.
 #[derive(Clone, Copy, Debug)]
 pub struct Unwatched;
 

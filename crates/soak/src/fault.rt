@@ -1,23 +1,23 @@
-//! Why there are no reports.
+//! The reasons why there are no reports.
 
 use std::alloc::AllocError;
 use thiserror::Error;
 
 #[derive(Clone, Copy, Debug, Drop, Error, PartialEq)]
 pub enum Fault {
-    /// The words are none of those of the program.
+    /// The arguments are not those of the program.
     #[error("words: LISTS STEPS SEED [on], of which LISTS is 1 or more")]
     Words,
-    /// The text is no scenario.
+    /// The text is not a scenario.
     #[error("the text is no scenario")]
     Scenario,
-    /// Memory was refused.
+    /// An allocation failed.
     #[error("memory")]
     Memory,
-    /// An experiment was not brought to its end.
+    /// An experiment did not reach its end.
     #[error("list {0}: not ended")]
     Unfinished(u32),
-    /// A list left other reports than the first.
+    /// A list left different reports from the first.
     #[error("list {0}: other reports than those of list 0")]
     Differs(u32),
 }

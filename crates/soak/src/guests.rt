@@ -6,7 +6,7 @@ use emu_model::Spec;
 use std::alloc::{AllocError, Global};
 use world::Step;
 
-/// An experiment, and how many of its commands were posted.
+/// An experiment, and the number of its commands that were posted.
 #[derive(Drop)]
 pub struct Guest {
     plan: Experiment,
@@ -22,13 +22,13 @@ impl Guest {
         self.plan.name.as_bytes()
     }
 
-    /// Nothing was posted yet.
+    /// Resets the guest, so that none of its commands was posted.
     pub fn again(&mut self) {
         self.posted = 0;
     }
 }
 
-/// The guests of a text.
+/// Returns the guests of a text.
 pub fn guests_in(alloc: Global, text: &[u8]) -> Result<Vec<Guest>, Fault> {
     match parse_scenario(alloc, text) {
         Ok(scenario) => Ok(guests_of(alloc, scenario.into_vec())?),
@@ -45,19 +45,20 @@ fn guests_of(alloc: Global, plans: Vec<Experiment>) -> Result<Vec<Guest>, AllocE
     Ok(guests)
 }
 
-/// Guests have the names from 0 on.
+/// Returns the name of a guest. Names begin at 0.
 pub fn name_of(index: usize) -> u32 {
     u32::try_from(index).unwrap_or(u32::MAX)
 }
 
-/// The post of a name's next command; None where all were posted, or nobody has the name.
+/// Returns the post of a name's next command, or `None` if all were posted or no guest has the
+/// name.
 pub fn next_post(guests: &[Guest], name: u32) -> Option<Step> {
     let guest = guests.get(name as usize)?;
     let timed = *guest.plan.commands.as_slice().get(guest.posted)?;
     Some(Step::Post { name, timed })
 }
 
-/// A name's next command was taken.
+/// Records that a name's next command was taken.
 pub fn was_posted(guests: &mut [Guest], name: u32) {
     if let Some(guest) = guests.get_mut(name as usize) {
         guest.posted = guest.posted.saturating_add(1);

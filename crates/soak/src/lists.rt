@@ -1,4 +1,4 @@
-//! Lists of steps that are drawn, each in a world of its own.
+//! Random lists of steps, each in a world of its own.
 
 use crate::fault::Fault;
 use crate::guests::{Guest, name_of, next_post, was_posted};
@@ -10,16 +10,17 @@ use rand_core::utils::NextWord;
 use std::alloc::Global;
 use world::{Did, Place, Step};
 
-/// More rounds than any scenario takes to its end.
+/// The maximum number of rounds, which is more than any scenario needs to end.
 const MAX_ROUNDS: u32 = 100_000_000;
 
-/// How many commands may wait at once.
+/// The maximum number of commands that wait at once.
 const MAIL: u32 = 64;
 
-/// How many shards a world has at most.
+/// The maximum number of shards in a world.
 const SHARDS: u32 = 4;
 
-/// How often each kind of step is drawn, in four moods: as it comes; moves; few posts and polls; times that begin anew.
+/// The weights of each kind of step, in four moods: an even mixture; moves; few posts and polls;
+/// restarts of time.
 const WEIGHTS: [[u32; 9]; 4] = [
     [1, 1, 1, 1, 1, 1, 2, 6, 6],
     [6, 3, 6, 1, 2, 1, 2, 4, 6],
@@ -27,7 +28,7 @@ const WEIGHTS: [[u32; 9]; 4] = [
     [2, 1, 2, 4, 1, 4, 2, 8, 6],
 ];
 
-/// A list: its number, how many steps it has, and the seed that it is drawn from.
+/// A list: its number, the number of its steps, and the seed of its random stream.
 #[derive(Clone, Copy)]
 pub struct Plan {
     pub list: u32,
@@ -35,8 +36,9 @@ pub struct Plan {
     pub seed: u64,
 }
 
-/// How many steps were made; of those that were made one by one, how many could be done, and how many of these took an
-/// experiment from a deque to a shard; how many steps met want of memory, and whether it goes on past that.
+/// The number of steps performed; of those performed one by one, the number that could be done, and
+/// how many of these took an experiment from a deque to a shard; the number of failed allocations,
+/// and whether the run continues after them.
 #[derive(Clone, Copy)]
 pub struct Tally {
     pub steps: u64,
@@ -47,7 +49,7 @@ pub struct Tally {
 }
 
 impl Tally {
-    /// Nothing was made yet.
+    /// Creates a tally before the first step.
     pub fn new(goes_on: bool) -> Self {
         Tally {
             steps: 0,
@@ -58,7 +60,7 @@ impl Tally {
         }
     }
 
-    // Notes what became of a step. Answers whether it could be done.
+    // Records the result of a step. Returns true if it could be done.
     fn note(&mut self, did: Did) -> Result<bool, Fault> {
         self.steps = self.steps.saturating_add(1);
         match did {
@@ -77,7 +79,7 @@ impl Tally {
     }
 }
 
-/// How many experiments and shards there are, and how often each kind of step is drawn.
+/// The numbers of experiments and shards, and the weight of each kind of step.
 #[derive(Clone, Copy)]
 struct Odds {
     guests: u32,
@@ -85,7 +87,7 @@ struct Odds {
     weights: [u32; 9],
 }
 
-// The words that a list is drawn by.
+// Returns the random stream of a list.
 fn words_of(plan: Plan) -> ChaCha20Rng {
     let mut key = [0u8; 32];
     let mut rest = plan.seed;
@@ -98,7 +100,7 @@ fn words_of(plan: Plan) -> ChaCha20Rng {
     words
 }
 
-// A number below another one, or 0.
+// Returns a random number below a maximum, or 0.
 fn below(words: &mut ChaCha20Rng, most: u32) -> u32 {
     words.next_word() % most.max(1)
 }
@@ -118,7 +120,7 @@ fn odds_of(words: &mut ChaCha20Rng, guests: usize) -> Odds {
     }
 }
 
-// A kind of step, 0 to 8.
+// Returns a random kind of step, 0 to 8.
 fn kind(words: &mut ChaCha20Rng, weights: &[u32; 9]) -> usize {
     let mut sum = 0u32;
     for weight in weights {
@@ -134,7 +136,7 @@ fn kind(words: &mut ChaCha20Rng, weights: &[u32; 9]) -> usize {
     8
 }
 
-// A step; now and then one that can't be done, since nobody has that name, shard or slot.
+// Returns a random step. Some can't be done, because the name, shard or slot doesn't exist.
 fn draw_step(words: &mut ChaCha20Rng, guests: &[Guest], odds: &Odds) -> Step {
     let name = below(words, odds.guests.saturating_add(1));
     let shard = below(words, odds.shards.saturating_add(1)) as usize;
@@ -158,7 +160,7 @@ fn draw_step(words: &mut ChaCha20Rng, guests: &[Guest], odds: &Odds) -> Step {
     }
 }
 
-// The name to which a step posts.
+// Returns the name to which a step posts.
 fn name_posted(step: &Step) -> Option<u32> {
     match step {
         Step::Post { name, .. } => Some(*name),
@@ -166,7 +168,7 @@ fn name_posted(step: &Step) -> Option<u32> {
     }
 }
 
-// Whether a step takes somebody from a deque.
+// Returns true if a step takes an experiment from a deque.
 fn is_brought(step: &Step) -> bool {
     match step {
         Step::Retake { .. } => true,
@@ -175,7 +177,7 @@ fn is_brought(step: &Step) -> bool {
     }
 }
 
-// Makes a step. Answers whether it could be done.
+// Performs a step. Returns true if it could be done.
 fn make<W: Stage>(
     world: &mut W,
     guests: &mut [Guest],
@@ -196,7 +198,7 @@ fn make<W: Stage>(
     Ok(true)
 }
 
-// Makes a list of steps, of which only want of memory is known then.
+// Performs a list of steps, of which only the number of failed allocations is known afterwards.
 fn make_list<W: Stage>(world: &mut W, steps: &[Step], tally: &mut Tally) -> Result<(), Fault> {
     let refused = world.runs(steps);
     tally.steps = tally.steps.saturating_add(steps.len() as u64);
@@ -207,7 +209,8 @@ fn make_list<W: Stage>(world: &mut W, steps: &[Step], tally: &mut Tally) -> Resu
     Ok(())
 }
 
-// Makes a step that was drawn; where it goes on past want of memory, and it is no post, in a list with a turn.
+// Performs a random step. If the run continues after failed allocations and the step is no post, it
+// is performed in a list with a turn.
 fn make_drawn<W: Stage>(
     world: &mut W,
     guests: &mut [Guest],
@@ -222,7 +225,7 @@ fn make_drawn<W: Stage>(
     Ok(())
 }
 
-// Registers a guest. One refusal is made good, so that names are those of the guests.
+// Registers a guest. Retries after a failed allocation, so that the names are those of the guests.
 fn register<W: Stage>(world: &mut W, spec: &Spec, tally: &mut Tally) -> Result<(), Fault> {
     for _ in 0..3 {
         let step = Step::Registered(*spec);
@@ -233,7 +236,7 @@ fn register<W: Stage>(world: &mut W, spec: &Spec, tally: &mut Tally) -> Result<(
     Err(Fault::Memory)
 }
 
-// Posts what a name has left, as far as it may wait.
+// Posts the remaining commands of a name, as far as they may wait.
 fn post_all<W: Stage>(
     world: &mut W,
     guests: &mut [Guest],
@@ -251,7 +254,8 @@ fn post_all<W: Stage>(
     Ok(())
 }
 
-// One thing that helps a name to its end; false where it has ended.
+// Performs steps that bring a name closer to its end. Returns false if the name has ended or
+// doesn't exist.
 fn help<W: Stage>(
     world: &mut W,
     guests: &mut [Guest],
@@ -275,7 +279,7 @@ fn help<W: Stage>(
     Ok(true)
 }
 
-// Helps all names to their ends.
+// Runs all names to their ends.
 fn finish<W: Stage>(
     world: &mut W,
     guests: &mut [Guest],
@@ -296,8 +300,8 @@ fn finish<W: Stage>(
     Err(Fault::Unfinished(list))
 }
 
-// The reports of all names, in their order; where it goes on past want of memory, with a line `halted` behind that of
-// one that was halted.
+// Returns the reports of all names, in their order. If the run continues after failed allocations,
+// a line `halted` follows the report of an experiment that was halted.
 fn reports<W: Stage>(
     alloc: Global,
     world: &W,
@@ -320,7 +324,7 @@ fn reports<W: Stage>(
     Ok(all)
 }
 
-// The steps of a list in a world, which is brought to its end then.
+// Performs the steps of a list in a world, and then runs the world to its end.
 fn lives<W: Stage>(
     world: &mut W,
     guests: &mut [Guest],
@@ -343,7 +347,8 @@ fn lives<W: Stage>(
     finish(world, guests, plan.list, tally)
 }
 
-/// The reports that the scenario's experiments leave in a new world, in which the steps of a list are made.
+/// Returns the reports of the scenario's experiments in a new world, in which the steps of a list
+/// are performed.
 pub fn left_by<W: Stage>(
     alloc: Global,
     guests: &mut [Guest],

@@ -1,9 +1,11 @@
-//! `soak LISTS STEPS SEED [on]`: a scenario on standard input, and as many lists of steps of a world that are drawn from
-//! SEED, each of STEPS steps, in a world of its own with the scenario's experiments, which is then brought to its end.
+//! `soak LISTS STEPS SEED [on]`: reads a scenario from standard input, and runs LISTS random lists
+//! of STEPS steps each, drawn from SEED. Each list has a world of its own with the scenario's
+//! experiments, which then runs to its end.
 //!
-//! Standard output has the reports that the worlds left, which are the same for each list; or the program ends with
-//! status 1 and says on standard error which list left others. It says there too how many steps were made and done.
-//! With `on` it goes on past want of memory; behind the report of an experiment that was halted stands a line `halted`.
+//! Standard output has the reports of the worlds, which are the same for each list. If they are
+//! not, the program exits with status 1 and prints on standard error which list left different
+//! ones. It also prints there how many steps were performed and done. With `on` it continues after
+//! failed allocations; a line `halted` follows the report of an experiment that was halted.
 #![tactic(auto)]
 
 mod fault;
@@ -22,7 +24,7 @@ use timer_wheel::{ListAgenda, Wheel};
 use words::task_of;
 use world::World;
 
-// The reports that one list leaves: over a wheel and over a list of dues in turn.
+// Returns the reports of one list: alternately over a wheel and over a list of dues.
 fn one(
     alloc: Global,
     guests: &mut [Guest],
@@ -36,7 +38,7 @@ fn one(
     }
 }
 
-// The reports of all lists, which are those of the first.
+// Returns the reports of all lists, which are those of the first.
 fn all(
     alloc: Global,
     guests: &mut [Guest],

@@ -1,4 +1,4 @@
-//! What is called of a world.
+//! The calls of a world.
 
 use emu_model::Ending;
 use report::report_text;
@@ -6,25 +6,27 @@ use std::alloc::{AllocError, Global};
 use timer_wheel::Agenda;
 use world::{Did, Place, Step, World};
 
-/// The report of what a name left, and whether it was halted for want of memory.
+/// The report of a name's experiment, and whether the experiment was halted because an allocation
+/// failed.
 #[derive(Drop)]
 pub struct Written {
     pub text: Vec<u8>,
     pub halted: bool,
 }
 
-/// A world. All else is written over any, so that its proofs needn't take a world apart wherever it is dropped.
+/// A world. The rest of the program is generic over any world, so that its proofs don't have to
+/// take a world apart wherever it is dropped.
 pub trait Stage: Drop {
     fn build(alloc: Global, shards: usize) -> Result<Self, AllocError>;
 
     fn makes(&mut self, step: Step) -> Did;
 
-    /// Makes steps. Answers how often memory was refused.
+    /// Performs steps. Returns the number of failed allocations.
     fn runs(&mut self, steps: &[Step]) -> u64;
 
     fn place_of(&self, name: u32) -> Option<Place>;
 
-    /// Of a name that has ended, under a title.
+    /// Returns the report of a name that has ended, under a title.
     fn report_of(
         &self,
         alloc: Global,

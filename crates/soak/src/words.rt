@@ -1,9 +1,9 @@
-//! The words of the command line.
+//! The arguments of the command line.
 
 use crate::fault::Fault;
 
-/// What is to be done: so many lists, of so many steps each, drawn from a seed; and whether it goes on past want of
-/// memory.
+/// The task: the number of lists, the steps of each, the seed of the random stream, and whether the
+/// run continues after failed allocations.
 #[derive(Clone, Copy, Debug, PartialEq)]
 pub struct Task {
     pub lists: u32,
@@ -12,7 +12,7 @@ pub struct Task {
     pub goes_on: bool,
 }
 
-// The number that a word spells.
+// Returns the number that an argument spells.
 fn number(word: Option<&String>) -> Result<u64, Fault> {
     let Some(word) = word else {
         return Err(Fault::Words);
@@ -23,7 +23,7 @@ fn number(word: Option<&String>) -> Result<u64, Fault> {
     Ok(number)
 }
 
-// The same, of 32 bits.
+// Returns the number that an argument spells, if it has 32 bits.
 fn small_number(word: Option<&String>) -> Result<u32, Fault> {
     let Ok(small) = u32::try_from(number(word)?) else {
         return Err(Fault::Words);
@@ -31,7 +31,7 @@ fn small_number(word: Option<&String>) -> Result<u32, Fault> {
     Ok(small)
 }
 
-// Whether the word `on` is there.
+// Returns true if the argument `on` is there.
 fn is_on(word: Option<&String>) -> Result<bool, Fault> {
     let Some(word) = word else {
         return Ok(false);
@@ -42,7 +42,7 @@ fn is_on(word: Option<&String>) -> Result<bool, Fault> {
     Ok(true)
 }
 
-/// What the words ask for, the program's name first.
+/// Returns the task that the arguments (the program's name first) request.
 pub fn task_of(words: &[String]) -> Result<Task, Fault> {
     let lists = small_number(words.get(1))?;
     let steps = small_number(words.get(2))?;

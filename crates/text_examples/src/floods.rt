@@ -1,6 +1,6 @@
 //! Experiments that flood their budgets.
 
-/// The second scenario of `beside_a_flood`: it floods its budget.
+/// The second scenario of `beside_a_flood`, which floods its budget.
 pub const FLOOD: &str = "experiment flood seed 0 budget 5\n\
 @0 pipe 1 config bw 1Mbit/s queue 1000 delay 10\n\
 @0 add 100 pipe 1 ip from any to any\n\
@@ -9,7 +9,7 @@ pub const FLOOD: &str = "experiment flood seed 0 budget 5\n\
 @21040000 inject tcp 10.0.0.1 1 10.0.0.2 2 1500\n\
 @100000000 end\n";
 
-/// Its report.
+/// The report of `FLOOD`.
 pub const FLOOD_REPORT: &str = "experiment flood\n\
 0 ok 0\n\
 0 ok 1\n\
@@ -426,7 +426,7 @@ pub const FLOOD_REPORT: &str = "experiment flood\n\
 100000000 ok 5\n\
 counters 401 6 0 0 0 0 0 0 0 0 395\n";
 
-/// The second scenario of `packet_budget_beside`, with a later end: it holds 65535 packets.
+/// The second scenario of `packet_budget_beside`, with a later end, which holds 65535 packets.
 pub const NEIGHBOUR: &str = "experiment neighbour seed 0 budget 65535\n\
 @0 pipe 1 config bw 0 delay 60000\n\
 @0 add 100 pipe 1 ip from any to any\n\

@@ -11,7 +11,7 @@ pub const FAST_RETRANSMIT: &str = "experiment fast-retransmit seed 0 budget 1000
 @22000000 delete 50\n\
 @100000000 end\n";
 
-/// Its report.
+/// The report of `FAST_RETRANSMIT`.
 pub const FAST_RETRANSMIT_REPORT: &str = "experiment fast-retransmit\n\
 0 ok 0\n\
 0 ok 1\n\
@@ -73,7 +73,7 @@ pub const RENO_FOUR_SEGMENTS: &str = "experiment r seed 1 budget 100\n\
 @0 flow 1 10.0.0.1 1000 10.0.0.2 80 smss 1460 segments 4\n\
 @100000000 end\n";
 
-/// Its report.
+/// The report of `RENO_FOUR_SEGMENTS`.
 pub const RENO_FOUR_SEGMENTS_REPORT: &str = "experiment r\n\
 0 ok 0\n\
 0 ok 1\n\

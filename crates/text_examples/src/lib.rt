@@ -1,6 +1,6 @@
-//! Worked examples of texts. The tests are of scenarios that are read, their faults and what `--explain` says of them, and
-//! reports that are written. The texts, as examples/ has them, are for other crates of tests too: tools/gate/texts writes
-//! them. Our choice.
+//! Worked examples of texts. The tests parse scenarios, check their faults and their explanations,
+//! and format reports. Other crates of tests use the texts too. They are those of examples/, and
+//! tools/gate/texts writes them. Our choice.
 #![tactic(auto)]
 
 mod floods;

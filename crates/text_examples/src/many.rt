@@ -1,4 +1,4 @@
-//! More than one experiment.
+//! Scenarios with several experiments.
 
 /// The scenario of `four_experiments`.
 pub const FOUR_EXPERIMENTS: &str = "experiment a seed 0 budget 10\n\
@@ -28,7 +28,7 @@ experiment s seed 0 budget 10 steps 2\n\
 @0 show\n\
 @0 end\n";
 
-/// Its report.
+/// The report of `FOUR_EXPERIMENTS`.
 pub const FOUR_EXPERIMENTS_REPORT: &str = "experiment a\n\
 0 ok 0\n\
 0 ok 1\n\

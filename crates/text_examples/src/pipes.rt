@@ -7,7 +7,7 @@ pub const ONE_PACKET: &str = "experiment a seed 0 budget 10\n\
 @0 inject udp 10.0.0.1 1000 10.0.0.2 2000 1000\n\
 @20000000 end\n";
 
-/// Its report.
+/// The report of `ONE_PACKET`.
 pub const ONE_PACKET_REPORT: &str = "experiment a\n\
 0 ok 0\n\
 0 ok 1\n\
@@ -27,7 +27,7 @@ pub const ONE_SLOT: &str = "experiment one-slot seed 0 budget 1000\n\
 @0 pipe show\n\
 @20000000 end\n";
 
-/// Its report.
+/// The report of `ONE_SLOT`.
 pub const ONE_SLOT_REPORT: &str = "experiment one-slot\n\
 0 ok 0\n\
 0 ok 1\n\
@@ -54,7 +54,7 @@ pub const NEW_RATE: &str = "experiment new-rate seed 0 budget 1000\n\
 @4000000 pipe 1 config bw 2Mbit/s\n\
 @20000000 end\n";
 
-/// Its report.
+/// The report of `NEW_RATE`.
 pub const NEW_RATE_REPORT: &str = "experiment new-rate\n\
 0 ok 0\n\
 0 ok 1\n\
@@ -79,7 +79,7 @@ pub const TWO_PIPES_IN_TURN: &str = "experiment two-pipes-in-turn seed 0 budget 
 @0 inject udp 10.0.0.1 1000 10.0.0.2 2000 1000\n\
 @20000000 end\n";
 
-/// Its report.
+/// The report of `TWO_PIPES_IN_TURN`.
 pub const TWO_PIPES_IN_TURN_REPORT: &str = "experiment two-pipes-in-turn\n\
 0 ok 0\n\
 0 ok 1\n\
@@ -105,7 +105,7 @@ pub const PACKET_BUDGET: &str = "experiment packet-budget seed 0 budget 2\n\
 @0 inject udp 10.0.0.1 1000 10.0.0.2 2000 1000\n\
 @20000000 end\n";
 
-/// Its report.
+/// The report of `PACKET_BUDGET`.
 pub const PACKET_BUDGET_REPORT: &str = "experiment packet-budget\n\
 0 ok 0\n\
 0 ok 1\n\
@@ -132,7 +132,7 @@ pub const LISTINGS: &str = "experiment n seed 0 budget 10\n\
 @0 pipe show\n\
 @9000000 end\n";
 
-/// Its report.
+/// The report of `LISTINGS`.
 pub const LISTINGS_REPORT: &str = "experiment n\n\
 0 ok 0\n\
 0 ok 1\n\
@@ -160,7 +160,7 @@ pub const STEP_BUDGET: &str = "experiment s seed 0 budget 10 steps 2\n\
 @0 show\n\
 @0 end\n";
 
-/// Its report.
+/// The report of `STEP_BUDGET`.
 pub const STEP_BUDGET_REPORT: &str = "experiment s\n\
 0 ok 0\n\
 rule 65535 0 0 deny ip from any to any\n\

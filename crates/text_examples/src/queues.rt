@@ -7,7 +7,7 @@ pub const CODEL_ONE_DROP: &str = "experiment codel-one-drop seed 0 budget 64\n\
 @0 train 1 udp 10.0.0.1 1000 10.0.0.2 2000 1000 count 30 gap 0\n\
 @300000000 end\n";
 
-/// Its report.
+/// The report of `CODEL_ONE_DROP`.
 pub const CODEL_ONE_DROP_REPORT: &str = "experiment codel-one-drop\n\
 0 ok 0\n\
 0 ok 1\n\
@@ -81,7 +81,7 @@ pub const CODEL_TWO_DROPS: &str = "experiment codel-two-drops seed 0 budget 64\n
 @0 train 1 udp 10.0.0.1 1000 10.0.0.2 2000 1000 count 40 gap 0\n\
 @400000000 end\n";
 
-/// Its report.
+/// The report of `CODEL_TWO_DROPS`.
 pub const CODEL_TWO_DROPS_REPORT: &str = "experiment codel-two-drops\n\
 0 ok 0\n\
 0 ok 1\n\

@@ -1,11 +1,11 @@
-//! Dues of an agenda: set, cleared and popped.
+//! Entries of an agenda: set, cleared and popped.
 
 use emu_model::{Class, Source};
 use std::alloc::AllocError;
 use timer_wheel::Agenda;
 
-/// What is done again and again: dues are set and no more, set in one slot and popped, the same over
-/// many slots, set anew, or cleared and set again.
+/// The repeated work: entries are only set, set in one slot and popped, set and popped over many
+/// slots, replaced, or cleared and set again.
 #[derive(Clone, Copy, Debug, PartialEq)]
 pub enum Act {
     Fill,
@@ -15,7 +15,7 @@ pub enum Act {
     Clear,
 }
 
-/// How much is to be done.
+/// The amount of work.
 #[derive(Clone, Copy)]
 pub struct Rounds {
     pub act: Act,
@@ -23,7 +23,7 @@ pub struct Rounds {
     pub times: u32,
 }
 
-// The source of an entry, of owner 0 to 255.
+// Returns the source of an entry. Owners are 0 to 255.
 fn source(index: u32) -> Source {
     Source {
         class: Class::Expiry,
@@ -31,7 +31,7 @@ fn source(index: u32) -> Source {
     }
 }
 
-// Sets a due so long after the clock.
+// Sets an entry that is due `delay` ns after the clock.
 fn put<A: Agenda>(agenda: &mut A, index: u32, delay: u64) -> Result<(), AllocError> {
     let due = agenda.clock().saturating_add(delay);
     if due < agenda.clock() {
@@ -40,7 +40,7 @@ fn put<A: Agenda>(agenda: &mut A, index: u32, delay: u64) -> Result<(), AllocErr
     agenda.set((index % 256) as usize, source(index), due)
 }
 
-// How long after the clock an entry is due: all at one moment, or at moments of their own.
+// Returns how long after the clock an entry is due: all at one time, or each at its own.
 fn delay(act: Act, index: u32) -> u64 {
     if act == Act::Spread {
         return 1 + (index as u64 * 7919 % 65_537) * 1000;
@@ -48,7 +48,7 @@ fn delay(act: Act, index: u32) -> u64 {
     1_000_000
 }
 
-// Sets the due of each source, the last first.
+// Sets an entry for each source, the last source first.
 fn fill<A: Agenda>(agenda: &mut A, rounds: Rounds) -> Result<(), AllocError> {
     for index in (0..rounds.entries).rev() {
         put(agenda, index, delay(rounds.act, index))?;
@@ -56,7 +56,7 @@ fn fill<A: Agenda>(agenda: &mut A, rounds: Rounds) -> Result<(), AllocError> {
     Ok(())
 }
 
-// Pops all that is due, and says how much that was.
+// Pops all entries that are due, and returns their number.
 fn drain<A: Agenda>(agenda: &mut A, entries: u32) -> u64 {
     let mut popped = 0u64;
     for _ in 0..entries {
@@ -77,7 +77,7 @@ fn fill_and_drain<A: Agenda>(agenda: &mut A, rounds: Rounds) -> Result<u64, Allo
     Ok(popped)
 }
 
-// Sets dues anew, one source after the other, where asked after each was cleared.
+// Replaces entries, one source after the other. For `Act::Clear`, clears each source before.
 fn renew<A: Agenda>(agenda: &mut A, rounds: Rounds) -> Result<(), AllocError> {
     if rounds.entries == 0 {
         return Ok(());
@@ -92,7 +92,7 @@ fn renew<A: Agenda>(agenda: &mut A, rounds: Rounds) -> Result<(), AllocError> {
     Ok(())
 }
 
-/// Does the rounds, and says how many dues were popped.
+/// Does the rounds, and returns the number of entries that were popped.
 pub fn popped_of<A: Agenda>(agenda: &mut A, rounds: Rounds) -> Result<u64, AllocError> {
     match rounds.act {
         Act::Fill => {

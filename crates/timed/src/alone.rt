@@ -1,4 +1,4 @@
-//! Flows one after the other, each by itself: what turns are compared with.
+//! Flows that run by themselves, one after the other, for comparison with turns.
 
 ghost use Rattle.packet_store.specs.Own.{own_pocket};
 ghost use Rattle.experiment.specs.Kept.{IsHousedIn};
@@ -9,7 +9,7 @@ use experiment::{Event, Experiment};
 use packet_store::OwnShelf;
 use std::alloc::Global;
 
-// Makes events until there is nothing more to do.
+// Processes events until there is nothing more to do.
 fn advance(experiment: &mut Experiment, shelf: &mut OwnShelf) -> Result<(), Fault>
     requires { IsHousedIn (own_pocket shelf.old) experiment.old }
     ensures { IsHousedIn (own_pocket shelf.new) experiment.new }
@@ -24,7 +24,7 @@ fn advance(experiment: &mut Experiment, shelf: &mut OwnShelf) -> Result<(), Faul
     Ok(())
 }
 
-// Applies each command in its turn.
+// Applies each command in turn.
 fn play(experiment: &mut Experiment, shelf: &mut OwnShelf, plan: &Plan) -> Result<(), Fault>
     requires { IsHousedIn (own_pocket shelf.old) experiment.old }
 {
@@ -37,7 +37,7 @@ fn play(experiment: &mut Experiment, shelf: &mut OwnShelf, plan: &Plan) -> Resul
     Ok(())
 }
 
-// Runs an experiment to its end, and answers how many steps it made.
+// Runs an experiment to its end, and returns the number of its steps.
 fn run(alloc: Global, plan: &Plan) -> Result<u64, Fault> {
     let mut shelf = OwnShelf::new(alloc, plan.spec.budget.packets);
     let Ok(mut experiment) = Experiment::new(alloc, plan.spec) else {
@@ -55,7 +55,7 @@ fn run(alloc: Global, plan: &Plan) -> Result<u64, Fault> {
     Ok(events)
 }
 
-/// Runs so many flows one after the other, and answers how many steps they made.
+/// Runs `residents` flows one after the other, and returns the number of their steps.
 pub fn steps(alloc: Global, residents: usize) -> Result<u64, Fault> {
     let Some(plan) = flow_plan() else {
         return Err(Fault::Range);

@@ -1,19 +1,19 @@
-//! Why the work was not done.
+//! The reasons why the work was not done.
 
 use thiserror::Error;
 
 #[derive(Clone, Copy, Debug, Drop, Error, PartialEq)]
 pub enum Fault {
-    /// The words are none of those of the program.
+    /// The arguments are not those of the program.
     #[error("words: turns, alone, moves, wheel, list, flow, train, drops or read, and their numbers")]
     Words,
-    /// A number is out of its range: 1 to 65,535 packets, and 256 residents at most.
+    /// A number is out of its range: 1 to 65,535 packets, and at most 256 residents.
     #[error("range")]
     Range,
-    /// Memory was refused.
+    /// An allocation failed.
     #[error("memory")]
     Memory,
-    /// An experiment didn't come to its last command.
+    /// An experiment didn't reach its last command.
     #[error("unfinished")]
     Unfinished,
 }

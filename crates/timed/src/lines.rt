@@ -1,11 +1,11 @@
-//! Reports of records such as a run leaves, and scenarios that are read.
+//! Reports of records like those of a run, and scenarios that are parsed.
 
 use control::parse_scenario;
 use emu_model::{Counters, DropCause, FlowNumber, Load, PipeNumber, Record};
 use report::report_text;
 use std::alloc::{AllocError, Global};
 
-/// What the records tell of.
+/// The subject of the records.
 #[derive(Clone, Copy, Debug, PartialEq)]
 pub enum Told {
     Flow,
@@ -13,7 +13,7 @@ pub enum Told {
     Drops,
 }
 
-// What happens to one segment and its acknowledgement, 1.2 ms after the one before.
+// Returns the records of one segment and its acknowledgement, 1.2 ms after the previous one.
 fn of_segment(turn: u32, one: PipeNumber, two: PipeNumber, flow: FlowNumber) -> [Record; 5] {
     let moment = turn as u64 * 1_200_000;
     let packet = turn as u64 * 2;
@@ -51,7 +51,7 @@ fn of_segment(turn: u32, one: PipeNumber, two: PipeNumber, flow: FlowNumber) -> 
     ]
 }
 
-// What happens to one packet, 8 us after the one before: it goes through.
+// Returns the records of one packet that is delivered, 8 us after the previous one.
 fn of_packet(turn: u32, pipe: PipeNumber) -> [Record; 2] {
     let moment = turn as u64 * 8_000;
     let packet = turn as u64;
@@ -70,7 +70,7 @@ fn of_packet(turn: u32, pipe: PipeNumber) -> [Record; 2] {
     ]
 }
 
-// It doesn't.
+// Returns the record of one packet that is dropped, 8 us after the previous one.
 fn of_drop(turn: u32) -> [Record; 1] {
     [Record::PacketDropped {
         moment: turn as u64 * 8_000,
@@ -80,7 +80,7 @@ fn of_drop(turn: u32) -> [Record; 1] {
     }]
 }
 
-// Records of so many lines, or the few less that whole turns make.
+// Returns records for `count` lines, rounded down to whole turns.
 fn records_of(alloc: Global, told: Told, count: u32) -> Result<Vec<Record>, AllocError> {
     let mut records = Vec::new(alloc);
     let (Some(one), Some(two)) = (PipeNumber::new(1), PipeNumber::new(2)) else {
@@ -109,7 +109,8 @@ fn records_of(alloc: Global, told: Told, count: u32) -> Result<Vec<Record>, Allo
     Ok(records)
 }
 
-/// Makes the report of so many lines that tell of this, so often, and says how many bytes that were.
+/// Formats a report of `count` lines about a subject `times` times, and returns the number of
+/// bytes.
 pub fn bytes_of(alloc: Global, told: Told, count: u32, times: u32) -> Result<u64, AllocError> {
     let records = records_of(alloc, told, count)?;
     let counters = Counters {
@@ -126,7 +127,7 @@ pub fn bytes_of(alloc: Global, told: Told, count: u32, times: u32) -> Result<u64
     Ok(bytes)
 }
 
-/// Reads a scenario so often, and says how many experiments that were.
+/// Parses a scenario `times` times, and returns the number of experiments.
 pub fn experiments_of(alloc: Global, text: &[u8], times: u32) -> u64 {
     let mut experiments = 0u64;
     for _ in 0..times {

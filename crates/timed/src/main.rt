@@ -1,18 +1,20 @@
-//! `timed`: a given amount of work of one part, to be timed from outside. It reads no clock.
+//! `timed`: a given amount of work by one part, to be timed from outside. It reads no clock.
 //!
-//! - `timed turns RESIDENTS`: that many flows in one shard, turned to their ends.
+//! - `timed turns RESIDENTS`: RESIDENTS flows in one shard, turned to their ends.
 //! - `timed alone RESIDENTS`: the same flows one after the other, each by itself.
-//! - `timed moves PACKETS TIMES`: one resident with so many packets, packed and taken in again.
-//! - `timed AGENDA WORK ENTRIES TIMES`: dues of an agenda, `wheel` or `list`, where WORK is `fill` (ENTRIES
-//!   dues are set, and no more), `one` (TIMES rounds, in each of which ENTRIES dues are set in one slot, and
-//!   popped), `spread` (the same, over many slots), `set` (TIMES dues of ENTRIES sources in one slot are set
-//!   anew) or `clear` (they are cleared and set again).
-//! - `timed TOLD LINES TIMES`: TIMES times the report of so many lines, where TOLD is `flow` (finishes,
-//!   deliveries of segments and of acknowledgements, windows), `train` (finishes and deliveries) or `drops`
-//!   (of a full queue).
-//! - `timed read TIMES`: a scenario from standard input is read, and its experiments are counted.
+//! - `timed moves PACKETS TIMES`: one resident with PACKETS packets, packed and taken in again
+//!   TIMES times.
+//! - `timed AGENDA WORK ENTRIES TIMES`: entries of an agenda, `wheel` or `list`, where WORK is
+//!   `fill` (ENTRIES entries are only set), `one` (TIMES rounds, in each of which ENTRIES entries
+//!   are set in one slot, and popped), `spread` (like `one`, over many slots), `set` (TIMES entries
+//!   of ENTRIES sources in one slot are replaced) or `clear` (they are cleared and set again).
+//! - `timed TOLD LINES TIMES`: TIMES times the report of LINES lines, where TOLD is `flow`
+//!   (finishes, deliveries of segments and of acknowledgements, windows), `train` (finishes and
+//!   deliveries) or `drops` (by a full queue).
+//! - `timed read TIMES`: a scenario from standard input is parsed TIMES times, and its experiments
+//!   are counted.
 //!
-//! Without words it does a little of each but the last.
+//! Without arguments it does a little of each except the last.
 #![tactic(auto)]
 
 mod agendas;
@@ -31,7 +33,7 @@ use std::io::Read;
 use timer_wheel::{Agenda, ListAgenda, Wheel};
 use words::{Kind, Work, work_of};
 
-// Does an agenda's rounds, and says how many dues were popped.
+// Does the rounds of an agenda, and returns the number of entries that were popped.
 fn count_popped(alloc: Global, kind: Kind, rounds: Rounds) -> anyhow::Result<u64> {
     match kind {
         Kind::Wheel => {
@@ -45,14 +47,14 @@ fn count_popped(alloc: Global, kind: Kind, rounds: Rounds) -> anyhow::Result<u64
     }
 }
 
-// Reads what comes on standard input so often, and says how many experiments that were.
+// Parses standard input `times` times, and returns the number of experiments.
 fn read(rt: &HostRuntime, alloc: Global, times: u32) -> anyhow::Result<u64> {
     let mut text = Vec::new(alloc);
     rt.reader().read_to_end(&mut text)?;
     Ok(experiments_of(alloc, text.as_slice(), times))
 }
 
-// Does the work, and prints how much it was.
+// Does the work, and prints its amount.
 fn work(rt: &HostRuntime, alloc: Global, work: Work) -> anyhow::Result<()> {
     match work {
         Work::Turns { residents } => {
@@ -83,7 +85,7 @@ fn work(rt: &HostRuntime, alloc: Global, work: Work) -> anyhow::Result<()> {
     Ok(())
 }
 
-// A little of each part of a shard's work.
+// Does a little of each part of a shard's work.
 fn turn_a_little(rt: &HostRuntime, alloc: Global) -> anyhow::Result<()> {
     work(rt, alloc, Work::Turns { residents: 3 })?;
     work(rt, alloc, Work::Alone { residents: 3 })?;
@@ -91,7 +93,7 @@ fn turn_a_little(rt: &HostRuntime, alloc: Global) -> anyhow::Result<()> {
     work(rt, alloc, Work::Moves { packets, times })
 }
 
-// A little with each agenda.
+// Does a little with each agenda.
 fn pop_a_little(rt: &HostRuntime, alloc: Global) -> anyhow::Result<()> {
     for kind in [Kind::Wheel, Kind::List] {
         for act in [Act::Fill, Act::One, Act::Spread, Act::Set, Act::Clear] {
@@ -107,7 +109,7 @@ fn pop_a_little(rt: &HostRuntime, alloc: Global) -> anyhow::Result<()> {
     Ok(())
 }
 
-// A little of each report.
+// Does a little of each report.
 fn tell_a_little(rt: &HostRuntime, alloc: Global) -> anyhow::Result<()> {
     for told in [Told::Flow, Told::Train, Told::Drops] {
         let (lines, times) = (10, 2);

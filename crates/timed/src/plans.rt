@@ -1,4 +1,4 @@
-//! What the experiments are given: a flow through two pipes, and a train that is held by one.
+//! The commands of the experiments: a flow through two pipes, and a train that one pipe holds.
 
 ghost use Rattle.std.specs.Prelude.{◌≤◌, ◌^◌};
 
@@ -13,14 +13,14 @@ const HERE: u32 = 0x0a00_0001;
 
 const THERE: u32 = 0x0a00_0002;
 
-/// A command, and its moment (ms).
+/// A command, and its time (ms).
 #[derive(Clone, Copy)]
 pub struct Order {
     milliseconds: u16,
     command: Command,
 }
 
-/// What an experiment is given. The last command is its end.
+/// The specification and the commands of an experiment. The last command is its end.
 #[derive(Clone, Copy)]
 pub struct Plan {
     pub spec: Spec,
@@ -28,7 +28,7 @@ pub struct Plan {
 }
 
 impl Order {
-    /// The command at its moment (ns).
+    /// Returns the command at its time (ns).
     pub fn timed_command(&self) -> Timed
         ensures { result.moment ≤ 10 ^ 15 }
     {
@@ -46,7 +46,7 @@ fn at(milliseconds: u16, command: Command) -> Order {
     }
 }
 
-// A pipe of this bandwidth (bit/s), 0 for none, and this delay (ms).
+// Returns a pipe with this bandwidth (bit/s), or 0 for none, and this delay (ms).
 fn pipe(number: u16, bw: u64, delay: u16) -> Option<Command> {
     Some(Command::Config {
         pipe: PipeNumber::new(number)?,
@@ -67,7 +67,7 @@ fn pipe(number: u16, bw: u64, delay: u16) -> Option<Command> {
     })
 }
 
-// A rule for what goes from one host to another.
+// Returns a rule for packets from one host to another.
 fn between(number: u32, from: u32, to: u32, pipe: u16) -> Option<Command> {
     let host = PrefixLength::new(32)?;
     Some(Command::Add(Rule {
@@ -81,7 +81,7 @@ fn between(number: u32, from: u32, to: u32, pipe: u16) -> Option<Command> {
     }))
 }
 
-// 400 segments of 1000 bytes.
+// Returns a flow of 400 segments of 1000 bytes.
 fn segments() -> Option<Command> {
     Some(Command::Flow {
         number: FlowNumber::new(1)?,
@@ -99,7 +99,7 @@ fn segments() -> Option<Command> {
     })
 }
 
-// So many packets of 1000 bytes at one moment.
+// Returns a train of `count` packets of 1000 bytes at one time.
 fn train(count: u16) -> Option<Command> {
     let packet = SendSpec {
         proto: Protocol::Udp,
@@ -119,7 +119,7 @@ fn train(count: u16) -> Option<Command> {
     })
 }
 
-// So much room for packets, and ample steps.
+// Returns a specification with this packet budget, and ample steps.
 fn spec(packets: u16) -> Option<Spec> {
     let packets = PacketBudget::new(packets)?;
     let steps = StepBudget::new(1_000_000)?;
@@ -127,8 +127,8 @@ fn spec(packets: u16) -> Option<Spec> {
     Some(Spec { seed: 1, budget })
 }
 
-/// A flow of 400 segments there, and its acknowledgements back, that are done long before the end. None
-/// is not given.
+/// Returns a flow of 400 segments there, and its acknowledgements back, which end long before the
+/// experiment. Never returns `None`.
 pub fn flow_plan() -> Option<Plan> {
     let orders = [
         at(0, pipe(1, 10_000_000, 10)?),
@@ -144,7 +144,8 @@ pub fn flow_plan() -> Option<Plan> {
     })
 }
 
-/// So many packets at once into a pipe that holds them past the end. None where they are not 1 to 65,535.
+/// Returns a train of `packets` packets at once into a pipe that holds them past the end, or `None`
+/// if their number is not 1 to 65,535.
 pub fn train_plan(packets: u16) -> Option<Plan> {
     let orders = [
         at(0, pipe(1, 0, 60_000)?),

@@ -9,7 +9,7 @@ use timer_wheel::Wheel;
 
 type Wheels = Shard<Wheel, ListMail>;
 
-/// How many turns ran, and how many packets those held that have ended.
+/// The number of turns, and the number of packets that the ended experiments held.
 #[derive(Clone, Copy)]
 struct Tally {
     turns: u64,
@@ -17,7 +17,7 @@ struct Tally {
 }
 
 impl Tally {
-    // Notes what an experiment left.
+    // Records the dossier of an experiment.
     fn note(&mut self, dossier: &Dossier<ListMail>) -> Result<(), Fault> {
         match dossier.ending() {
             Ending::Ended => {
@@ -30,7 +30,7 @@ impl Tally {
     }
 }
 
-// An experiment to which no command came.
+// Creates an experiment without commands.
 fn parcel(alloc: Global, name: u32, plan: &Plan) -> Result<Parcel<ListMail>, Fault> {
     let Ok(mail) = ListMail::new(alloc) else {
         return Err(Fault::Memory);
@@ -41,7 +41,7 @@ fn parcel(alloc: Global, name: u32, plan: &Plan) -> Result<Parcel<ListMail>, Fau
     }
 }
 
-// Takes so many residents in, whose commands wait in their mails.
+// Takes in `residents` residents whose commands wait in their mails.
 fn fill(alloc: Global, shard: &mut Wheels, residents: usize, plan: &Plan) -> Result<(), Fault> {
     let mut name = 0u32;
     for _ in 0..residents {
@@ -59,7 +59,7 @@ fn fill(alloc: Global, shard: &mut Wheels, residents: usize, plan: &Plan) -> Res
     Ok(())
 }
 
-// Has each resident take its next command.
+// Lets each resident take its next command.
 fn poll_all(shard: &mut Wheels, residents: usize) -> Result<(), Fault> {
     for slot in 0..residents {
         if let Polled::NoMemory(_) = shard.poll(slot) {
@@ -69,7 +69,7 @@ fn poll_all(shard: &mut Wheels, residents: usize) -> Result<(), Fault> {
     Ok(())
 }
 
-// Notes a turn, and answers whether there was one.
+// Records a turn, and returns true if there was one.
 fn is_turn(turned: &Turned<ListMail>, tally: &mut Tally) -> Result<bool, Fault> {
     match turned {
         Turned::Ran(_) => {}
@@ -80,7 +80,7 @@ fn is_turn(turned: &Turned<ListMail>, tally: &mut Tally) -> Result<bool, Fault> 
     Ok(true)
 }
 
-// Turns until nobody has a next command.
+// Turns until no resident has a next command.
 fn turn_all(shard: &mut Wheels, tally: &mut Tally) -> Result<(), Fault> {
     for _ in 0..u64::MAX {
         let turned = shard.turn();
@@ -93,7 +93,8 @@ fn turn_all(shard: &mut Wheels, tally: &mut Tally) -> Result<(), Fault> {
     Ok(())
 }
 
-// Has the residents take all commands but the end, and turns until each waits for that. Then they take it.
+// Lets the residents take all commands except the end, and turns until each waits for the end. Then
+// they take it.
 fn play(shard: &mut Wheels, residents: usize, plan: &Plan, tally: &mut Tally) -> Result<(), Fault> {
     poll_all(shard, residents)?;
     for _ in 1..plan.orders.len() {
@@ -103,7 +104,7 @@ fn play(shard: &mut Wheels, residents: usize, plan: &Plan, tally: &mut Tally) ->
     Ok(())
 }
 
-// Turns so many flows in a shard to their ends.
+// Runs `residents` flows in a shard to their ends.
 fn turn_flows(
     alloc: Global,
     shard: &mut Wheels,
@@ -117,7 +118,7 @@ fn turn_flows(
     Ok(tally.turns)
 }
 
-/// Turns so many flows to their ends, and answers how many turns ran.
+/// Runs `residents` flows in a shard to their ends, and returns the number of turns.
 pub fn turns(alloc: Global, residents: usize) -> Result<u64, Fault> {
     let Some(plan) = flow_plan() else {
         return Err(Fault::Range);
@@ -141,7 +142,7 @@ fn move_once(shard: &mut Wheels) -> Result<(), Fault> {
     Ok(())
 }
 
-// Moves a train that is held so many times, and answers how many packets were moved.
+// Moves a held train `times` times, and returns the number of packets that were moved.
 fn move_train(alloc: Global, shard: &mut Wheels, plan: &Plan, times: u32) -> Result<u64, Fault> {
     fill(alloc, shard, 1, plan)?;
     let mut tally = Tally { turns: 0, held: 0 };
@@ -153,8 +154,8 @@ fn move_train(alloc: Global, shard: &mut Wheels, plan: &Plan, times: u32) -> Res
     Ok(tally.held.saturating_mul(u64::from(times)))
 }
 
-/// Moves a resident that holds so many packets out and in again, so many times, and answers how many packets
-/// were moved.
+/// Moves a resident that holds `packets` packets out and in again, `times` times, and returns the
+/// number of packets that were moved.
 pub fn moves(alloc: Global, packets: u16, times: u32) -> Result<u64, Fault> {
     let Some(plan) = train_plan(packets) else {
         return Err(Fault::Range);

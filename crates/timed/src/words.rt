@@ -1,17 +1,17 @@
-//! The words of the command line.
+//! The arguments of the command line.
 
 use crate::agendas::{Act, Rounds};
 use crate::fault::Fault;
 use crate::lines::Told;
 
-/// Which agenda.
+/// The kind of agenda.
 #[derive(Clone, Copy, Debug, PartialEq)]
 pub enum Kind {
     Wheel,
     List,
 }
 
-/// What is to be done.
+/// The work to do.
 #[derive(Clone, Copy)]
 pub enum Work {
     Turns { residents: usize },
@@ -22,7 +22,7 @@ pub enum Work {
     Read { times: u32 },
 }
 
-// The number that a word spells.
+// Returns the number that an argument spells.
 fn number(word: Option<&String>) -> Result<u32, Fault> {
     let Some(word) = word else {
         return Err(Fault::Words);
@@ -33,12 +33,12 @@ fn number(word: Option<&String>) -> Result<u32, Fault> {
     Ok(number)
 }
 
-// How many residents that is.
+// Returns the number of residents.
 fn residents(words: &[String]) -> Result<usize, Fault> {
     Ok(number(words.get(2))? as usize)
 }
 
-// A resident's packets, and how often it is moved.
+// Returns the number of a resident's packets, and how often it is moved.
 fn moves(words: &[String]) -> Result<Work, Fault> {
     let Ok(packets) = u16::try_from(number(words.get(2))?) else {
         return Err(Fault::Range);
@@ -47,7 +47,7 @@ fn moves(words: &[String]) -> Result<Work, Fault> {
     Ok(Work::Moves { packets, times })
 }
 
-// What a word asks of an agenda.
+// Returns the work that an argument requests of an agenda.
 fn act(word: Option<&String>) -> Result<Act, Fault> {
     let Some(word) = word else {
         return Err(Fault::Words);
@@ -62,7 +62,7 @@ fn act(word: Option<&String>) -> Result<Act, Fault> {
     }
 }
 
-// What is asked of an agenda.
+// Returns the work with an agenda.
 fn agenda(kind: Kind, words: &[String]) -> Result<Work, Fault> {
     let rounds = Rounds {
         act: act(words.get(2))?,
@@ -72,14 +72,14 @@ fn agenda(kind: Kind, words: &[String]) -> Result<Work, Fault> {
     Ok(Work::Agenda { kind, rounds })
 }
 
-// A report of records that tell of this.
+// Returns the work of a report about a subject.
 fn report(told: Told, words: &[String]) -> Result<Work, Fault> {
     let lines = number(words.get(2))?;
     let times = number(words.get(3))?;
     Ok(Work::Report { told, lines, times })
 }
 
-/// What the words ask for, the program's name first.
+/// Returns the work that the arguments (the program's name first) request.
 pub fn work_of(words: &[String]) -> Result<Work, Fault> {
     let Some(word) = words.get(1) else {
         return Err(Fault::Words);

@@ -1,4 +1,4 @@
-//! Which key each source of each owner has.
+//! The key of each source of each owner.
 ghost use Rattle.std.specs.Prelude.{◌≡◌, ℕ, ◌+◌, ◌<◌, ◌≤◌, ◌==◌, ◌&&◌, cond, Option, None, Some, OnOk, IsOk};
 ghost use Rattle.std.proofs.Common.{rules};
 ghost use Rattle.std.specs.Cmp.Rules.{hashing};
@@ -14,7 +14,7 @@ use std::alloc::{AllocError, Global};
 use std::hash::{Hash, Hasher};
 use std::marker::Model;
 
-/// A source of an owner, in numbers, of which a hash is made.
+/// A source of an owner, as numbers that are hashed.
 #[derive(Clone, Copy, PartialEq, Eq)]
 pub struct Whose {
     owner: Owner,
@@ -22,7 +22,7 @@ pub struct Whose {
     number: u32,
 }
 
-/// The key of each source of each owner, by a hash.
+/// The key of each source of each owner, in a hash map.
 #[derive(Drop)]
 pub struct Index {
     map: IndexMap<Whose, usize>,
@@ -37,7 +37,7 @@ impl Model for Index {
     ghost view = { λ i. record { keys = i.map.entries; room = spare i.map } };
 }
 
-// One number is fed to the hash instead of three, since a source is looked up at each of its dues.
+// The hash gets one number instead of three, because a source is looked up at each of its dues.
 impl Hash for Whose {
     ghost use Rattle.std.specs.Prelude.{◌+◌, ◌*◌, ◌^◌, ◌%◌};
 
@@ -54,7 +54,7 @@ impl Hash for Whose {
 }
 
 impl Whose {
-    // A source of an owner in numbers.
+    // Converts a source of an owner into numbers.
     fn of(owner: Owner, source: Source) -> Whose
         ensures { result ≡ whose_of owner source }
     {
@@ -67,7 +67,7 @@ impl Whose {
 }
 
 impl Index {
-    /// No source. Takes no memory.
+    /// Creates an empty index. Does not allocate.
     pub fn new(alloc: Global) -> Index
         ensures { (o : ℕ) (s : Source) → key_in result.keys o s ≡ None }
     {
@@ -76,14 +76,14 @@ impl Index {
         }
     }
 
-    /// The key of a source.
+    /// Returns the key of a source.
     pub fn find(&self, owner: Owner, source: Source) -> Option<usize>
         ensures { result ≡ key_in self.now.keys owner source }
     {
         self.map.get(&Whose::of(owner, source)).copied()
     }
 
-    /// Makes room for one source more.
+    /// Reserves room for one more source.
     pub fn reserve(&mut self) -> Result<(), AllocError>
         ensures ok { OnOk result (0 < self.new.room) }
         ensures succeeds { 0 < self.old.room → IsOk result }
@@ -93,7 +93,7 @@ impl Index {
         self.map.reserve(1)
     }
 
-    /// Gives a source a key, for which there is room.
+    /// Assigns a key to a source. There must be room.
     pub fn insert(&mut self, owner: Owner, source: Source, key: usize)
         requires { 0 < self.old.room }
         ensures keys { (o : ℕ) (s : Source) →
@@ -106,7 +106,7 @@ impl Index {
         };
     }
 
-    /// Takes the key of a source away.
+    /// Removes the key of a source.
     pub fn remove(&mut self, owner: Owner, source: Source)
         ensures keys { (o : ℕ) (s : Source) →
             key_in self.new.keys o s
@@ -116,7 +116,7 @@ impl Index {
         self.map.swap_remove(&Whose::of(owner, source));
     }
 
-    /// Takes all keys away.
+    /// Removes all keys.
     pub fn clear(&mut self)
         ensures keys { (o : ℕ) (s : Source) → key_in self.new.keys o s ≡ None }
         ensures room { self.old.room ≤ self.new.room }

@@ -1,8 +1,8 @@
-//! Agendas: which owner's source is due first, and when (our choice).
+//! Agendas (event queues): which owner's source is due first, and when (our choice).
 //!
-//! `Agenda` says what one is. `ListAgenda` keeps a plain list, for tests, and `Wheel` a timing wheel; callers
-//! that are generic over `Agenda` can't tell them apart. Only `new` and `set` of a source that
-//! has no due take memory, and where it is refused, all is as before.
+//! `Agenda` is the trait. `ListAgenda` keeps a plain list, for tests, and `Wheel` is a timing
+//! wheel; callers that are generic over `Agenda` can't tell them apart. Only `new`, and `set` of a
+//! source that has no due, allocate; if allocation fails, nothing changes.
 #![tactic(auto)]
 
 mod index;
@@ -24,10 +24,10 @@ pub use list::ListAgenda;
 use std::alloc::{AllocError, Global};
 pub use wheel::Wheel;
 
-/// Whose sources they are.
+/// The owner of sources.
 pub type Owner = usize;
 
-/// A source of an owner, and the moment in ns at which it is due.
+/// A source of an owner, and the time in ns at which it is due.
 #[derive(Clone, Copy)]
 pub struct Entry {
     pub due: u64,
@@ -35,7 +35,8 @@ pub struct Entry {
     pub source: Source,
 }
 
-/// A finite map from owner and source to due, and a clock that no due is below. All in ns.
+/// A finite map from owner and source to due, and a clock; no due is before the clock. All times
+/// are in ns.
 pub trait Agenda: Drop {
     /// The due of each source of an owner.
     ghost entries: { Self → ℕ → Source → Option ℕ };
@@ -43,20 +44,22 @@ pub trait Agenda: Drop {
     /// The clock.
     ghost time: { Self → ℕ };
 
-    /// How many further sources get a due without memory.
+    /// The number of further sources that can get a due without an allocation.
     ghost spare: { Self → ℕ };
 
-    /// An empty agenda at a clock.
+    /// Creates an empty agenda with this clock.
     fn new(alloc: Global, clock: u64) -> Result<Self, AllocError>
         ensures empty { IfOk result (λ a. (o : ℕ) → entries a o ≡ no_dues) }
         ensures time { IfOk result (λ a. time a ≡ clock) };
 
-    /// The due of the entry that was the least one last, or the clock that the agenda began with.
+    /// Returns the due of the entry that `move_to_least` returned last, or the clock with which the
+    /// agenda was created. After `rewind` or `restart` it is 0.
     fn clock(&self) -> u64
         ensures clock { result ≡ time self.now }
         ensures low { (o : ℕ) (s : Source) (d : ℕ) → entries self.now o s ≡ Some d → result ≤ d };
 
-    /// Sets the due of a source, in place of the one that it had. A source that had one needs no memory.
+    /// Sets the due of a source, and replaces the one that it had. Does not allocate if the source
+    /// had one.
     fn set(&mut self, owner: Owner, source: Source, due: u64) -> Result<(), AllocError>
         requires { time self.old ≤ due }
         ensures ok { OnOk result
@@ -69,21 +72,22 @@ pub trait Agenda: Drop {
         ensures spare { spare self.old ≤ spare self.new + 1 }
         ensures kept { IsSome (entries self.old owner source) → spare self.old ≤ spare self.new };
 
-    /// Takes a source's entry away, where it has one.
+    /// Removes a source's entry, if it has one.
     fn clear(&mut self, owner: Owner, source: Source)
         ensures cleared { entries self.new owner ≡ without_due (entries self.old owner) source }
         ensures others { (o : ℕ) → o ≢ owner → entries self.new o ≡ entries self.old o }
         ensures time { time self.new ≡ time self.old }
         ensures spare { spare self.old ≤ spare self.new };
 
-    /// Takes all entries of an owner away.
+    /// Removes all entries of an owner.
     fn clear_owner(&mut self, owner: Owner)
         ensures cleared { entries self.new owner ≡ no_dues }
         ensures others { (o : ℕ) → o ≢ owner → entries self.new o ≡ entries self.old o }
         ensures time { time self.new ≡ time self.old }
         ensures spare { spare self.old ≤ spare self.new };
 
-    /// Tells the least entry by due, owner, class and number, and moves the clock to its due. It stays.
+    /// Returns the first entry (by due, owner, class and number) without removing it, and advances
+    /// the clock to its due.
     fn move_to_least(&mut self) -> Option<Entry>
         ensures was { IfSome result (λ e. entries self.old e.owner e.source ≡ Some e.due) }
         ensures least { IfSome result
@@ -96,7 +100,8 @@ pub trait Agenda: Drop {
         ensures stays { IfNone result (time self.new ≡ time self.old) }
         ensures spare { spare self.old ≤ spare self.new };
 
-    /// Takes the least entry by due, owner, class and number, and moves the clock to its due.
+    /// Removes the first entry (by due, owner, class and number), returns it, and advances the
+    /// clock to its due.
     fn pop_least(&mut self) -> Option<Entry>
         ensures was { IfSome result (λ e. entries self.old e.owner e.source ≡ Some e.due) }
         ensures least { IfSome result
@@ -118,13 +123,13 @@ pub trait Agenda: Drop {
         Some(entry)
     }
 
-    /// Puts the clock to 0. All entries stay.
+    /// Sets the clock to 0. Keeps all entries.
     fn rewind(&mut self)
         ensures entries { (o : ℕ) → entries self.new o ≡ entries self.old o }
         ensures time { time self.new ≡ 0 }
         ensures spare { spare self.old ≤ spare self.new };
 
-    /// Takes all entries away, and puts the clock to 0.
+    /// Removes all entries, and sets the clock to 0.
     fn restart(&mut self)
         ensures empty { (o : ℕ) → entries self.new o ≡ no_dues }
         ensures time { time self.new ≡ 0 }
@@ -132,7 +137,7 @@ pub trait Agenda: Drop {
 }
 
 impl Entry {
-    // By due, then owner, class and number.
+    // Returns true if this entry is before another: by due, then owner, class and number.
     fn is_before(&self, other: &Entry) -> bool
         ensures { result ≡ is_before self.now other.now }
     {
@@ -145,7 +150,7 @@ impl Entry {
         self.source < other.source
     }
 
-    // It is of this source of this owner.
+    // Returns true if this is the entry of this source of this owner.
     fn is_of(&self, owner: Owner, source: Source) -> bool
         ensures { result ≡ is_of owner source self.now }
     {

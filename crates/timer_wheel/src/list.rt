@@ -1,4 +1,4 @@
-//! An agenda that is one list: the plainest, for tests.
+//! An agenda that is one list: the simplest one, for tests.
 ghost use Rattle.std.specs.Prelude.{◌≡◌, ◌+◌, ◌<◌, ◌≤◌, ◌⊎◌, true, not, filter, [], ◌∷◌, ◌++◌, vec_len, vec_capacity};
 ghost use Rattle.std.specs.List.{list_any};
 ghost use Rattle.timer_wheel.specs.Rows.{row_of, is_of, least_of};
@@ -8,7 +8,7 @@ use emu_model::Source;
 use std::alloc::{AllocError, Global};
 use std::marker::Model;
 
-/// All entries in one list, in no order. Each call but `clock` visits them all.
+/// All entries in one list, in no order. Each call except `clock` visits all of them.
 #[derive(Drop)]
 pub struct ListAgenda {
     items: Vec<Entry>,
@@ -30,7 +30,7 @@ impl Model for ListAgenda {
     ghost invariant = { λ a. IsAtOrAbove a.clock (row_of a.items.items) };
 }
 
-// The least entry.
+// Returns the first entry.
 fn least(items: &[Entry]) -> Option<Entry>
     ensures { result ≡ least_of items.now }
 {
@@ -44,7 +44,7 @@ fn least(items: &[Entry]) -> Option<Entry>
     Some(least)
 }
 
-// Keeps the entries that aren't of this source of this owner.
+// Removes the entries of this source of this owner.
 fn remove(items: &mut Vec<Entry>, owner: Owner, source: Source)
     ensures items { items.new.items ≡ filter (λ e. not (is_of owner source e)) items.old.items }
     ensures len { vec_len items.new ≤ vec_len items.old }
@@ -55,14 +55,14 @@ fn remove(items: &mut Vec<Entry>, owner: Owner, source: Source)
     items.retain(|entry| !entry.is_of(owner, source));
 }
 
-// Whether a source of an owner has an entry.
+// Returns true if a source of an owner has an entry.
 fn has(items: &[Entry], owner: Owner, source: Source) -> bool
     ensures { result ≡ list_any (is_of owner source) items.now }
 {
     items.iter().any(|entry| entry.is_of(owner, source))
 }
 
-// Puts an entry in place of those of its source. There is room, or there is one of its source.
+// Replaces the entries of a source by one entry. There must be room, or an entry of the source.
 fn replace(items: &mut Vec<Entry>, entry: Entry)
     requires { vec_len items.old < vec_capacity items.old
         ⊎ (list_any (is_of entry.owner entry.source) items.old.items ≡ true) }

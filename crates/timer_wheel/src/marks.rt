@@ -1,4 +1,4 @@
-//! Which of 2048 slots hold something, one bit for each.
+//! The slots, of 2048, that aren't empty, with one bit for each slot.
 ghost use Rattle.std.specs.Prelude.{◌≡◌, ℕ, ◌<◌, IfSome, IfNone, cond, ◌==◌};
 ghost use Rattle.timer_wheel.specs.Marks.{mark_at};
 
@@ -11,7 +11,7 @@ pub struct Marks {
 }
 
 impl Marks {
-    /// No slot is marked.
+    /// Creates marks with no slot marked.
     pub fn new() -> Marks
         ensures { (q : ℕ) → mark_at result q ≡ 0 }
     {
@@ -26,7 +26,7 @@ impl Marks {
         self.words[place / 64] |= 1 << (place % 64);
     }
 
-    /// Takes the mark of a slot away.
+    /// Removes the mark of a slot.
     pub fn unmark(&mut self, place: usize)
         requires { place < 2048 }
         ensures { (q : ℕ) → mark_at self.new q ≡ cond (q == place) 0 (mark_at self.old q) }
@@ -34,7 +34,7 @@ impl Marks {
         self.words[place / 64] &= !(1 << (place % 64));
     }
 
-    /// The first slot that is marked.
+    /// Returns the first slot that is marked.
     pub fn first(&self) -> Option<usize>
         ensures within { IfSome result (λ p. p < 2048) }
         ensures marked { IfSome result (λ p. mark_at self.now p ≡ 1) }

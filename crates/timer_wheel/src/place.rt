@@ -1,4 +1,4 @@
-//! Where an entry stands.
+//! The place of an entry.
 ghost use Rattle.std.specs.Prelude.{◌≡◌, ◌<◌};
 ghost use Rattle.timer_wheel.specs.Places.{place_of};
 
@@ -6,8 +6,8 @@ const LEVELS: usize = 8;
 
 const SLOTS: usize = 256;
 
-/// The place of a due at a clock, as level * 256 + byte: the highest level at which their bytes differ,
-/// level 0 where none does, and that byte of the due.
+/// Returns the place of a due at a clock, as level * 256 + byte: the highest level at which their
+/// bytes differ, or level 0 if none does, and that byte of the due.
 #[tactic(auto, using(crate::proofs::PlaceFacts::place_start, crate::proofs::PlaceFacts::place_near, crate::proofs::PlaceFacts::place_step, crate::proofs::PlaceFacts::place_last))]
 pub fn place(clock: u64, due: u64) -> usize
     ensures place { result ≡ place_of clock due }

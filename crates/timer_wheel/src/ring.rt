@@ -1,14 +1,14 @@
-//! Lists of keys, linked both ways.
+//! Doubly linked lists of keys.
 ghost use Rattle.std.specs.Prelude.{◌≡◌, ◌≢◌, ℕ, ◌+◌, ◌<◌, ◌==◌, [], ◌∷◌, ◌++◌, cond, length, slice_get, slice_set, Some, IfOk, OnOk, OnErr, IfSome, IfNone, IsTrue};
 ghost use Rattle.timer_wheel.specs.Rings.{next_of, prev_of, list_of};
 
 use std::alloc::{AllocError, Global};
 use std::marker::Model;
 
-/// How many lists a ring has.
+/// The number of lists in a ring.
 pub const LISTS: usize = 2051;
 
-// A key's list, and the keys beside it there.
+// A key's list, and its neighbours there.
 #[derive(Clone, Copy)]
 struct Link {
     list: usize,
@@ -16,10 +16,11 @@ struct Link {
     prev: usize,
 }
 
-/// Keys from 0 up, each in one of 2051 lists. Seen as the list of each key.
+/// Keys from 0 up, each in one of 2051 lists. Contracts see the list of each key.
 ///
-/// Each list is a circle through a head of its own, and the heads stand before the keys. So a key goes to
-/// another list by four links, and no list has an end to be looked at.
+/// Each list is a circle through a head of its own, and the heads are stored before the keys.
+/// Moving a key to another list therefore changes four links, and no list has an end that needs a
+/// check.
 #[derive(Drop)]
 pub struct Ring {
     links: Vec<Link>,
@@ -37,7 +38,7 @@ impl Model for Ring {
     ghost invariant = { λ r. IsLinked r.links.items };
 }
 
-// Says what comes behind a link.
+// Sets the successor of a link.
 fn set_next(links: &mut Vec<Link>, at: usize, next: usize)
     requires { at < length links.old.items }
     ensures next { (q : ℕ) →
@@ -49,7 +50,7 @@ fn set_next(links: &mut Vec<Link>, at: usize, next: usize)
     links[at].next = next;
 }
 
-// Says what comes before a link.
+// Sets the predecessor of a link.
 fn set_prev(links: &mut Vec<Link>, at: usize, prev: usize)
     requires { at < length links.old.items }
     ensures next { (q : ℕ) → next_of links.new.items q ≡ next_of links.old.items q }
@@ -61,7 +62,7 @@ fn set_prev(links: &mut Vec<Link>, at: usize, prev: usize)
     links[at].prev = prev;
 }
 
-// Says in which list a link is.
+// Sets the list of a link.
 fn set_list(links: &mut Vec<Link>, at: usize, list: usize)
     requires { at < length links.old.items }
     ensures next { (q : ℕ) → next_of links.new.items q ≡ next_of links.old.items q }
@@ -73,7 +74,7 @@ fn set_list(links: &mut Vec<Link>, at: usize, list: usize)
     links[at].list = list;
 }
 
-// Lets each of two links go on where the other did. So two circles become one, or one becomes two.
+// Swaps the successors of two links, which joins two circles into one, or splits one into two.
 fn cross(links: &mut Vec<Link>, a: usize, b: usize)
     requires a_in { a < length links.old.items }
     requires b_in { b < length links.old.items }
@@ -96,7 +97,7 @@ fn cross(links: &mut Vec<Link>, a: usize, b: usize)
     set_prev(links, after_a, b);
 }
 
-// What comes behind a link.
+// Returns the successor of a link.
 fn next(links: &Vec<Link>, at: usize) -> usize
     requires { at < length links.now.items }
     ensures { result ≡ next_of links.now.items at }
@@ -104,7 +105,7 @@ fn next(links: &Vec<Link>, at: usize) -> usize
     links[at].next
 }
 
-// What comes before a link.
+// Returns the predecessor of a link.
 fn prev(links: &Vec<Link>, at: usize) -> usize
     requires { at < length links.now.items }
     ensures { result ≡ prev_of links.now.items at }
@@ -112,7 +113,7 @@ fn prev(links: &Vec<Link>, at: usize) -> usize
     links[at].prev
 }
 
-// The list of a link.
+// Returns the list of a link.
 fn list(links: &Vec<Link>, at: usize) -> usize
     requires { at < length links.now.items }
     ensures { result ≡ list_of links.now.items at }
@@ -121,7 +122,7 @@ fn list(links: &Vec<Link>, at: usize) -> usize
 }
 
 impl Ring {
-    /// No key.
+    /// Creates a ring without keys.
     pub fn new(alloc: Global) -> Result<Ring, AllocError>
         ensures { IfOk result (λ r. r ≡ []) }
     {
@@ -136,14 +137,14 @@ impl Ring {
         Ok(Ring { links })
     }
 
-    /// How many keys there are.
+    /// Returns the number of keys.
     pub fn len(&self) -> usize
         ensures { result ≡ length self.now }
     {
         self.links.len() - LISTS
     }
 
-    /// The list of a key.
+    /// Returns the list of a key.
     pub fn list(&self, key: usize) -> usize
         requires { key < length self.now }
         ensures { slice_get self.now key ≡ Some result }
@@ -152,7 +153,7 @@ impl Ring {
         list(links, LISTS + key)
     }
 
-    /// A key of a list.
+    /// Returns a key of a list.
     pub fn first(&self, list: usize) -> Option<usize>
         requires { list < 2051 }
         ensures some { IfSome result (λ k. slice_get self.now k ≡ Some list) }
@@ -166,7 +167,7 @@ impl Ring {
         Some(behind - LISTS)
     }
 
-    /// Whether a list has no more than one key.
+    /// Returns true only if a list has at most one key.
     pub fn is_alone(&self, list: usize) -> bool
         requires { list < 2051 }
         ensures { IsTrue result → (j k : ℕ) → slice_get self.now j ≡ Some list →
@@ -180,7 +181,7 @@ impl Ring {
         true
     }
 
-    /// Makes one key more, in a list.
+    /// Adds one more key, in a list.
     pub fn add(&mut self, list: usize) -> Result<(), AllocError>
         requires { list < 2051 }
         ensures ok { OnOk result (self.new ≡ self.old ++ list ∷ []) }
@@ -196,7 +197,7 @@ impl Ring {
         Ok(())
     }
 
-    /// Puts a key into a list.
+    /// Moves a key to a list.
     pub fn put(&mut self, key: usize, list: usize)
         requires known { key < length self.old }
         requires list { list < 2051 }

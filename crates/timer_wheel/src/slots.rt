@@ -1,4 +1,4 @@
-//! The slots of all levels, and three lists beside them.
+//! The slots of all levels, and three other lists.
 ghost use Rattle.std.specs.Prelude.{◌≡◌, ◌≢◌, ℕ, ◌<◌, [], ◌∷◌, ◌++◌, length, slice_get, slice_set, Some, IfOk, OnOk, OnErr, IfSome, IfNone, IsTrue};
 ghost use Rattle.timer_wheel.specs.Marks.{mark_at};
 
@@ -7,19 +7,19 @@ use crate::ring::Ring;
 use std::alloc::{AllocError, Global};
 use std::marker::Model;
 
-/// How many slots there are: lists from 0 up.
+/// The number of slots: lists from 0 up.
 pub const SLOTS: usize = 2048;
 
-/// The list of keys whose entries are ties: due now, and in order.
+/// The list of keys whose entries are ties: due now, and sorted.
 pub const TIES: usize = 2048;
 
-/// The list of keys that are on their way from slot to slot.
+/// The list of keys in transit from slot to slot.
 pub const LOOSE: usize = 2049;
 
-/// The list of keys that hold nothing.
+/// The list of keys without an entry.
 pub const FREE: usize = 2050;
 
-/// Keys in lists, and a mark for each slot that isn't empty. Seen as the list of each key.
+/// Keys in lists, and a mark for each slot that isn't empty. Contracts see the list of each key.
 #[derive(Drop)]
 pub struct Slots {
     keys: Ring,
@@ -38,7 +38,7 @@ impl Model for Slots {
     ghost invariant = { λ s. IsMarked s.keys s.marks };
 }
 
-// Marks a slot where it has a key, and takes its mark where it has none. Another list has no mark.
+// Marks a slot if it has a key, and removes its mark if it has none. Other lists have no mark.
 fn renew(marks: &mut Marks, keys: &Ring, list: usize)
     ensures other { (q : ℕ) → q ≢ list → mark_at marks.new q ≡ mark_at marks.old q }
     ensures there { list < 2048 → mark_at marks.new list ≡ 1 →
@@ -57,7 +57,7 @@ fn renew(marks: &mut Marks, keys: &Ring, list: usize)
 }
 
 impl Slots {
-    /// No key.
+    /// Creates slots without keys.
     pub fn new(alloc: Global) -> Result<Slots, AllocError>
         ensures { IfOk result (λ s. s ≡ []) }
     {
@@ -67,14 +67,14 @@ impl Slots {
         })
     }
 
-    /// How many keys there are.
+    /// Returns the number of keys.
     pub fn len(&self) -> usize
         ensures { result ≡ length self.now }
     {
         self.keys.len()
     }
 
-    /// The list of a key.
+    /// Returns the list of a key.
     pub fn list(&self, key: usize) -> usize
         requires { key < length self.now }
         ensures { slice_get self.now key ≡ Some result }
@@ -82,7 +82,7 @@ impl Slots {
         self.keys.list(key)
     }
 
-    /// The first slot that has a key.
+    /// Returns the first slot that has a key.
     pub fn first(&self) -> Option<usize>
         ensures within { IfSome result (λ p. p < 2048) }
         ensures filled { IfSome result (λ p. (k : ℕ) × (slice_get self.now k ≡ Some p)) }
@@ -94,7 +94,7 @@ impl Slots {
         self.marks.first()
     }
 
-    /// A key of a list.
+    /// Returns a key of a list.
     pub fn first_of(&self, list: usize) -> Option<usize>
         requires { list < 2051 }
         ensures some { IfSome result (λ k. slice_get self.now k ≡ Some list) }
@@ -104,7 +104,7 @@ impl Slots {
         self.keys.first(list)
     }
 
-    /// Whether a list has no more than one key.
+    /// Returns true only if a list has at most one key.
     pub fn is_alone(&self, list: usize) -> bool
         requires { list < 2051 }
         ensures { IsTrue result → (j k : ℕ) → slice_get self.now j ≡ Some list →
@@ -113,7 +113,7 @@ impl Slots {
         self.keys.is_alone(list)
     }
 
-    /// Makes one key more, which holds nothing.
+    /// Adds one more key, without an entry.
     pub fn add(&mut self) -> Result<(), AllocError>
         ensures ok { OnOk result (self.new ≡ self.old ++ 2050 ∷ []) }
         ensures err { OnErr result (self.new ≡ self.old) }
@@ -121,7 +121,7 @@ impl Slots {
         self.keys.add(FREE)
     }
 
-    /// Puts a key into a list.
+    /// Moves a key to a list.
     pub fn put(&mut self, key: usize, list: usize)
         requires known { key < length self.old }
         requires list { list < 2051 }

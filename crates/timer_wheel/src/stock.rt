@@ -1,4 +1,4 @@
-//! Entries under keys: by source, by owner, and in slots.
+//! Entries by key: indexed by source and by owner, and in slots.
 ghost use Rattle.std.specs.Prelude.{◌≡◌, ◌≢◌, ℕ, ◌<◌, ◌≤◌, ◌+◌, ◌==◌, ◌&&◌, ◌%◌, ◌⊎◌, cond, length, count_by, slice_get, slice_set, Option, Some, None, IfOk, OnOk, IfSome, IfNone, IsTrue, IsOk, IsSome};
 ghost use Rattle.emu_model.specs.declared.sources.Source.{Source};
 ghost use Rattle.emu_model.specs.RunLaws.{same_source};
@@ -13,12 +13,12 @@ use emu_model::{Source, unreachable_unchecked};
 use std::alloc::{AllocError, Global};
 use std::marker::Model;
 
-/// Entries, each under a key. The key stands in one of the slots, and in a list of its owner's.
+/// Entries, each with a key. The key is in one of the slots, and in a list of its owner's.
 #[derive(Drop)]
 pub struct Stock {
     entries: Vec<Entry>,
     slots: Slots,
-    // The list of an owner is its remainder by 2048, so other owners may share it.
+    // The list of an owner is the owner's remainder by 2048, so other owners may share it.
     owners: Ring,
     index: Index,
 }
@@ -46,7 +46,7 @@ impl Model for Stock {
         }) };
 }
 
-// What stands under a key that holds no entry.
+// Returns the placeholder of a key without an entry.
 fn nothing() -> Entry {
     Entry {
         due: 0,
@@ -55,7 +55,7 @@ fn nothing() -> Entry {
     }
 }
 
-// Makes more entries than so many.
+// Makes the number of entries exceed `len`.
 fn grow_entries(entries: &mut Vec<Entry>, len: usize) -> Result<(), AllocError>
     requires { len ≤ length entries.old.items }
     ensures more { IsMore entries.old.items entries.new.items }
@@ -68,7 +68,7 @@ fn grow_entries(entries: &mut Vec<Entry>, len: usize) -> Result<(), AllocError>
     Ok(())
 }
 
-// Makes more keys in lists by owner than so many.
+// Makes the number of keys in the lists by owner exceed `len`.
 fn grow_owners(owners: &mut Ring, len: usize) -> Result<(), AllocError>
     requires { len ≤ length owners.old }
     ensures more { IsMore owners.old owners.new }
@@ -83,7 +83,7 @@ fn grow_owners(owners: &mut Ring, len: usize) -> Result<(), AllocError>
     Ok(())
 }
 
-// Makes one key more, which holds nothing.
+// Adds one more key, without an entry.
 fn grow(entries: &mut Vec<Entry>, owners: &mut Ring, slots: &mut Slots) -> Result<(), AllocError>
     requires entries { length slots.old ≤ length entries.old.items }
     requires owners { length slots.old ≤ length owners.old }
@@ -99,7 +99,7 @@ fn grow(entries: &mut Vec<Entry>, owners: &mut Ring, slots: &mut Slots) -> Resul
 }
 
 impl Stock {
-    /// No entry.
+    /// Creates a stock without entries.
     pub fn new(alloc: Global) -> Result<Stock, AllocError>
         ensures rows { IfOk result (λ b. (o : ℕ) (s : Source) → due_of b o s ≡ None) }
         ensures holds { IfOk result
@@ -113,14 +113,14 @@ impl Stock {
         })
     }
 
-    /// What always holds of entries and keys.
+    /// Reveals the invariant of entries and keys.
     pub fn reveal_invariant(&self)
         ensures { IsStock self.now }
     {
         let _ = &self.entries;
     }
 
-    /// The key of a source.
+    /// Returns the key of a source.
     pub fn find(&self, owner: Owner, source: Source) -> Option<usize>
         ensures held { IfSome result
             (λ k. (e : Entry) × (p : ℕ) × Holds self.now.entries self.now.slots k e p
@@ -131,7 +131,7 @@ impl Stock {
         self.index.find(owner, source)
     }
 
-    /// The entry of a key.
+    /// Returns the entry of a key.
     pub fn entry(&self, key: usize) -> Entry
         requires { key < length self.now.slots }
         ensures { slice_get self.now.entries key ≡ Some result }
@@ -139,7 +139,7 @@ impl Stock {
         self.entries[key]
     }
 
-    /// The list of a key.
+    /// Returns the list of a key.
     pub fn list(&self, key: usize) -> usize
         requires { key < length self.now.slots }
         ensures { slice_get self.now.slots key ≡ Some result }
@@ -147,14 +147,14 @@ impl Stock {
         self.slots.list(key)
     }
 
-    /// How many keys there are.
+    /// Returns the number of keys.
     pub fn len(&self) -> usize
         ensures { result ≡ length self.now.slots }
     {
         self.slots.len()
     }
 
-    /// The first slot that has a key.
+    /// Returns the first slot that has a key.
     pub fn first(&self) -> Option<usize>
         ensures within { IfSome result (λ p. p < 2048) }
         ensures filled { IfSome result (λ p. (k : ℕ) × (slice_get self.now.slots k ≡ Some p)) }
@@ -166,7 +166,7 @@ impl Stock {
         self.slots.first()
     }
 
-    /// A key of a list.
+    /// Returns a key of a list.
     pub fn first_of(&self, list: usize) -> Option<usize>
         requires { list < 2051 }
         ensures some { IfSome result (λ k. slice_get self.now.slots k ≡ Some list) }
@@ -176,7 +176,7 @@ impl Stock {
         self.slots.first_of(list)
     }
 
-    /// Whether a list has no more than one key.
+    /// Returns true only if a list has at most one key.
     pub fn is_alone(&self, list: usize) -> bool
         requires { list < 2051 }
         ensures { IsTrue result → (j k : ℕ) → slice_get self.now.slots j ≡ Some list →
@@ -185,7 +185,7 @@ impl Stock {
         self.slots.is_alone(list)
     }
 
-    /// Puts a key that holds an entry into another list.
+    /// Moves a key that has an entry to another list.
     pub fn put(&mut self, key: usize, list: usize)
         requires holds { (e : Entry) × (p : ℕ) × Holds self.old.entries self.old.slots key e p }
         requires list { list < 2050 }
@@ -194,7 +194,7 @@ impl Stock {
         self.slots.put(key, list);
     }
 
-    /// Changes the due of a key's entry, and puts it into another list.
+    /// Changes the due of a key's entry, and moves the key to another list.
     pub fn reset(&mut self, key: usize, due: u64, list: usize)
         requires holds { (e : Entry) × (p : ℕ) × Holds self.old.entries self.old.slots key e p }
         requires list { list < 2050 }
@@ -209,7 +209,7 @@ impl Stock {
         self.slots.put(key, list);
     }
 
-    /// Makes room for one entry more.
+    /// Reserves room for one more entry.
     pub fn make_room(&mut self) -> Result<(), AllocError>
         ensures ok { OnOk result (0 < room_of self.new) }
         ensures succeeds { 0 < room_of self.old → IsOk result }
@@ -226,7 +226,7 @@ impl Stock {
         Ok(())
     }
 
-    /// Takes in an entry of a source that has none. There must be room.
+    /// Adds an entry for a source that has none. There must be room.
     pub fn insert(&mut self, entry: Entry, list: usize)
         requires room { 0 < room_of self.old }
         requires absent { due_of self.old entry.owner entry.source ≡ None }
@@ -248,7 +248,7 @@ impl Stock {
         self.slots.put(key, list);
     }
 
-    /// Takes the entry of a key away.
+    /// Removes the entry of a key, and returns it.
     pub fn remove(&mut self, key: usize) -> Entry
         requires { (e : Entry) × (p : ℕ) × Holds self.old.entries self.old.slots key e p }
         ensures entry { slice_get self.old.entries key ≡ Some result }
@@ -267,7 +267,7 @@ impl Stock {
         entry
     }
 
-    // A key of a list by owner.
+    // Returns a key of a list by owner.
     fn owned_key(&self, list: usize) -> Option<usize>
         requires { list < 2050 }
         ensures some { IfSome result (λ k. slice_get self.now.owners k ≡ Some list) }
@@ -278,7 +278,7 @@ impl Stock {
         self.owners.first(list)
     }
 
-    // Puts a key into another list by owner: that of its own, or the one for keys on their way.
+    // Moves a key to another list by owner: its owner's, or the one for keys in transit.
     fn lay(&mut self, key: usize, list: usize)
         requires holds { (e : Entry) × (p : ℕ) × Holds self.old.entries self.old.slots key e p
             × ((list ≡ e.owner % 2048) ⊎ (list ≡ 2049)) }
@@ -287,7 +287,7 @@ impl Stock {
         self.owners.put(key, list);
     }
 
-    /// Takes all entries of an owner away.
+    /// Removes all entries of an owner.
     pub fn remove_owner(&mut self, owner: Owner)
         ensures holds { (k : ℕ) (e : Entry) (p : ℕ) → Holds self.new.entries self.new.slots k e p →
             Holds self.old.entries self.old.slots k e p }
@@ -315,7 +315,7 @@ impl Stock {
         self.reveal_invariant();
     }
 
-    /// Takes all entries away.
+    /// Removes all entries.
     pub fn clear(&mut self)
         ensures holds { (k : ℕ) (e : Entry) (p : ℕ) →
             ¬ Holds self.new.entries self.new.slots k e p }

@@ -1,4 +1,4 @@
-//! The sources that are due at one moment, in order.
+//! The sources that are due at one time, in order.
 ghost use Rattle.std.specs.Prelude.{◌≡◌, ◌+◌, ◌<◌, [], ◌∷◌, ◌++◌, length, slice_get, IsTrue, IsFalse};
 ghost use Rattle.std.specs.List.Sorted.{IsPermutation};
 ghost use Rattle.timer_wheel.specs.Ties.{IsRising};
@@ -15,7 +15,7 @@ pub struct Tie {
     pub source: Source,
 }
 
-/// Sources of owners, and how many of them were passed.
+/// Sources of owners, and the number of those that were passed.
 #[derive(Drop)]
 pub struct Ties {
     items: Vec<Tie>,
@@ -31,7 +31,7 @@ impl Model for Ties {
 }
 
 impl Ties {
-    /// No source. Takes no memory.
+    /// Creates an empty list. Does not allocate.
     pub fn new(alloc: Global) -> Ties
         ensures { result ≡ record { items = []; next = 0 } }
     {
@@ -41,7 +41,7 @@ impl Ties {
         }
     }
 
-    /// Makes room for so many sources, if there is memory.
+    /// Reserves room for `count` sources, if there is memory.
     pub fn make_room(&mut self, count: usize)
         ensures { self.new ≡ self.old }
     {
@@ -51,7 +51,7 @@ impl Ties {
         let _ = self.items.reserve(count - self.items.len());
     }
 
-    /// The first source that was not passed.
+    /// Returns the first source that was not passed.
     pub fn top(&self) -> Option<Tie>
         ensures { result ≡ slice_get self.now.items self.now.next }
     {
@@ -66,7 +66,7 @@ impl Ties {
         self.next += 1;
     }
 
-    /// Takes all sources away.
+    /// Removes all sources.
     pub fn clear(&mut self)
         ensures { self.new ≡ record { items = []; next = 0 } }
     {
@@ -74,7 +74,7 @@ impl Ties {
         self.next = 0;
     }
 
-    /// Takes in a source at the end, where there is room for it, and says whether there was.
+    /// Adds a source at the end if there is room, and returns true if there was.
     pub fn push(&mut self, tie: Tie) -> bool
         ensures pushed { IsTrue result →
             self.new ≡ record self.old { items = self.old.items ++ tie ∷ [] } }
@@ -87,7 +87,7 @@ impl Ties {
         true
     }
 
-    /// Puts the sources in order: by owner, class and number.
+    /// Sorts the sources by owner, class and number.
     pub fn sort(&mut self)
         ensures rising { IsRising self.new.items }
         ensures permutation { IsPermutation self.old.items self.new.items }

@@ -1,4 +1,5 @@
-//! A hierarchical timing wheel, after Varghese and Lauck, "Hashed and hierarchical timing wheels" (1987).
+//! A hierarchical timing wheel, after Varghese and Lauck, "Hashed and hierarchical timing wheels"
+//! (1987).
 ghost use Rattle.std.specs.Prelude.{◌≡◌, ◌≢◌, ℕ, ◌<◌, ◌≤◌, ◌==◌, ◌&&◌, ◌⊎◌, map, false, Some, None, length, slice_get, slice_set, IfSome, IfNone, MatchOption, IsTrue, IsFalse};
 ghost use Rattle.emu_model.specs.declared.sources.Source.{Source};
 ghost use Rattle.timer_wheel.specs.declared.Entry.{Entry};
@@ -17,23 +18,27 @@ use emu_model::{Source, unreachable_unchecked};
 use std::alloc::{AllocError, Global};
 use std::marker::Model;
 
-/// An agenda of 8 levels of 256 slots. All moments are in ns.
+/// An agenda of 8 levels of 256 slots. All times are in ns.
 ///
-/// An entry stands at the highest level at which the bytes of its due and of the clock differ, level 0
-/// where none does, in the slot of that byte of its due. So the least due is in the first slot that holds
-/// something, and where the clock moves to it, only that slot's entries go elsewhere: down.
+/// An entry is at the highest level at which the bytes of its due and of the clock differ, or at
+/// level 0 if none does, in the slot of that byte of its due. The first due is therefore in the
+/// first slot that isn't empty, and when the clock advances to it, only that slot's entries move:
+/// down.
 ///
-/// - `set` and `clear` move one key from list to list, whatever else is there, and look into the index, which
-///   is by a hash. `set` of a source that has a due takes no memory.
-/// - `pop_least` looks at 32 words at most. Where the clock comes to a slot, it goes over its entries, and an
-///   entry goes down 7 times at most. Those of the clock's own moment, where the slot has more than one entry,
-///   are the ties: they are put in order once, and popped one by one. What is set to that moment afterwards stands in its slot, and is compared with the
+/// - `set` and `clear` move one key from list to list, whatever else there is, and look it up in
+///   the index, which is a hash map. `set` of a source that has a due does not allocate.
+/// - `pop_least` reads at most 32 words. When the clock reaches a slot, it visits the slot's
+///   entries, and an entry moves down at most 7 times. If the slot has more than one entry, those
+///   that are due at the clock's own time are the ties: they are sorted once, and popped one by
+///   one. An entry that is set to that time afterwards is in its slot, and is compared with the
 ///   first tie at each pop.
-/// - `clear_owner` looks at the entries of the owners with its remainder by 2048, `rewind` and `restart` at all.
+/// - `clear_owner` visits the entries of the owners with the same remainder by 2048, `rewind` and
+///   `restart` visit all.
 #[derive(Drop)]
 pub struct Wheel {
     stock: Stock,
-    // In order, what was due at the clock when it came there. Some may have been cleared or set anew since.
+    // The entries that were due at the clock when it advanced to their time, in order. Some may
+    // have been cleared or set again since.
     ties: Ties,
     clock: u64,
 }
@@ -50,7 +55,7 @@ impl Model for Wheel {
     ghost invariant = { λ w. IsWheel w.clock w.stock w.ties };
 }
 
-// Puts the keys of a slot on their way, and gives the least entry.
+// Moves the keys of a slot to the list of those in transit, and returns the slot's first entry.
 fn gather(stock: &mut Stock, from: usize) -> Option<Entry>
     requires { from < 2048 }
     ensures slots { stock.new ≡ record stock.old { slots = map (unless from) stock.old.slots } }
@@ -72,7 +77,7 @@ fn gather(stock: &mut Stock, from: usize) -> Option<Entry>
     least
 }
 
-// The lesser of an entry and what may be there.
+// Returns the earlier of an entry and an optional one.
 fn lesser_of(least: Option<Entry>, entry: Entry) -> Entry
     ensures either { MatchOption least (result ≡ entry) (λ l. (result ≡ entry) ⊎ (result ≡ l)) }
     ensures entry { is_before entry result ≡ false }
@@ -87,7 +92,7 @@ fn lesser_of(least: Option<Entry>, entry: Entry) -> Entry
     least
 }
 
-// Puts the keys that are on their way into their slots.
+// Moves the keys in transit to their slots.
 fn spread(stock: &mut Stock, clock: u64)
     ensures { IsSpread (λ p e. p ≡ place_of clock e.due) stock.old stock.new }
 {
@@ -97,7 +102,8 @@ fn spread(stock: &mut Stock, clock: u64)
     }
 }
 
-// Where an entry goes: among the ties, if it is due now and there is room, and else to its place.
+// Returns the list for an entry: that of the ties, to which it is added, if it is due now and there
+// is room, otherwise its place.
 fn seat(ties: &mut Ties, clock: u64, entry: Entry) -> usize
     ensures seated { IsSeated clock entry ties.old result ties.new }
     ensures within { result < 2049 }
@@ -115,7 +121,7 @@ fn seat(ties: &mut Ties, clock: u64, entry: Entry) -> usize
     TIES
 }
 
-// Puts the keys that are on their way into their slots or among the ties.
+// Moves the keys in transit to their slots or to the ties.
 fn spread_ties(stock: &mut Stock, ties: &mut Ties, clock: u64)
     requires { ties.old.next ≡ 0 }
     ensures spread { IsSpread (StandsAt clock ties.new) stock.old stock.new }
@@ -128,7 +134,7 @@ fn spread_ties(stock: &mut Stock, ties: &mut Ties, clock: u64)
     }
 }
 
-// Whether a source's key is among the ties.
+// Returns true if a source's key is among the ties.
 fn is_waiting(stock: &Stock, tie: Tie) -> bool
     ensures yes { IsTrue result →
         (k : ℕ) × (e : Entry) × Holds stock.now.entries stock.now.slots k e 2048
@@ -143,7 +149,7 @@ fn is_waiting(stock: &Stock, tie: Tie) -> bool
     stock.list(key) == TIES
 }
 
-// The first of the ties whose key is among them still, once those before it were passed.
+// Passes the ties whose keys are no longer among the ties, and returns the first one whose key is.
 fn next_tie(stock: &Stock, ties: &mut Ties) -> Option<Tie>
     ensures items { ties.new.items ≡ ties.old.items }
     ensures kept { (k : ℕ) (e : Entry) → Holds stock.now.entries stock.now.slots k e 2048 →
@@ -163,8 +169,8 @@ fn next_tie(stock: &Stock, ties: &mut Ties) -> Option<Tie>
     None
 }
 
-// Takes the only entry of a slot down to its place at its due. As a tie it would be moved twice, put in order and
-// looked up again for nothing.
+// Moves the only entry of a slot down to its place at its due, and returns it. As a tie it would be
+// moved twice, sorted and looked up again for nothing.
 fn lift(stock: &mut Stock, from: usize) -> Entry
     requires within { from < 2048 }
     requires there { (k : ℕ) × (slice_get stock.old.slots k ≡ Some from) }
@@ -184,7 +190,7 @@ fn lift(stock: &mut Stock, from: usize) -> Entry
     entry
 }
 
-// The least entry where no tie waits: of the first slot, whose entries go down.
+// Returns the first entry if no tie waits: it is in the first slot, whose entries move down.
 fn turn(stock: &mut Stock, ties: &mut Ties, clock: u64) -> Option<Entry>
     requires wheel { IsWheel clock stock.old ties.old }
     requires passed { length ties.old.items ≤ ties.old.next }
@@ -206,7 +212,7 @@ fn turn(stock: &mut Stock, ties: &mut Ties, clock: u64) -> Option<Entry>
     Some(entry)
 }
 
-// The least entry where a tie waits: it, or one that came to its moment later.
+// Returns the first entry if a tie waits: the tie, or an entry that was set to the same time later.
 fn meet(stock: &mut Stock, ties: &Ties, clock: u64, tie: Tie) -> Entry
     requires wheel { IsWheel clock stock.old ties.now }
     requires held { (k : ℕ) × (e : Entry) × Holds stock.old.entries stock.old.slots k e 2048
@@ -225,7 +231,7 @@ fn meet(stock: &mut Stock, ties: &Ties, clock: u64, tie: Tie) -> Entry
     lesser_of(arrival, entry)
 }
 
-// The least entry, with all others where the clock at its due wants them.
+// Returns the first entry, and moves all others to their places for a clock at its due.
 fn least(stock: &mut Stock, ties: &mut Ties, clock: u64) -> Option<Entry>
     requires { IsWheel clock stock.old ties.old }
     ensures some { IfSome result (λ e. IsTurned clock stock.old e stock.new ties.new) }
@@ -237,7 +243,7 @@ fn least(stock: &mut Stock, ties: &mut Ties, clock: u64) -> Option<Entry>
     Some(meet(stock, ties, clock, tie))
 }
 
-// Puts each entry into the slot of its due at a clock of 0.
+// Moves each entry to the slot of its due for a clock of 0.
 fn place_anew(stock: &mut Stock)
     ensures placed { (k : ℕ) (e : Entry) (p : ℕ) → Holds stock.new.entries stock.new.slots k e p →
         p ≡ place_of 0 e.due }

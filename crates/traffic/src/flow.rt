@@ -19,7 +19,7 @@ use reno_core::{Receiver, Sender};
 use std::alloc::{AllocError, Global};
 use std::marker::Model;
 
-/// The bytes of a header, and of an acknowledgement (our choice).
+/// The size (bytes) of a header, and of an acknowledgement (our choice).
 const HEADER: u16 = 40;
 
 #[derive(Drop)]
@@ -30,7 +30,7 @@ pub(crate) struct Flow {
     stopped: bool,
 }
 
-/// What a flow has due: its timer, and a segment that it may send.
+/// The dues of a flow: its timer, and a segment that it may send.
 #[derive(Clone, Copy)]
 pub(crate) struct FlowDues {
     pub(crate) expiry: DueNumber,
@@ -58,7 +58,7 @@ impl Model for Flow {
 }
 
 impl Flow {
-    /// Nothing is sent yet. Takes no memory.
+    /// Creates a flow that has sent nothing. Does not allocate.
     pub(crate) fn new(alloc: Global, number: FlowNumber, flow: &FlowSpec) -> Self
         ensures { result.state ≡ opened_flow number flow.now }
     {
@@ -70,7 +70,7 @@ impl Flow {
         }
     }
 
-    /// Its number.
+    /// Returns the flow's number.
     #[inline(always)]
     pub(crate) fn number(&self) -> FlowNumber
         ensures { result ≡ self.now.state.number }
@@ -78,14 +78,14 @@ impl Flow {
         self.number
     }
 
-    /// Its sender sends no more, and takes no acknowledgement.
+    /// Stops the sender: it sends no more segments, and ignores acknowledgements.
     pub(crate) fn stop(&mut self)
         ensures { self.new ≡ record self.old { state = record self.old.state { stopped = true } } }
     {
         self.stopped = true;
     }
 
-    /// The header of its segments.
+    /// Returns the header of the flow's segments.
     #[inline(always)]
     pub(crate) fn send(&self) -> SendSpec
         ensures { result ≡ data_send self.now.state.flow }
@@ -104,7 +104,7 @@ impl Flow {
         }
     }
 
-    /// The header of its acknowledgements.
+    /// Returns the header of the flow's acknowledgements.
     #[inline(always)]
     pub(crate) fn reply(&self) -> SendSpec
         ensures { result ≡ ack_send self.now.state.flow }
@@ -123,7 +123,7 @@ impl Flow {
         }
     }
 
-    /// Sends one segment at the moment `now`, and says which.
+    /// Sends one segment at `now` (ns), and returns its load.
     #[inline(always)]
     pub(crate) fn emit(&mut self, now: u64) -> Load
         requires early { IsMoment now }
@@ -140,7 +140,7 @@ impl Flow {
         }
     }
 
-    /// Makes the growth of a `take` of any segment.
+    /// Reserves the memory for a `take` of any segment.
     #[inline(always)]
     pub(crate) fn take_ready(&mut self, first: u64) -> Result<(), AllocError>
         ensures ready { OnOk result (0 < self.new.room) }
@@ -151,7 +151,7 @@ impl Flow {
         self.receiver.take_ready(first)
     }
 
-    /// Its receiver takes the segment that begins at `first`, and acknowledges it.
+    /// Receives the segment that begins at byte `first`, and returns its acknowledgement.
     #[inline(always)]
     pub(crate) fn take(&mut self, first: u64) -> Sending
         requires { 0 < self.old.room }
@@ -176,7 +176,8 @@ impl Flow {
         }
     }
 
-    /// Its sender takes an acknowledgement of all bytes below `upto`, unless it is stopped.
+    /// Passes an acknowledgement of all bytes below `upto` to the sender, unless the flow is
+    /// stopped. Returns the sender's window after it, or None if the flow is stopped.
     #[inline(always)]
     pub(crate) fn take_ack(&mut self, now: u64, upto: u64) -> Option<Window>
         requires early { IsMoment now }
@@ -195,7 +196,8 @@ impl Flow {
         None
     }
 
-    /// Its timer came due.
+    /// Handles the expiry of the flow's timer at `now` (ns), and returns the sender's window after
+    /// it.
     pub(crate) fn expire(&mut self, now: u64) -> Window
         requires early { IsMoment now }
         ensures flow { let f = self.old.state in
@@ -223,7 +225,7 @@ impl Flow {
         }
     }
 
-    /// Its timer.
+    /// Returns the due of the flow's timer.
     #[inline(always)]
     pub(crate) fn timer(&self) -> DueNumber
         ensures { result ≡ expiry_due self.now.state }
@@ -234,7 +236,7 @@ impl Flow {
         DueNumber::at_some(self.sender.due(), Source::expiry(self.number))
     }
 
-    /// A segment may be sent now.
+    /// Returns true if the flow may send a segment now.
     #[inline(always)]
     pub(crate) fn may_send(&self) -> bool
         ensures { result ≡ may_send self.now.state }
@@ -242,7 +244,7 @@ impl Flow {
         !self.stopped && self.sender.may_emit()
     }
 
-    /// What it has due, where the last event was at the moment `clock`.
+    /// Returns the flow's dues, given that the last event was at `clock` (ns).
     pub(crate) fn dues(&self, clock: u64) -> FlowDues
         ensures expiry { result.expiry ≡ expiry_due self.now.state }
         ensures emission { result.emission ≡ emission_due clock self.now.state }

@@ -1,4 +1,4 @@
-//! What is due of each flow and each train, so that the least of it is found without a walk.
+//! The dues of all flows and trains, indexed so that the earliest is found without a search.
 
 ghost use Rattle.std.specs.Prelude.{◌≡◌, ◌↔◌, ◌<◌, ◌++◌, ◌∷◌, [], List, length, map, flat_map, option_to_list, slice_index_or, slice_set, IfNone, IfSome, IsTrue, None, OnOk};
 ghost use Rattle.emu_model.specs.Net.{TrainState};
@@ -15,9 +15,10 @@ use due_index::{DueIndex, DueNumber, NumberTable};
 use emu_model::{Class, Source};
 use std::alloc::{AllocError, Global};
 
-/// The timers of flows, each told late: what stands there for a flow is its due or comes before it, so that
-/// only a timer that is set to come earlier changes the tree. The numbers of the flows that may send a
-/// segment. The packets of trains. Timers and packets by the place of their source.
+/// The timers of flows, updated lazily: a flow's entry is its due or an earlier one, so only a
+/// timer that is set to an earlier time changes the tree. Also the numbers of the flows that may
+/// send a segment, and the dues of trains. Timers and trains are indexed by the place of their
+/// source.
 #[derive(Drop)]
 pub(crate) struct SourceIndex {
     timers: DueIndex,
@@ -25,14 +26,14 @@ pub(crate) struct SourceIndex {
     packets: DueIndex,
 }
 
-// They are the same.
+// Returns true if two dues are equal.
 fn is_same(first: DueNumber, second: DueNumber) -> bool
     ensures { IsTrue result ↔ (first ≡ second) }
 {
     first == second
 }
 
-// A timer is told late at a place: it changes what stands there only where it comes before that.
+// Updates a timer's entry lazily: the entry changes only if the timer is before it.
 #[inline(always)]
 fn tell(timers: &mut DueIndex, place: usize, timer: DueNumber)
     requires { place < length timers.old.leaves }
@@ -45,7 +46,7 @@ fn tell(timers: &mut DueIndex, place: usize, timer: DueNumber)
 }
 
 impl SourceIndex {
-    /// No flows and no trains. Takes no memory.
+    /// Creates an index without flows and trains. Does not allocate.
     pub(crate) fn new(alloc: Global) -> Self
         ensures { AreIndexed [] [] result }
     {
@@ -56,7 +57,8 @@ impl SourceIndex {
         }
     }
 
-    /// Makes the growth of one `add_flow`. Only room grows, also where it is refused.
+    /// Reserves the memory for one `add_flow`. Only spare capacity changes, even if allocation
+    /// fails.
     pub(crate) fn flow_ready(&mut self, number: u16) -> Result<(), AllocError>
         ensures same { (fs : List KeptFlow) (ts : List TrainState) → AreIndexed fs ts self.old →
             AreIndexed fs ts self.new }
@@ -66,7 +68,8 @@ impl SourceIndex {
         self.timers.push_ready()
     }
 
-    /// Makes the growth of one `add_train`. Only room grows, also where it is refused.
+    /// Reserves the memory for one `add_train`. Only spare capacity changes, even if allocation
+    /// fails.
     pub(crate) fn train_ready(&mut self) -> Result<(), AllocError>
         ensures same { (fs : List KeptFlow) (ts : List TrainState) → AreIndexed fs ts self.old →
             AreIndexed fs ts self.new }
@@ -75,7 +78,7 @@ impl SourceIndex {
         self.packets.push_ready()
     }
 
-    /// One flow more, behind all others.
+    /// Adds a flow after all others.
     pub(crate) fn add_flow(&mut self, flow: &Flow)
         requires { HasFlowRoom flow.now.state.number self.old }
         ensures { (fs : List KeptFlow) (ts : List TrainState) → AreIndexed fs ts self.old →
@@ -85,7 +88,7 @@ impl SourceIndex {
         self.ready.add(flow.number().get(), flow.may_send());
     }
 
-    /// One train more, behind all others.
+    /// Adds a train after all others.
     pub(crate) fn add_train(&mut self, train: &Train)
         requires { 0 < self.old.packets.spare }
         ensures { (fs : List KeptFlow) (ts : List TrainState) → AreIndexed fs ts self.old →
@@ -94,7 +97,7 @@ impl SourceIndex {
         self.packets.push(train.due());
     }
 
-    /// A flow has changed, but for its number.
+    /// Updates the entries of a flow, whose number must be unchanged.
     #[inline(always)]
     pub(crate) fn set_flow(&mut self, place: usize, flow: &Flow)
         requires { HasFlowAt place flow.now.state.number self.old }
@@ -107,17 +110,18 @@ impl SourceIndex {
         self.ready.set(flow.number().get(), flow.may_send());
     }
 
-    /// A train has changed.
+    /// Updates the entry of a train.
     #[inline(always)]
     pub(crate) fn set_train(&mut self, place: usize, train: &Train)
         requires { place < length self.old.packets.leaves }
         ensures { (fs : List KeptFlow) (ts : List TrainState) → AreIndexed fs ts self.old →
             AreIndexed fs (slice_set ts place train.now) self.new }
     {
-        self.packets.set(place, train.due());
+        self.packets.set_least(place, train.due());
     }
 
-    /// The place of a flow whose timer is told as the first and is due later; None where none is.
+    /// Returns the place of the flow whose timer has the first entry but is due later, or None if
+    /// the first entry is exact.
     fn told_early(&self, flows: &[Flow], places: &NumberTable) -> Option<usize>
         requires told { AreTold self.now.timers.leaves flows.now }
         requires flows { AreFound flows.now places.now }
@@ -140,7 +144,7 @@ impl SourceIndex {
         Some(place)
     }
 
-    /// The first timer is told right from now on.
+    /// Makes the first entry of the timers exact.
     #[inline(never)]
     fn settle(&mut self, flows: &[Flow], places: &NumberTable)
         requires told { AreTold self.old.timers.leaves flows.now }
@@ -157,7 +161,8 @@ impl SourceIndex {
         }
     }
 
-    /// The least of a due and what may be sent, where the last event was at the moment `clock`.
+    /// Returns the earliest of a due and the next packets of all flows and trains, given that the
+    /// last event was at `clock` (ns).
     #[inline(always)]
     fn earliest_send(&self, clock: u64, best: DueNumber) -> DueNumber
         requires { IsWhole self.now.ready }
@@ -174,7 +179,8 @@ impl SourceIndex {
         }
     }
 
-    /// The same, and the timers as they are told.
+    /// Returns the earliest due like `earliest_send`, but includes the entries of timers, which may
+    /// be too early.
     #[inline(always)]
     fn lower_bound(&self, clock: u64, best: DueNumber) -> DueNumber
         requires { IsWhole self.now.ready }
@@ -185,8 +191,8 @@ impl SourceIndex {
         self.earliest_send(clock, best.or_earlier(self.timers.least()))
     }
 
-    /// The least of a due and those of all flows and trains, where the last event was at the moment
-    /// `clock`: these are the flows, and the places by their numbers.
+    /// Returns the earliest of a due and those of all flows and trains, given that the last event
+    /// was at `clock` (ns), the list of flows, and their places by number.
     pub(crate) fn earliest(
         &self,
         flows: &[Flow],
@@ -211,7 +217,7 @@ impl SourceIndex {
         }
     }
 
-    // The same; each timer is looked at.
+    // Returns the earliest due like `earliest`, but checks each timer.
     fn earliest_by_walk(&self, flows: &[Flow], clock: u64, best: DueNumber) -> DueNumber
         requires { IsWhole self.now.ready }
         ensures { (ts : List TrainState) → AreIndexed flows.now ts self.now →
@@ -225,7 +231,8 @@ impl SourceIndex {
         best
     }
 
-    /// The same; a timer that comes first is told right from then on.
+    /// Returns the earliest due like `earliest`, and makes the entry of a timer exact if it is the
+    /// first.
     #[inline(always)]
     pub(crate) fn next_due(
         &mut self,

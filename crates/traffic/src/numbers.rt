@@ -1,4 +1,4 @@
-//! A set of numbers, so that the least of them is found at once.
+//! A set of numbers that finds its minimum at once.
 
 ghost use Rattle.std.specs.Prelude.{◌≡◌, ℕ, ◌==◌, ◌&&◌, ◌||◌, ◌<◌, ◌≤◌, if◌then◌else◌, true, false, length, slice_index, IfSome, IfNone, OnOk};
 ghost use Rattle.std.specs.Int.{bit_at};
@@ -6,8 +6,8 @@ ghost use Rattle.traffic.specs.Numbers.{flag, is_in, IsWhole, HasEntry, IsLowest
 
 use std::alloc::{AllocError, Global};
 
-/// Numbers below 65536, a bit for each; a bit more for each word of them that has any, and one for
-/// each word of those.
+/// A set of numbers below 65536. Each number has a bit; each word of these bits has a bit that is
+/// set if the word isn't zero, and so does each word of those bits.
 #[derive(Drop)]
 pub(crate) struct NumberSet {
     words: Vec<u64>,
@@ -15,7 +15,7 @@ pub(crate) struct NumberSet {
     any: u64,
 }
 
-/// The same bits but one, which is set or not.
+/// Returns the word with one bit set or cleared.
 #[inline(always)]
 fn with_bit(word: u64, place: u64, set: bool) -> u64
     requires { place < 64 }
@@ -28,7 +28,7 @@ fn with_bit(word: u64, place: u64, set: bool) -> u64
     word & !(1 << place)
 }
 
-/// The place of its lowest bit that is set.
+/// Returns the place of the lowest bit that is set.
 #[inline(always)]
 fn lowest_bit(word: u64) -> u32
     requires { 0 < word }
@@ -37,7 +37,7 @@ fn lowest_bit(word: u64) -> u32
     word.trailing_zeros()
 }
 
-/// As many words as these at least, the new ones without a bit.
+/// Extends a list to at least `count` words; the new ones are zero.
 fn grow(words: &mut Vec<u64>, count: usize) -> Result<(), AllocError>
     ensures same { (i : ℕ) → slice_index words.new.items i ≡ slice_index words.old.items i }
     ensures grows { length words.old.items ≤ length words.new.items }
@@ -50,7 +50,7 @@ fn grow(words: &mut Vec<u64>, count: usize) -> Result<(), AllocError>
 }
 
 impl NumberSet {
-    /// No number is in. Takes no memory.
+    /// Creates an empty set. Does not allocate.
     pub(crate) fn new(alloc: Global) -> Self
         ensures whole { IsWhole result }
         ensures none { (k : ℕ) → is_in result k ≡ false }
@@ -62,7 +62,8 @@ impl NumberSet {
         }
     }
 
-    /// Makes the growth of one `set` of a number. Only room grows, also where it is refused.
+    /// Reserves the memory for one `set` of a number. Only spare capacity changes, even if
+    /// allocation fails.
     pub(crate) fn make_room(&mut self, number: u16) -> Result<(), AllocError>
         ensures same { (k : ℕ) → is_in self.new k ≡ is_in self.old k }
         ensures whole { IsWhole self.old → IsWhole self.new }
@@ -72,7 +73,7 @@ impl NumberSet {
         grow(&mut self.words, usize::from(number / 64) + 1)
     }
 
-    /// Whether a number is in, from now on.
+    /// Adds a number to the set, or removes it.
     #[inline(always)]
     pub(crate) fn set(&mut self, number: u16, there: bool)
         requires { HasEntry number self.old }
@@ -90,7 +91,7 @@ impl NumberSet {
         self.any = with_bit(self.any, group as u64, some != 0);
     }
 
-    /// A number comes in, where it is to.
+    /// Adds a number to the set if `there` is true.
     pub(crate) fn add(&mut self, number: u16, there: bool)
         requires { HasEntry number self.old }
         ensures adds { (k : ℕ) →
@@ -103,7 +104,7 @@ impl NumberSet {
         }
     }
 
-    /// The least number that is in.
+    /// Returns the minimum of the set.
     #[inline(always)]
     pub(crate) fn first(&self) -> Option<u32>
         requires { IsWhole self.now }

@@ -1,8 +1,8 @@
-//! What sources give to the experiment.
+//! The results that sources return to the experiment.
 
 use emu_model::{Load, SendSpec};
 
-/// A packet that is to be made: what it carries, and its header.
+/// A packet to be created: its load and its header.
 #[derive(Clone, Copy)]
 pub struct Sending {
     pub load: Load,

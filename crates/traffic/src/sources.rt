@@ -25,19 +25,19 @@ use emu_model::{Due, FlowNumber, FlowSpec, Load, Refusal, SendSpec, TrainSpec};
 use std::alloc::{AllocError, Global};
 use std::marker::Model;
 
-/// How many flows and trains there may be.
+/// The maximum number of flows and trains together.
 const MAX_SOURCES: usize = 256;
 
-/// Where a source stands among the flows or among the trains.
+/// The place of a source among the flows or among the trains.
 #[derive(Clone, Copy)]
 pub enum SourcePlace {
     Flow(usize),
     Train(usize),
 }
 
-/// All flows and trains of one experiment. No two have one number. A contract sees them as those of
-/// a net, whatever else that net holds, and how many segments each receiver takes without memory.
-/// Moments are in nanoseconds.
+/// All flows and trains of one experiment. Each number is used at most once. Contracts see the
+/// flows and trains of a net, whatever else that net holds, and how many segments each receiver can
+/// take without an allocation. Times are in nanoseconds.
 #[derive(Drop)]
 pub struct Traffic {
     alloc: Global,
@@ -64,7 +64,7 @@ impl Model for Traffic {
 }
 
 impl Traffic {
-    /// No flows and no trains. Takes no memory.
+    /// Creates a set without flows and trains. Does not allocate.
     pub fn new(alloc: Global) -> Self
         ensures { result ≡ record { flows = []; trains = [] } }
     {
@@ -78,7 +78,8 @@ impl Traffic {
         }
     }
 
-    /// Why no source begins under this number: `FlowThere`, then `TooManyFlows` at 256.
+    /// Returns the reason why no source can start under this number, if any: `FlowThere`, then
+    /// `TooManyFlows` if there are 256 sources.
     pub fn refusal(&self, number: FlowNumber) -> Option<Refusal>
         ensures refusal { (n : Net) → result ≡ source_refusal number (with_traffic self.now n) }
         ensures free { IfNone result (IsFree number self.now) }
@@ -92,7 +93,7 @@ impl Traffic {
         Some(Refusal::TooManyFlows)
     }
 
-    /// There is a flow of this number, stopped or not.
+    /// Returns true if there is a flow with this number, stopped or not.
     pub fn has_flow(&self, number: FlowNumber) -> bool
         ensures { (n : Net) → result ≡ is_some (find_flow number (with_traffic self.now n)) }
     {
@@ -100,7 +101,7 @@ impl Traffic {
         place.is_some()
     }
 
-    /// Begins a flow. After an error nothing has changed.
+    /// Starts a flow. After an error nothing has changed.
     pub fn start_flow(&mut self, number: FlowNumber, flow: &FlowSpec) -> Result<(), AllocError>
         requires { IsFree number self.old }
         ensures ok { OnOk result
@@ -118,7 +119,7 @@ impl Traffic {
         Ok(())
     }
 
-    /// Begins a train at the moment `now`. After an error nothing has changed.
+    /// Starts a train at `now`. After an error nothing has changed.
     pub fn start_train(
         &mut self,
         now: u64,
@@ -142,7 +143,7 @@ impl Traffic {
         Ok(())
     }
 
-    /// Stops a flow, if there is one: it sends no more, and takes no acknowledgement.
+    /// Stops a flow, if it exists: it sends no more segments, and ignores acknowledgements.
     pub fn stop(&mut self, number: FlowNumber)
         ensures { (n : Net) → let m = with_traffic self.old n in
             option_map_or (stop_flow m) (find_flow number m) m ≡ with_traffic self.new n }
@@ -155,7 +156,8 @@ impl Traffic {
         self.index.set_flow(place, flow);
     }
 
-    /// The header of the acknowledgement that `take` makes; None where there is no such flow.
+    /// Returns the header of the acknowledgement that `take` returns, or None if there is no such
+    /// flow.
     #[inline(always)]
     pub fn reply(&self, number: FlowNumber) -> Option<SendSpec>
         ensures { (n : Net) → result ≡ reply_send number (with_traffic self.now n) }
@@ -167,7 +169,7 @@ impl Traffic {
         Some(flow.reply())
     }
 
-    /// Makes the growth of a `take` of any segment of this flow. Only room changes.
+    /// Reserves the memory for a `take` of any segment of this flow. Only spare capacity changes.
     #[inline(always)]
     pub fn take_ready(&mut self, number: FlowNumber, first: u64) -> Result<(), AllocError>
         ensures ready { OnOk result (HasRoomFor number self.new) }
@@ -183,8 +185,8 @@ impl Traffic {
         flow.take_ready(first)
     }
 
-    /// A flow's receiver takes the segment that begins at `first`, also of a stopped one: the
-    /// acknowledgement that is to be made; None where there is no such flow.
+    /// Passes the segment that begins at byte `first` to a flow's receiver, even if the flow is
+    /// stopped. Returns the acknowledgement to be created, or None if there is no such flow.
     #[inline(always)]
     pub fn take(&mut self, number: FlowNumber, first: u64) -> Option<Sending>
         requires { HasRoomFor number self.old }
@@ -203,8 +205,8 @@ impl Traffic {
         Some(flow.take(first))
     }
 
-    /// A flow's sender takes an acknowledgement of all bytes below `upto`: its windows after it; None
-    /// where there is no such flow, or it is stopped.
+    /// Passes an acknowledgement of all bytes below `upto` to a flow's sender. Returns the sender's
+    /// window after it, or None if there is no such flow or it is stopped.
     #[inline(always)]
     pub fn take_ack(&mut self, now: u64, number: FlowNumber, upto: u64) -> Option<Window>
         requires early { IsMoment now }
@@ -224,7 +226,8 @@ impl Traffic {
         window
     }
 
-    /// A flow's timer came due: its sender's windows after it; None where there is no such flow.
+    /// Handles the expiry of a flow's timer. Returns the sender's window after it, or None if there
+    /// is no such flow.
     pub fn expire(&mut self, now: u64, number: FlowNumber) -> Option<Window>
         requires early { IsMoment now }
         ensures expired { (at : EventContext) (n : Net) → at.now ≡ now →
@@ -244,8 +247,8 @@ impl Traffic {
         Some(window)
     }
 
-    /// The least of a due and those of all flows and trains, where the last event was at the moment
-    /// `clock`; the first of equal ones.
+    /// Returns the earliest of a due and those of all flows and trains, given that the last event
+    /// was at `clock`; the first of equal ones.
     pub fn earliest(&self, clock: u64, best: Due) -> Due
         ensures least { (n : Net) →
             result ≡ best_of is_before best (source_dues clock (with_traffic self.now n)) }
@@ -260,8 +263,9 @@ impl Traffic {
         least.some()
     }
 
-    /// The same as one number, which may be none. Only what is kept of timers changes, which nothing shows: where
-    /// nothing changes else, the next call finds the least at once.
+    /// Returns the earliest due like `earliest`, as one number, which may be none. Changes only
+    /// cached timers, which is not observable: if nothing else changes, the next call finds the
+    /// earliest due at once.
     #[inline(always)]
     pub fn next_due(&mut self, clock: u64, best: DueNumber) -> DueNumber
         ensures least { (n : Net) → result ≡ least_of (option_to_list best
@@ -276,8 +280,8 @@ impl Traffic {
             .next_due(&self.flows, &self.flow_places, clock, best)
     }
 
-    /// Appends the dues of all flows and trains, or leaves `dues` as it was: that only where it has no room for two of
-    /// each flow and one of each train.
+    /// Appends the dues of all flows and trains. If allocation fails, `dues` is unchanged; that is
+    /// possible only if `dues` has no room for two dues per flow and one per train.
     pub fn add_dues(&self, clock: u64, dues: &mut Vec<Due>) -> Result<(), AllocError>
         ensures ok { OnOk result
             ((n : Net) →
@@ -299,7 +303,7 @@ impl Traffic {
         Ok(())
     }
 
-    /// Where the source of this number stands; None where there is none.
+    /// Returns the place of the source with this number, or None if there is none.
     #[inline(always)]
     pub fn find(&self, number: FlowNumber) -> Option<SourcePlace>
         ensures place { result ≡ source_place number self.now }
@@ -321,7 +325,7 @@ impl Traffic {
         }
     }
 
-    /// The header of what is sent from there.
+    /// Returns the header of the next packet of the source at a place.
     #[inline(always)]
     pub fn header_at(&self, source: &SourcePlace) -> SendSpec
         requires { IsThere source.now self.now }
@@ -334,7 +338,8 @@ impl Traffic {
         }
     }
 
-    /// What is sent from there, which may send, under the header that `header_at` gives.
+    /// Sends a packet from the source at a place, which must have one to send, and returns its
+    /// load. The packet's header is that of `header_at`.
     #[inline(always)]
     pub fn emit_at(&mut self, now: u64, source: &SourcePlace) -> Load
         requires early { IsMoment now }
@@ -361,14 +366,14 @@ impl Traffic {
         }
     }
 
-    /// There is a flow or a train of this number.
+    /// Returns true if there is a flow or a train with this number.
     fn is_in_use(&self, number: FlowNumber) -> bool
         ensures { (n : Net) → result ≡ is_in_use number (with_traffic self.now n) }
     {
         self.flow_place(number).is_some() || self.train_place(number).is_some()
     }
 
-    /// The place of the flow of this number.
+    /// Returns the place of the flow with this number.
     #[inline(always)]
     fn flow_place(&self, number: FlowNumber) -> Option<usize>
         ensures { result ≡ position (λ f. f.state.number == number) self.now.flows }
@@ -376,7 +381,7 @@ impl Traffic {
         self.flow_places.get(number.get())
     }
 
-    /// The place of the train of this number.
+    /// Returns the place of the train with this number.
     #[inline(always)]
     fn train_place(&self, number: FlowNumber) -> Option<usize>
         ensures { result ≡ position (λ t. t.number == number) self.now.trains }

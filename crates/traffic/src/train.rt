@@ -10,7 +10,7 @@ use due_index::DueNumber;
 use emu_model::{FlowNumber, SendSpec, Source, TrainSpec};
 use std::marker::Model;
 
-/// A train that sent so many of its packets; it began at a moment (ns).
+/// A train, its start (ns), and the number of packets that it has sent.
 #[derive(Drop)]
 pub(crate) struct Train {
     number: FlowNumber,
@@ -66,7 +66,7 @@ impl Train {
         self.sent += 1;
     }
 
-    /// When its next packet is due, if any is left.
+    /// Returns the due of the next packet, or none if no packet is left.
     #[inline(always)]
     pub(crate) fn due(&self) -> DueNumber
         ensures due { result ≡ packet_due self.now }

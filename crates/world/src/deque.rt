@@ -1,4 +1,4 @@
-//! The names that wait at a shard to be taken in again.
+//! The names in a shard's deque, which wait to be taken in again.
 
 ghost use Rattle.std.specs.Prelude.{◌≡◌, [], ◌∷◌, ◌++◌, OnOk, OnErr, IfSome, IfNone};
 
@@ -6,7 +6,7 @@ use std::alloc::{AllocError, Global};
 use std::collections::VecDeque;
 use std::marker::Model;
 
-/// The names in a deque, from its front. A contract sees their list.
+/// The names in a deque, from its front. Contracts see their list.
 #[derive(Drop)]
 pub(crate) struct Deque {
     names: VecDeque<u32>,
@@ -21,7 +21,7 @@ impl Model for Deque {
 }
 
 impl Deque {
-    /// One in which nobody waits.
+    /// Creates an empty deque.
     pub(crate) fn new(alloc: Global) -> Self
         ensures { result ≡ [] }
     {
@@ -30,7 +30,7 @@ impl Deque {
         }
     }
 
-    /// Puts a name at the back.
+    /// Adds a name at the back.
     pub(crate) fn push(&mut self, name: u32) -> Result<(), AllocError>
         ensures ok { OnOk result (self.new ≡ self.old ++ name ∷ []) }
         ensures err { OnErr result (self.new ≡ self.old) }
@@ -41,7 +41,7 @@ impl Deque {
         }
     }
 
-    /// Takes the name at the front.
+    /// Removes the name at the front, and returns it.
     pub(crate) fn pop(&mut self) -> Option<u32>
         ensures some { IfSome result (λ name. self.old ≡ name ∷ self.new) }
         ensures none { IfNone result ((self.old ≡ []) × (self.new ≡ self.old)) }

@@ -1,9 +1,10 @@
-//! Where an experiment is, and what is kept of its posts.
+//! The home of an experiment, and the state of its posts.
 
 use emu_model::{LATEST_MOMENT, Timed};
 use shard::{Dossier, ListMail, Parcel};
 
-/// Where an experiment is: in the caller's hands, in a slot of a shard, in the deque of a shard, or ended.
+/// The place of an experiment: in the caller's hands, in a slot of a shard, in the deque of a
+/// shard, or ended.
 #[derive(Clone, Copy, Debug, PartialEq, Eq)]
 pub enum Place {
     HandedOut,
@@ -12,7 +13,7 @@ pub enum Place {
     Ended,
 }
 
-/// An experiment at its place, or the slot where it sits.
+/// An experiment at its place, or the slot in which it is.
 #[derive(Drop)]
 pub(crate) enum Home {
     Handed(Parcel<ListMail>),
@@ -27,8 +28,8 @@ pub(crate) enum Home {
     Left(Dossier<ListMail>),
 }
 
-/// What the world keeps of a name: its home, whether an `end` was posted, and the moment of the last post (ns), 0
-/// before the first.
+/// The state of a name in the world: its home, whether an `end` was posted, and the time of the
+/// last post (ns), or 0 before the first.
 #[derive(Drop)]
 pub(crate) struct Desk {
     pub(crate) home: Home,
@@ -40,7 +41,7 @@ impl Home {
     ghost use Rattle.std.specs.Prelude.{◌≡◌};
     ghost use Rattle.world.specs.Tenants.{place_of};
 
-    /// Where it is.
+    /// Returns the place.
     pub(crate) fn place(&self) -> Place
         ensures { result ≡ place_of self.now }
     {
@@ -60,7 +61,8 @@ impl Desk {
     ghost use Rattle.std.specs.Prelude.{IsTrue, IsFalse};
     ghost use Rattle.world.specs.Tenants.{IsPostable, IsRefused};
 
-    /// Whether a command may be posted: no `end` was, and its moment is neither too late nor below the last.
+    /// Returns true if a command may be posted: no `end` was posted, and its time is neither too
+    /// late nor before the last one.
     pub(crate) fn allows(&self, timed: &Timed) -> bool
         ensures yes { IsTrue result → IsPostable self.now.closed self.now.last timed.now }
         ensures no { IsFalse result → IsRefused self.now.closed self.now.last timed.now }

@@ -1,4 +1,5 @@
-//! The core: shards, deques and mails as lists, and experiments that are named, posted to, moved and turned. Own.
+//! The core: shards, deques and mails as lists, and experiments that are named, posted to, moved
+//! and turned. Our choice.
 #![tactic(auto)]
 
 mod deque;

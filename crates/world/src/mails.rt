@@ -16,7 +16,7 @@ impl Home {
     ghost use Rattle.world.specs.Places.{life_of};
     ghost use Rattle.world.specs.Steps.{Mailed, Puts, ReadsOne};
 
-    // Puts a command into its mail; false where 64 wait.
+    // Adds a command to the mail, or returns false if 64 are waiting.
     fn put<A: Agenda>(&mut self, shards: &mut Vec<Shard<A, ListMail>>, timed: Timed) -> bool
         requires early { timed.moment ≤ 10 ^ 15 }
         ensures yes { IsTrue result →
@@ -56,7 +56,7 @@ impl Home {
         }
     }
 
-    // Reads the first letter that wasn't read; false where there is none.
+    // Removes the first unread letter, or returns false if there is none.
     fn read<A: Agenda>(&mut self, shards: &mut Vec<Shard<A, ListMail>>) -> bool
         ensures yes { IsTrue result →
             Mailed ReadsOne self.old shards.old.items self.new shards.new.items }
@@ -99,7 +99,7 @@ impl Home {
     }
 }
 
-// Whether a command is an `end`.
+// Returns true if a command is an `end`.
 fn is_end(command: Command) -> bool
     ensures { result ≡ is_end command }
 {
@@ -109,7 +109,7 @@ fn is_end(command: Command) -> bool
 impl<A: Agenda> World<A> {
     ghost use Rattle.world.specs.Steps.{IsPost, IsRead};
 
-    // A command is put behind those that wait for a name.
+    // Adds a command after those that wait for a name.
     pub(crate) fn post(&mut self, name: u32, timed: Timed) -> Did
         ensures { IsPost name timed result self.old self.new }
     {
@@ -129,7 +129,7 @@ impl<A: Agenda> World<A> {
         Did::Done
     }
 
-    // The first letter of a name that wasn't read.
+    // Removes the first unread letter of a name.
     pub(crate) fn read_letter(&mut self, name: u32) -> Did
         ensures { IsRead name result self.old self.new }
     {

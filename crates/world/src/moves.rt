@@ -9,14 +9,14 @@ use shard::{ListMail, PackError, Parcel, Shard, TakeInError};
 use std::mem;
 use timer_wheel::Agenda;
 
-// Where a parcel is that was to be taken in, and whether it was.
+// The home of a parcel that was to be taken in, and whether it was.
 #[derive(Drop)]
 struct Housed {
     home: Home,
     did: Did,
 }
 
-// Takes a parcel in at a shard; `Still` where that is crowded.
+// Takes a parcel in at a shard, or returns `Still` if the shard is crowded.
 fn house<A: Agenda>(shard: &mut Shard<A, ListMail>, i: usize, parcel: Parcel<ListMail>) -> Housed
     ensures { Houses parcel i result.did result.home shard.old shard.new }
 {
@@ -48,7 +48,8 @@ impl Desk {
     ghost use Rattle.shard.specs.Stand.{Stand};
     ghost use Rattle.world.specs.declared.home.Home.TheVariants.{Handed, Queued, Seated};
 
-    // The parcel of one that is handed out, whose home is the first slot of a shard then.
+    // Returns the parcel of a name that is handed out, whose home is then the first slot of a
+    // shard.
     fn hand_over(&mut self, shard: usize) -> Option<Parcel<ListMail>>
         ensures some { IfSome result
             (λ p. (self.old.home ≡ Handed p)
@@ -65,7 +66,8 @@ impl Desk {
         }
     }
 
-    // The parcel of one that waits in a deque, whose home is the first slot of a shard then.
+    // Returns the parcel of a name that waits in a deque, whose home is then the first slot of a
+    // shard.
     fn leave_queue(&mut self, shard: usize) -> Option<Parcel<ListMail>>
         ensures some { IfSome result
             (λ p. (i : ℕ) × (self.old.home ≡ Queued i p)
@@ -82,11 +84,12 @@ impl Desk {
         }
     }
 
-    // Its home is this from now on.
+    // Sets the home.
     pub(crate) fn go(&mut self, home: Home)
         ensures { self.new ≡ record self.old { home = home } }
     {
-        // (by a call, since what was there is dropped at each place that assigns it, and a parcel has many parts)
+        // A call, because an assignment drops the old value at each place where it occurs, and a
+        // parcel has many parts.
         drop(mem::replace(&mut self.home, home));
     }
 }
@@ -94,7 +97,7 @@ impl Desk {
 impl<A: Agenda> World<A> {
     ghost use Rattle.world.specs.Steps.{IsAdmission, IsBringing, IsOffer};
 
-    // One that is handed out comes to a shard.
+    // Admits a name that is handed out to a shard.
     pub(crate) fn admit(&mut self, name: u32, i: usize) -> Did
         ensures { IsAdmission name i result self.old self.new }
     {
@@ -114,7 +117,7 @@ impl<A: Agenda> World<A> {
         housed.did
     }
 
-    // The front of a deque comes to a shard, or into the caller's hands where it is refused there.
+    // Takes the front of a deque in at a shard, or hands it out if the shard refuses it.
     pub(crate) fn bring(&mut self, i: usize, from: usize) -> Did
         ensures { IsBringing i from result self.old self.new }
     {
@@ -136,7 +139,7 @@ impl<A: Agenda> World<A> {
         housed.did.bring_outcome()
     }
 
-    // A resident goes to the back of its shard's deque, or into the caller's hands where memory is refused there.
+    // Moves a resident to the back of its shard's deque, or hands it out if memory runs out.
     pub(crate) fn offer(&mut self, i: usize, slot: usize) -> Did
         ensures { IsOffer i slot result self.old self.new }
     {

@@ -11,9 +11,9 @@ impl<A: Agenda> World<A> {
     ghost use Rattle.world.specs.Places.{tenant_at, AreAtOnePlace};
     ghost use Rattle.world.specs.Kept.{IsAlone, IsAloneState, IsPosted, AreLetters};
 
-    /// A list of steps, in their order. The answer is how many met want of memory. **Whatever the steps are, each
-    /// name's records and counters are afterwards those of running it alone**, on the commands that came to it, for
-    /// as many events as it made.
+    /// Makes a list of steps, in order, and returns the number of steps that ran out of memory.
+    /// **Whatever the steps are, each name's records and counters are afterwards those of running
+    /// it alone**, on the commands that it received, for as many events as it made.
     pub fn run(&mut self, steps: &[Step]) -> u64
         ensures runs { Runs steps.now result self.old self.new }
         ensures headline { (n : ℕ) (t : Tenant) → tenant_at self.new n ≡ Some t →

@@ -10,13 +10,13 @@ use emu_model::{Ending, Spec, Timed};
 use shard::{ListMail, Parcel, Polled, Turned};
 use timer_wheel::Agenda;
 
-/// How many names may be made.
+/// The maximum number of names.
 const MAX_NAMES: usize = 1_000_000;
 
-/// A step of the workers: the next name is registered; a command is posted to a name; a name that is handed out is
-/// admitted to a shard; a shard makes a turn; a slot's resident is polled, or offered to its shard's deque; the front
-/// of a shard's own deque is taken in again, or that of another one is adopted; the time of a shard's agenda begins
-/// anew; a letter of a name is read.
+/// A step of the workers: the next name is registered; a command is posted to a name; a name that
+/// is handed out is admitted to a shard; a shard makes a turn; a slot's resident is polled, or
+/// offered to its shard's deque; the front of a shard's own deque is taken in again, or that of
+/// another one is adopted; a shard's agenda is rewound; a letter of a name is read.
 #[derive(Clone, Copy)]
 pub enum Step {
     Registered(Spec),
@@ -31,8 +31,8 @@ pub enum Step {
     ReadLetter { name: u32 },
 }
 
-/// What became of a step: it was done; it can't be done, and nothing changed but that a shard's time may have begun
-/// anew; or memory was refused.
+/// The result of a step: it was done; it can't be done, and nothing changed, except that a shard's
+/// agenda may have been rewound; or memory ran out.
 #[derive(Clone, Copy, Debug, PartialEq, Eq)]
 pub enum Did {
     Done,
@@ -41,7 +41,7 @@ pub enum Did {
 }
 
 impl Did {
-    // 1 for want of memory.
+    // Returns 1 if memory ran out, otherwise 0.
     pub(crate) fn refusals(self) -> u64
         ensures value { result ≡ refusals_of self }
         ensures few { result ≤ 1 }
@@ -53,7 +53,8 @@ impl Did {
         }
     }
 
-    // What it is that somebody came out of a deque, who was taken in so. One who is refused is handed out.
+    // Returns the result of taking a name from a deque, given the result of taking it in. A name
+    // that is refused is handed out.
     pub(crate) fn bring_outcome(self) -> Did
         ensures { result ≡ did_bring self }
     {
@@ -65,7 +66,7 @@ impl Did {
     }
 }
 
-// What a turn is that ended a resident so.
+// Returns the result of a turn that ended a resident, given its ending.
 fn end_outcome(ending: Ending) -> Did
     ensures { result ≡ did_end ending }
 {
@@ -76,7 +77,7 @@ fn end_outcome(ending: Ending) -> Did
     }
 }
 
-// What a poll is with that answer.
+// Returns the result of a step, given that of its poll.
 fn poll_outcome(answer: Polled) -> Did
     ensures { result ≡ did_poll answer }
 {
@@ -98,7 +99,7 @@ impl<A: Agenda> World<A> {
     ghost use Rattle.world.specs.Places.{tenant_at, AreAtOnePlace};
     ghost use Rattle.world.specs.Kept.{IsAlone, IsAloneState, IsPosted, AreLetters};
 
-    // The next name.
+    // Registers the next name.
     fn register(&mut self, spec: Spec) -> Did
         ensures { IsRegistered spec result self.old self.new }
     {
@@ -124,7 +125,7 @@ impl<A: Agenda> World<A> {
         Did::Done
     }
 
-    // One event of a shard.
+    // Makes one event of a shard.
     fn turn(&mut self, i: usize) -> Did
         ensures { IsWorldTurn i result self.old self.new }
     {
@@ -147,7 +148,7 @@ impl<A: Agenda> World<A> {
         }
     }
 
-    // A poll of a slot.
+    // Polls a slot.
     fn poll(&mut self, i: usize, slot: usize) -> Did
         ensures { IsWorldPoll i slot result self.old self.new }
     {
@@ -160,7 +161,7 @@ impl<A: Agenda> World<A> {
         poll_outcome(answer)
     }
 
-    // The time of a shard begins anew.
+    // Rewinds a shard's agenda.
     fn rebase(&mut self, i: usize) -> Did
         ensures { IsWorldRebase i result self.old self.new }
     {
@@ -172,7 +173,7 @@ impl<A: Agenda> World<A> {
         Did::Done
     }
 
-    /// One step of the workers. Afterwards, as ever, each name is as if it were alone.
+    /// Makes one step of the workers. Afterwards, each name is still as if it were alone.
     pub fn step(&mut self, step: Step) -> Did
         ensures case { Does step result self.old self.new }
         ensures headline { (n : ℕ) (t : Tenant) → tenant_at self.new n ≡ Some t →
@@ -189,7 +190,7 @@ impl<A: Agenda> World<A> {
         did
     }
 
-    // The step itself.
+    // Makes the step itself.
     fn do_step(&mut self, step: Step) -> Did
         ensures { Does step result self.old self.new }
     {

@@ -13,8 +13,8 @@ use std::alloc::{AllocError, Global};
 use std::marker::Model;
 use timer_wheel::Agenda;
 
-/// Shards, a deque for each, and experiments by name, from 0 on. A contract sees what is kept of each name, who sits
-/// where in each shard, and the names in each deque.
+/// Shards, a deque for each, and experiments by name, from 0 on. Contracts see the state of each
+/// name, the resident of each slot, and the names in each deque.
 #[derive(Drop)]
 pub struct World<A: Agenda> {
     pub(crate) alloc: Global,
@@ -45,7 +45,7 @@ impl<A: Agenda> World<A> {
     ghost use Rattle.world.specs.Kept.{IsAlone, IsAloneState, IsPosted, AreLetters};
     ghost use Rattle.world.specs.Runs.{place_at, life_at, records_at, consumed_at, stand_records, stand_commands};
 
-    /// Shards without residents, each with an empty deque, and no name.
+    /// Creates shards without residents, each with an empty deque, and no names.
     pub fn new(alloc: Global, shards: usize) -> Result<Self, AllocError>
         ensures names { IfOk result (λ w. w.desks ≡ []) }
         ensures shards { IfOk result (λ w. length w.shards ≡ shards) }
@@ -66,10 +66,11 @@ impl<A: Agenda> World<A> {
         })
     }
 
-    /// What holds in each world. **Whatever steps were made, each name's records and counters are those of running it
-    /// alone**, on the commands that came to it, for as many events as it made; one that goes on shows the whole
-    /// state. What was posted are those commands and those that wait; the letters are the first records; and each
-    /// name is at one place.
+    /// Reveals the invariant of every world. **Whatever steps were made, each name's records and
+    /// counters are those of running it alone**, on the commands that it received, for as many
+    /// events as it made; a name that hasn't ended shows the whole state. The posted commands are
+    /// those received and those that wait; the letters are the first records; and each name is at
+    /// one place.
     pub fn reveal_invariant(&self)
         ensures headline { (n : ℕ) (t : Tenant) → tenant_at self.now n ≡ Some t →
             IsAlone (shown t.life) }
@@ -83,7 +84,7 @@ impl<A: Agenda> World<A> {
         let _ = &self.alloc;
     }
 
-    /// Where a name is; None where it was never made.
+    /// Returns the place of a name, or None if the name was never registered.
     pub fn place(&self, name: u32) -> Option<Place>
         ensures { result ≡ place_at self.now name }
     {
@@ -94,7 +95,7 @@ impl<A: Agenda> World<A> {
         Some(self.desks[at].home.place())
     }
 
-    /// What a name recorded; empty where it was never made.
+    /// Returns the records of a name, or an empty list if the name was never registered.
     pub fn records(&self, name: u32) -> &[Record]
         ensures { result.now ≡ records_at self.now name }
     {
@@ -110,7 +111,8 @@ impl<A: Agenda> World<A> {
         }
     }
 
-    /// The commands that came to a name; empty where it was never made.
+    /// Returns the commands that a name received, or an empty list if the name was never
+    /// registered.
     pub fn consumed(&self, name: u32) -> &[Timed]
         ensures { result.now ≡ consumed_at self.now name }
     {
@@ -126,7 +128,7 @@ impl<A: Agenda> World<A> {
         }
     }
 
-    /// What a name left that has ended; None for any other.
+    /// Returns the dossier of a name that has ended, or None for any other name.
     pub fn dossier_of(&self, name: u32) -> Option<&Dossier<ListMail>>
         ensures some { IfSome result (λ d. life_at self.now name ≡ Some (Over d.now)) }
         ensures none { IfNone result
@@ -142,7 +144,7 @@ impl<A: Agenda> World<A> {
         Some(dossier)
     }
 
-    // What the resident of a slot recorded; empty where nobody is.
+    // Returns the records of a slot's resident, or an empty list if the slot is vacant.
     fn records_in(&self, shard: usize, slot: usize) -> &[Record]
         ensures { result.now ≡ stand_records (stand_at self.now.shards shard slot) }
     {
@@ -155,7 +157,7 @@ impl<A: Agenda> World<A> {
         }
     }
 
-    // The commands that came to the resident of a slot; empty where nobody is.
+    // Returns the commands that a slot's resident received, or an empty list if the slot is vacant.
     fn consumed_in(&self, shard: usize, slot: usize) -> &[Timed]
         ensures { result.now ≡ stand_commands (stand_at self.now.shards shard slot) }
     {

@@ -1,13 +1,14 @@
-//! What two worlds show alike.
+//! A law that relates two worlds.
 
 ghost use Rattle.world.specs.Kept.{AgreeOnNames};
 
 use crate::world::World;
 use timer_wheel::Agenda;
 
-/// Two worlds that gave a name each the same spec, and of whose consumed commands one list begins with the other, show
-/// equal records up to the lesser number of events, whatever else was done there: the records of the one with fewer
-/// events are the first of the other's; after as many events the counters are equal, too.
+/// If two worlds gave a name the same specification, and the consumed commands of one are a prefix
+/// of those of the other, the name's records are equal up to the smaller number of events, whatever
+/// else was done in the worlds: the records with fewer events are a prefix of the others; after the
+/// same number of events the counters are equal, too.
 pub fn two_worlds<A: Agenda, B: Agenda>(one: &World<A>, other: &World<B>)
     ensures { AgreeOnNames one.now other.now }
 {

@@ -1,4 +1,4 @@
-//! Worked examples of one experiment, refusals in their order, and want of memory.
+//! Worked examples of one experiment, refusals in their order, and failed allocations.
 
 ghost use Rattle.packet_store.specs.Own.{own_pocket};
 ghost use Rattle.experiment.specs.Kept.{IsHousedIn};
@@ -15,7 +15,7 @@ use packet_store::OwnShelf;
 use std::alloc::Global;
 use std::process::Abort;
 
-/// An experiment beside its shelf.
+/// An experiment together with its shelf.
 #[derive(Drop)]
 struct Bench {
     shelf: OwnShelf,
@@ -24,7 +24,7 @@ struct Bench {
 }
 
 impl Bench {
-    /// No command came yet; None where memory was refused.
+    /// Creates an experiment without commands. Returns `None` if an allocation fails.
     fn new(alloc: Global, packets: u16, steps: u32) -> Option<Self> {
         let packets = PacketBudget::new(packets)?;
         let steps = StepBudget::new(steps)?;
@@ -45,7 +45,7 @@ impl Bench {
         self.experiment.apply_ready().is_ok()
     }
 
-    /// The same, at the second try where memory was refused.
+    /// Returns true if there is room for a command. Retries once if an allocation fails.
     fn has_room_in_the_end(&mut self) -> bool {
         self.has_room() || self.has_room()
     }
@@ -54,12 +54,12 @@ impl Bench {
         self.experiment.event(&mut self.shelf, 0)
     }
 
-    /// A command comes, and is the next event.
+    /// Applies a command, which must be the next event.
     fn takes(&mut self, moment: u32, command: Command) -> bool {
         self.apply(moment, command).is_ok() && self.event() == Event::Ran
     }
 
-    /// How many records, commands, steps and packets there are.
+    /// Returns the numbers of records, commands, steps and packets.
     fn totals(&self) -> (usize, usize, u64, u64) {
         let records = self.experiment.records().len();
         let commands = self.experiment.consumed().len();
@@ -71,7 +71,8 @@ impl Bench {
         )
     }
 
-    /// Applies a command, at the second try where memory was refused: nothing has changed then.
+    /// Applies a command, and retries once if an allocation fails, after which nothing must have
+    /// changed.
     fn applies_in_the_end(&mut self, moment: u32, command: Command) -> bool {
         let moment = u64::from(moment);
         let timed = Timed { moment, command };
@@ -86,7 +87,7 @@ impl Bench {
         }
     }
 
-    /// What is due, at the second try where memory was refused.
+    /// Returns the dues, and retries once if an allocation fails.
     fn dues_in_the_end(&self, alloc: Global) -> Option<Vec<Due>> {
         match self.experiment.dues(alloc) {
             Ok(dues) => Some(dues),
@@ -94,13 +95,15 @@ impl Bench {
         }
     }
 
-    /// What was touched since this was asked last, at the second try where memory was refused.
+    /// Returns the sources that were touched since the last call, and retries once if an allocation
+    /// fails.
     fn touched_in_the_end(&mut self, sources: &mut Vec<Source>) -> bool {
         self.experiment.touched(sources).is_ok()
             || (sources.is_empty() && self.experiment.touched(sources).is_ok())
     }
 
-    /// What an event does. None where it halts and not all is as before, or something follows.
+    /// Processes an event. Returns `None` if it halts and the state has changed, or if something
+    /// follows the halt.
     fn event_or_halt(&mut self) -> Option<Event> {
         let before = self.totals();
         let event = self.event();
@@ -116,7 +119,7 @@ impl Bench {
     }
 }
 
-/// Pipe 1 with 1 Mbit/s and 10 ms.
+/// Returns the configuration of pipe 1 with 1 Mbit/s and 10 ms.
 fn config() -> Option<Command> {
     Some(Command::Config {
         pipe: PipeNumber::new(1)?,
@@ -137,7 +140,7 @@ fn config() -> Option<Command> {
     })
 }
 
-/// All packets to pipe 1.
+/// Returns a rule that sends all packets to pipe 1.
 fn rule() -> Option<Command> {
     let any = Prefix::new(0, PrefixLength::new(0)?);
     Some(Command::Add(Rule {
@@ -151,7 +154,7 @@ fn rule() -> Option<Command> {
     }))
 }
 
-/// A packet of 1000 bytes.
+/// Returns an `inject` of a packet of 1000 bytes.
 fn inject() -> Option<Command> {
     Some(Command::Inject(SendSpec {
         proto: Protocol::Udp,
@@ -167,7 +170,7 @@ fn done_record(moment: u64, command: u64) -> Record {
     Record::CommandDone { moment, command }
 }
 
-/// Busy while a command waits, and backward below its moment.
+/// Checks that a command is refused as busy while another waits, and as backward before its time.
 fn refuses_two_commands(rt: &impl Abort, bench: &mut Bench) {
     assert_same(rt, bench.apply(5, Command::Show), Ok(()));
     assert_same(rt, bench.apply(5, Command::Show), Err(ApplyError::Busy));
@@ -179,7 +182,7 @@ fn refuses_two_commands(rt: &impl Abort, bench: &mut Bench) {
     assert_same(rt, bench.apply(4, Command::End), Err(ApplyError::Backward));
 }
 
-/// Over after the end.
+/// Checks that a command after the end is refused as over.
 fn refuses_all_after_the_end(rt: &impl Abort, bench: &mut Bench) {
     assert_same(rt, bench.apply(5, Command::End), Ok(()));
     assert_same(rt, bench.event(), Event::Ended);
@@ -187,14 +190,14 @@ fn refuses_all_after_the_end(rt: &impl Abort, bench: &mut Bench) {
     assert_same(rt, bench.event(), Event::Still);
     assert_holds!(rt; matches!(bench.experiment.ending(), Some(Ending::Ended)));
 
-    // The reply, the line of the default rule, the reply.
+    // The records are the reply, the line of the default rule, and the reply.
     let records = bench.experiment.records();
     assert_same(rt, records.len(), 3);
     assert_record(rt, records, 2, done_record(5, 1));
     assert_same(rt, bench.totals(), (3, 2, 2, 0));
 }
 
-/// Busy, then backward, then over.
+/// Checks the refusals as busy, then as backward, and then as over.
 #[test]
 fn a_command_is_busy_then_backward_then_over(rt: HostRuntime) {
     let mut bench = Bench::new(rt.alloc(), 10, 1000).expect(&rt, "a bench");
@@ -203,7 +206,7 @@ fn a_command_is_busy_then_backward_then_over(rt: HostRuntime) {
     drop(bench);
 }
 
-/// The numbers that refusals have outside.
+/// Checks the numbers of refusals that users see.
 #[test]
 fn refusals_have_their_numbers(rt: HostRuntime) {
     let numbers = [
@@ -215,7 +218,7 @@ fn refusals_have_their_numbers(rt: HostRuntime) {
     assert_holds!(&rt; numbers == [27, 28, 29, 99]);
 }
 
-/// The packet enters a pipe of 1 Mbit/s and 10 ms at 0.
+/// Creates a bench in which a packet enters a pipe of 1 Mbit/s and 10 ms at time 0.
 fn bench_with_packet(rt: &(impl Abort + AllocGlobal)) -> Bench {
     let mut bench = Bench::new(rt.alloc(), 10, 1000).expect(rt, "a bench");
     assert_holds!(rt; bench.takes(0, config().expect(rt, "in range")));
@@ -224,7 +227,7 @@ fn bench_with_packet(rt: &(impl Abort + AllocGlobal)) -> Bench {
     bench
 }
 
-/// The packet finishes, is delivered, and the end comes.
+/// Checks that the packet finishes and is delivered, and that the experiment ends.
 fn goes_through(rt: &impl Abort, bench: &mut Bench) {
     assert_same(rt, bench.experiment.counters().held, 1);
     assert_same(rt, bench.experiment.packet_count(), 1);
@@ -239,12 +242,12 @@ fn goes_through(rt: &impl Abort, bench: &mut Bench) {
     assert_holds!(rt; bench.experiment.spec().seed == 0);
 }
 
-/// The commands and the records.
+/// Returns the commands and the records.
 fn lists(bench: Bench) -> (Vec<Timed>, Vec<Record>) {
     bench.experiment.into_lists()
 }
 
-/// A packet of 1000 bytes at 0: it finishes at 8000000, and is delivered at 18000000.
+/// Checks that a packet of 1000 bytes at time 0 finishes at 8000000, and is delivered at 18000000.
 #[test]
 fn one_packet(rt: HostRuntime) {
     let pipe = PipeNumber::new(1).expect(&rt, "a pipe");
@@ -278,7 +281,7 @@ fn names(sources: &[Source], due: Due) -> bool {
     sources.iter().any(|source| *source == due.source)
 }
 
-/// Wants these two to be due, and these to be touched or not.
+/// Checks that these two are due, and that these are touched or not.
 fn are_due(
     rt: &(impl Abort + AllocGlobal),
     bench: &mut Bench,
@@ -294,8 +297,9 @@ fn are_due(
     }
 }
 
-/// The packet of a bench that was sent one, up to its end: it is due at its finish, and all that is due is touched;
-/// then at its exit, and its pipe's two were touched.
+/// Checks the dues of a bench with one packet, up to its end. First the packet is due at its
+/// finish, and everything that is due is touched; then it is due at its exit, and both sources of
+/// its pipe were touched.
 fn dues_to_the_end(rt: &(impl Abort + AllocGlobal), bench: &mut Bench) {
     let end = due(Class::NextCommand, 0, 20_000_000);
     let finish = due(Class::Finish, 256, 8_000_000);
@@ -312,8 +316,8 @@ fn dues_to_the_end(rt: &(impl Abort + AllocGlobal), bench: &mut Bench) {
     assert_holds!(rt; dues.is_empty());
 }
 
-/// A packet in service is due at its finish, then at its exit. Its pipe's step touches both, and not
-/// the next command.
+/// Checks that a packet in service is due at its finish, and then at its exit. The step of its pipe
+/// touches both, and not the next command.
 #[test]
 fn dues_of_one_packet(rt: HostRuntime) {
     let mut bench = bench_with_packet(&rt);
@@ -321,7 +325,7 @@ fn dues_of_one_packet(rt: HostRuntime) {
     drop(bench);
 }
 
-/// It is held when the end comes.
+/// Checks that the packet is still held at the end.
 fn is_held_in_the_end(rt: &impl Abort, bench: &mut Bench) {
     assert_same(rt, bench.apply(18_000_000, Command::End), Ok(()));
     assert_same(rt, bench.event(), Event::Ran);
@@ -334,7 +338,8 @@ fn is_held_in_the_end(rt: &impl Abort, bench: &mut Bench) {
     );
 }
 
-/// With the end at the moment of the exit it isn't delivered: the command comes first.
+/// Checks that a packet isn't delivered if the experiment ends at the time of its exit, because the
+/// command comes first.
 #[test]
 fn one_packet_held(rt: HostRuntime) {
     let mut bench = bench_with_packet(&rt);
@@ -342,7 +347,7 @@ fn one_packet_held(rt: HostRuntime) {
     drop(bench);
 }
 
-/// The line of a rule that has matched nothing.
+/// Returns true if a record is the line of a rule that has matched nothing.
 fn is_idle_rule(record: Option<&Record>) -> bool {
     matches!(
         record,
@@ -354,7 +359,7 @@ fn is_idle_rule(record: Option<&Record>) -> bool {
     )
 }
 
-/// The budget's two steps are two listings.
+/// Checks that two listings spend the budget of two steps.
 fn spends_two_steps(rt: &impl Abort, bench: &mut Bench) {
     assert_holds!(rt; bench.takes(0, Command::Show));
     assert_same(rt, bench.apply(0, Command::Show), Ok(()));
@@ -371,7 +376,8 @@ fn spends_two_steps(rt: &impl Abort, bench: &mut Bench) {
     assert_same(rt, bench.experiment.events(), 2);
 }
 
-/// Two steps: the second listing ends with `spent`, and `end` has no step.
+/// Checks a budget of two steps: the second listing ends with `spent`, and no step is left for
+/// `end`.
 #[test]
 fn step_budget(rt: HostRuntime) {
     let mut bench = Bench::new(rt.alloc(), 10, 2).expect(&rt, "a bench");
@@ -379,7 +385,7 @@ fn step_budget(rt: HostRuntime) {
     drop(bench);
 }
 
-/// The end is the one step there is.
+/// Checks that the only step is the end.
 fn ends_at_once(rt: &impl Abort, bench: &mut Bench) {
     assert_same(rt, bench.apply(7, Command::End), Ok(()));
     assert_same(rt, bench.event(), Event::Ended);
@@ -387,7 +393,7 @@ fn ends_at_once(rt: &impl Abort, bench: &mut Bench) {
     assert_same(rt, bench.experiment.records().len(), 1);
 }
 
-/// An `end` that is the last step of the budget isn't spent.
+/// Checks that an `end` that is the last step of the budget doesn't end with `spent`.
 #[test]
 fn last_step_is_the_end(rt: HostRuntime) {
     let mut bench = Bench::new(rt.alloc(), 10, 1).expect(&rt, "a bench");
@@ -395,7 +401,7 @@ fn last_step_is_the_end(rt: HostRuntime) {
     drop(bench);
 }
 
-/// There is room at the second try at the latest, and nothing has changed.
+/// Checks that there is room after at most two tries, and that nothing has changed.
 fn has_room_in_the_end(rt: &impl Abort, bench: &mut Bench) {
     let before = bench.totals();
     assert_holds!(rt; bench.has_room_in_the_end());
@@ -403,8 +409,8 @@ fn has_room_in_the_end(rt: &impl Abort, bench: &mut Bench) {
     assert_same(rt, bench.apply(5, Command::Show), Ok(()));
 }
 
-/// There is room for a command before it comes, at the second try where memory was refused; nothing has
-/// changed then, and the command needs no memory.
+/// Checks that room for a command can be reserved beforehand, with one retry if an allocation
+/// fails. Nothing has changed then, and the command doesn't allocate.
 #[test]
 fn a_command_has_room(rt: HostRuntime) {
     let Some(mut bench) = Bench::new(rt.alloc(), 10, 1000) else {
@@ -414,8 +420,8 @@ fn a_command_has_room(rt: HostRuntime) {
     drop(bench);
 }
 
-/// Commands come in the end, and an event that halts leaves all as it was. Whether it goes on; None where an
-/// answer was another.
+/// Applies commands, with retries, and checks that an event that halts changes nothing. Returns
+/// whether the experiment continues, or `None` if a result was wrong.
 fn obeys_or_halts(rt: &impl Abort, bench: &mut Bench, commands: &[Command]) -> Option<bool> {
     for command in commands {
         assert_holds!(rt; bench.applies_in_the_end(0, *command));
@@ -426,7 +432,7 @@ fn obeys_or_halts(rt: &impl Abort, bench: &mut Bench, commands: &[Command]) -> O
     Some(true)
 }
 
-/// Two are due, and something was touched.
+/// Checks that two sources are due, and that something was touched.
 fn are_two_due(rt: &impl Abort, alloc: Global, bench: &mut Bench) {
     let dues = bench.dues_in_the_end(alloc).expect(rt, "memory");
     assert_same(rt, dues.len(), 2);
@@ -435,7 +441,8 @@ fn are_two_due(rt: &impl Abort, alloc: Global, bench: &mut Bench) {
     assert_holds!(rt; !touched.is_empty());
 }
 
-/// Three events more, or a halt before. Whether it came to its end; None where an answer was another.
+/// Processes three more events, up to a halt. Returns whether the experiment ended, or `None` if a
+/// result was wrong.
 fn ends_or_halts(rt: &impl Abort, alloc: Global, bench: &mut Bench) -> Option<bool> {
     assert_holds!(rt; bench.applies_in_the_end(20_000_000, Command::End));
     are_two_due(rt, alloc, bench);
@@ -448,7 +455,7 @@ fn ends_or_halts(rt: &impl Abort, alloc: Global, bench: &mut Bench) -> Option<bo
     Some(true)
 }
 
-/// All commands and events. None where an answer was another than is wanted.
+/// Processes all commands and events. Returns `None` if a result was wrong.
 fn plays_or_halts(rt: &impl Abort, alloc: Global, bench: &mut Bench) -> Option<bool> {
     let commands = [config()?, rule()?, inject()?, Command::PipeShow];
     if !obeys_or_halts(rt, bench, &commands)? {
@@ -457,8 +464,8 @@ fn plays_or_halts(rt: &impl Abort, alloc: Global, bench: &mut Bench) -> Option<b
     ends_or_halts(rt, alloc, bench)
 }
 
-/// Passes with ample memory, and where any one allocation is refused: a command comes at the second
-/// try, and an event that halts leaves all as it was.
+/// Checks that a command succeeds on the second try, and that an event that halts changes nothing.
+/// Passes with ample memory, and if any one allocation fails.
 #[test]
 fn refused_memory_changes_nothing(rt: HostRuntime) {
     let Some(mut bench) = Bench::new(rt.alloc(), 10, 1000) else {
@@ -469,7 +476,7 @@ fn refused_memory_changes_nothing(rt: HostRuntime) {
     assert_holds!(&rt; played.is_some());
 }
 
-/// What is recorded of one packet through the pipe, traced from the first command on.
+/// Returns the records of one packet through the pipe, traced from the first command on.
 fn lines_of_a_traced_packet() -> Option<[Record; 10]> {
     let pipe = PipeNumber::new(1)?;
     let (packet, instance) = (0, 0);
@@ -520,8 +527,8 @@ fn lines_of_a_traced_packet() -> Option<[Record; 10]> {
     ])
 }
 
-/// The end comes behind a finish and an exit, or one of them halts. Whether it came; None where an
-/// answer was another.
+/// Applies the end, and processes a finish and an exit before it, up to a halt. Returns whether the
+/// experiment ended, or `None` if a result was wrong.
 fn comes_out_or_halts(rt: &impl Abort, bench: &mut Bench) -> Option<bool> {
     assert_holds!(rt; bench.applies_in_the_end(20_000_000, Command::End));
     for _ in 0..3 {
@@ -532,8 +539,8 @@ fn comes_out_or_halts(rt: &impl Abort, bench: &mut Bench) -> Option<bool> {
     Some(true)
 }
 
-/// A traced packet, up to the end or a halt, and the lines up to there. Whether the end came; None where
-/// an answer was another.
+/// Traces a packet up to the end or a halt, and checks the records up to there. Returns whether the
+/// experiment ended, or `None` if a result was wrong.
 fn traces_or_halts(rt: &impl Abort, bench: &mut Bench, lines: &[Record]) -> Option<bool> {
     let commands = [Command::Trace(true), config()?, rule()?, inject()?];
     let sent = obeys_or_halts(rt, bench, &commands)?;
@@ -544,8 +551,9 @@ fn traces_or_halts(rt: &impl Abort, bench: &mut Bench, lines: &[Record]) -> Opti
     Some(whole)
 }
 
-/// Passes with ample memory, and where any one allocation is refused: an event that halts leaves all as it
-/// was, and an experiment that is tried again records the making, the instance and the arrival.
+/// Checks that an event that halts changes nothing, and that an experiment that is repeated records
+/// the creation, the instance and the arrival. Passes with ample memory, and if any one allocation
+/// fails.
 #[test]
 fn refused_trace_is_recorded_at_the_second_try(rt: HostRuntime) {
     let lines = lines_of_a_traced_packet().expect(&rt, "in range");

@@ -1,4 +1,4 @@
-//! Worked examples: what a net records of a few commands, also where memory is refused once.
+//! Worked examples: what a net records for a few commands, also if one allocation fails.
 
 ghost use Rattle.std.specs.Prelude.{IsTrue, IfSome, [], ◌≡◌, ◌+◌, ◌^◌, ◌<◌, ◌≤◌, length};
 ghost use Rattle.emu_model.specs.Moments.{IsMoment};
@@ -20,7 +20,7 @@ use network::{Network, still_is_housed};
 use packet_store::{OwnShelf, Shelf};
 use std::alloc::Global;
 
-/// The last moment of a test (ns).
+/// The latest time of a test (ns).
 const LATEST: u64 = 1_000_000_000;
 
 fn at(packet_budget: PacketBudget, now: u64) -> EventContext
@@ -33,7 +33,7 @@ fn at(packet_budget: PacketBudget, now: u64) -> EventContext
     }
 }
 
-/// The command behind which nothing comes that is due later.
+/// Returns the due of a command that is before everything that is due later.
 fn next_command(moment: u64) -> Due
     ensures { result ≡ due Class.NextCommand 0 moment }
 {
@@ -46,7 +46,7 @@ fn next_command(moment: u64) -> Due
     }
 }
 
-/// A command is obeyed, or memory is refused.
+/// Obeys a command. Returns false if an allocation fails.
 #[tactic(auto, using(crate::proofs::Standing::refused_made))]
 fn obeys_once(
     net: &mut Network,
@@ -70,7 +70,7 @@ fn obeys_once(
     true
 }
 
-/// How many records, packets made and packets held there are, and what is due first.
+/// Returns the numbers of records, created packets and held packets, and the first due.
 fn totals_and_due(net: &Network, shelf: &OwnShelf) -> (usize, u64, usize, Due) {
     let held = shelf.count(0);
     (
@@ -81,8 +81,7 @@ fn totals_and_due(net: &Network, shelf: &OwnShelf) -> (usize, u64, usize, Due) {
     )
 }
 
-/// A command is obeyed, at the second try where memory was refused, and nothing has changed before
-/// that.
+/// Obeys a command, and retries once if an allocation fails, after which nothing must have changed.
 #[tactic(auto, using(crate::proofs::Standing::stands_at))]
 fn obeys(
     net: &mut Network,
@@ -113,7 +112,7 @@ fn obeys(
     obeys_once(net, shelf, at(room, now), number, command)
 }
 
-/// An event comes, or memory is refused.
+/// Processes an event. Returns false if an allocation fails.
 #[tactic(auto, using(crate::proofs::Standing::refused_made))]
 fn happens(net: &mut Network, shelf: &mut OwnShelf, at: EventContext, due: Due) -> bool
     requires stands { Stands at (own_pocket shelf.old) net.old }
@@ -132,8 +131,8 @@ fn happens(net: &mut Network, shelf: &mut OwnShelf, at: EventContext, due: Due) 
     true
 }
 
-/// All events before a moment come. One that is refused memory is tried again, and nothing has changed
-/// before that.
+/// Processes all events before a time. If an allocation fails, nothing must have changed, and the
+/// event is repeated.
 #[tactic(auto, using(crate::proofs::Standing::stands_at, crate::proofs::Standing::next_is_due))]
 fn goes_on(
     net: &mut Network,
@@ -168,7 +167,7 @@ fn goes_on(
     false
 }
 
-/// A net of seed 0, at the second try where memory was refused.
+/// Creates a net of seed 0, and retries once if an allocation fails.
 fn opens(alloc: Global) -> Option<Network>
     ensures keys { IfSome result (λ n. net_keys n ≡ []) }
     ensures seed { IfSome result (λ n. n.table.seed ≡ 0) }
@@ -180,7 +179,7 @@ fn opens(alloc: Global) -> Option<Network>
     }
 }
 
-/// Commands are obeyed, and the events before the last of them come.
+/// Obeys the commands, and processes the events before the last of them.
 #[tactic(auto, using(crate::proofs::Standing::stands_at))]
 fn goes_through(
     net: &mut Network,
@@ -208,7 +207,7 @@ fn goes_through(
     true
 }
 
-/// What is recorded of commands and of the events before the last of them.
+/// Returns the records of the commands and of the events before the last of them.
 fn plays(alloc: Global, room: PacketBudget, commands: &[Timed]) -> Option<Vec<Record>>
     requires { length commands.now ≤ 100 }
 {
@@ -224,7 +223,7 @@ fn plays(alloc: Global, room: PacketBudget, commands: &[Timed]) -> Option<Vec<Re
     Some(records)
 }
 
-/// This bandwidth (bit/s) and delay (ms).
+/// Returns a configuration with this bandwidth (bit/s) and delay (ms).
 fn config(bw: u64, delay: u16) -> Option<PipeConfig> {
     Some(PipeConfig {
         bw: Bandwidth::new(bw)?,
@@ -242,14 +241,14 @@ fn config(bw: u64, delay: u16) -> Option<PipeConfig> {
     })
 }
 
-/// A pipe with this bandwidth (bit/s) and delay (ms).
+/// Returns a pipe with this bandwidth (bit/s) and delay (ms).
 fn pipe(number: u16, bw: u64, delay: u16) -> Option<Command> {
     let pipe = PipeNumber::new(number)?;
     let config = config(bw, delay)?;
     Some(Command::Config { pipe, config })
 }
 
-/// A rule for all packets.
+/// Returns a rule for all packets.
 fn rule(number: u32, action: Action) -> Option<Rule> {
     let any = Prefix::new(0, PrefixLength::new(0)?);
     Some(Rule {
@@ -267,7 +266,7 @@ fn send_to(pipe: u16) -> Option<Action> {
     Some(Action::Pipe(PipeNumber::new(pipe)?))
 }
 
-/// A packet of 1000 bytes.
+/// Returns a packet of 1000 bytes.
 fn thousand() -> Option<SendSpec> {
     Some(SendSpec {
         proto: Protocol::Udp,
@@ -279,7 +278,7 @@ fn thousand() -> Option<SendSpec> {
     })
 }
 
-/// Four segments of 1460 bytes.
+/// Returns a flow of four segments of 1460 bytes.
 fn four_segments() -> Option<FlowSpec> {
     Some(FlowSpec {
         src: 0x0a00_0001,
@@ -294,7 +293,7 @@ fn four_segments() -> Option<FlowSpec> {
     })
 }
 
-/// A rule for TCP from one host to another.
+/// Returns a rule for TCP from one host to another.
 fn between(number: u32, from: u32, to: u32, pipe: u16) -> Option<Command> {
     let host = PrefixLength::new(32)?;
     Some(Command::Add(Rule {
@@ -359,7 +358,7 @@ fn rule_line(rule: Rule, packets: u64, bytes: u64) -> Record {
     }
 }
 
-// A packet goes on in the rules behind each pipe.
+// Checks that a packet continues in the rules after each pipe.
 #[test]
 fn two_pipes_in_turn(rt: HostRuntime) {
     let room = PacketBudget::new(1000).expect(&rt, "budget");
@@ -396,7 +395,7 @@ fn two_pipes_in_turn(rt: HostRuntime) {
     assert_records(&rt, &records, 7, &expected);
 }
 
-// What a pipe held goes with it, and nothing comes to it then.
+// Checks that the packets of a deleted pipe are gone, and that nothing enters the pipe afterwards.
 #[test]
 fn pipe_deleted(rt: HostRuntime) {
     let room = PacketBudget::new(1000).expect(&rt, "budget");
@@ -428,7 +427,8 @@ fn pipe_deleted(rt: HostRuntime) {
     assert_records(&rt, &records, 0, &expected);
 }
 
-// 10 Mbit/s and 10 ms there, 10 ms back: what a stopped flow has sent still comes, and is not taken.
+// Checks a flow with 10 Mbit/s and 10 ms there and 10 ms back: the segments that it sent before it
+// was stopped still arrive, and are not accepted.
 #[test]
 fn stopped_flow(rt: HostRuntime) {
     let room = PacketBudget::new(100).expect(&rt, "budget");
@@ -538,7 +538,7 @@ fn stopped_flow(rt: HostRuntime) {
     assert_records(&rt, &records, 5, &expected);
 }
 
-/// The rules of the listing, of which the last sends to this pipe.
+/// Returns the rules of the listing, of which the last sends to this pipe.
 fn listed_rules(pipe: PipeNumber) -> Option<[Rule; 4]> {
     let place = RuleNumber::new(300)?;
     Some([
@@ -549,7 +549,8 @@ fn listed_rules(pipe: PipeNumber) -> Option<[Rule; 4]> {
     ])
 }
 
-// The rules with what they counted, and the pipe with its instance, which serves the packet.
+// Checks the listing of the rules with their counters, and of the pipe with its instance, which
+// serves the packet.
 #[test]
 fn listings(rt: HostRuntime) {
     let room = PacketBudget::new(10).expect(&rt, "budget");
@@ -594,7 +595,7 @@ fn listings(rt: HostRuntime) {
     assert_records(&rt, &records, 6, &expected);
 }
 
-// The steps are spent behind a listing.
+// Checks that the steps are spent after a listing.
 #[test]
 fn steps_are_spent(rt: HostRuntime) {
     let room = PacketBudget::new(10).expect(&rt, "budget");

@@ -1,4 +1,4 @@
-//! Worked pipes, by hand, and instances without a pipe.
+//! Worked pipes, computed by hand, and instances without a pipe.
 
 mod bench;
 mod instances;
@@ -7,10 +7,10 @@ mod tables;
 
 use emu_model::{Bandwidth, Delay, Discipline, LossRate, Mask, PipeConfig, QueueLimit};
 
-/// The first moment (ns) that is too late for an event.
+/// The first time (ns) that is too late for an event.
 const END: u64 = 2_000_000_000_000_000;
 
-/// A pipe for all packets with this bandwidth (bit/s) and delay (ms).
+/// Returns a pipe for all packets with this bandwidth (bit/s) and delay (ms).
 fn pipe(bw: u64, delay: u16, queue: QueueLimit, discipline: Discipline) -> Option<PipeConfig> {
     Some(PipeConfig {
         bw: Bandwidth::new(bw)?,

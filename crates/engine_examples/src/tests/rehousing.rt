@@ -1,5 +1,5 @@
-//! An experiment whose packets move to a store and back between its events records what it records
-//! where they stay.
+//! An experiment whose packets move to a store and back between its events, which must have the
+//! same records as one whose packets stay.
 
 ghost use Rattle.std.specs.Prelude.{◌≡◌, IsSome};
 ghost use Rattle.packet_store.specs.Pocket.{empty_pocket};
@@ -19,8 +19,8 @@ use packet_store::{OwnShelf, Owner, Shelf, Store};
 use std::alloc::Global;
 use std::process::Abort;
 
-/// The experiment moves to the store, makes an event there, and moves back. None where memory was
-/// refused.
+/// Moves the experiment to the store, processes an event there, and moves it back. Returns `None`
+/// if an allocation fails.
 fn visits(
     experiment: &mut Experiment,
     own: &mut OwnShelf,
@@ -44,7 +44,7 @@ fn visits(
     Some(event)
 }
 
-/// Makes events until the next command is wanted, one here and one in the store in turn.
+/// Processes events until the next command is due, alternately here and in the store.
 fn goes_on(
     experiment: &mut Experiment,
     own: &mut OwnShelf,
@@ -67,7 +67,7 @@ fn goes_on(
     None
 }
 
-/// Applies each command in its turn, and makes its events. False where memory was refused.
+/// Applies each command in turn, and processes its events. Returns false if an allocation fails.
 fn plays(
     experiment: &mut Experiment,
     own: &mut OwnShelf,
@@ -89,8 +89,9 @@ fn plays(
     true
 }
 
-/// What an experiment of seed 1 records that moves between its events, beside another owner. (What is made here is
-/// dropped by calls: where it stands, each of its parts would be proved.)
+/// Returns the records of an experiment of seed 1 that moves between its events, in a store with
+/// another owner. (What is created here is dropped by calls, because each of its parts would
+/// otherwise be proved here.)
 fn records_of_moves(alloc: Global, commands: &[Timed]) -> Option<Vec<Record>> {
     let packets = PacketBudget::new(100)?;
     let steps = StepBudget::new(1000)?;
@@ -115,7 +116,7 @@ fn records_of_moves(alloc: Global, commands: &[Timed]) -> Option<Vec<Record>> {
     Some(records)
 }
 
-/// A pipe of this bandwidth (bit/s), 0 for none, and 10 ms.
+/// Returns a pipe with this bandwidth (bit/s), or 0 for none, and 10 ms.
 fn pipe(number: u16, bw: u64) -> Option<Command> {
     Some(Command::Config {
         pipe: PipeNumber::new(number)?,
@@ -136,7 +137,7 @@ fn pipe(number: u16, bw: u64) -> Option<Command> {
     })
 }
 
-/// A rule for TCP from one host to another.
+/// Returns a rule for TCP from one host to another.
 fn between(number: u32, from: u32, to: u32, pipe: u16) -> Option<Command> {
     let host = PrefixLength::new(32)?;
     Some(Command::Add(Rule {
@@ -150,7 +151,7 @@ fn between(number: u32, from: u32, to: u32, pipe: u16) -> Option<Command> {
     }))
 }
 
-/// Four segments of 1460 bytes.
+/// Returns a flow of four segments of 1460 bytes.
 fn four_segments() -> Option<Command> {
     Some(Command::Flow {
         number: FlowNumber::new(1)?,
@@ -172,7 +173,7 @@ fn timed_command(moment: u64, command: Command) -> Timed {
     Timed { moment, command }
 }
 
-/// The commands of the example of four segments.
+/// Returns the commands of the example of four segments.
 fn commands() -> Option<[Timed; 6]> {
     Some([
         timed_command(0, pipe(1, 10_000_000)?),
@@ -184,7 +185,7 @@ fn commands() -> Option<[Timed; 6]> {
     ])
 }
 
-/// The kinds of records that it has.
+/// The kinds of records in the example.
 #[derive(Clone, Copy, PartialEq)]
 enum Kind {
     Command,
@@ -194,9 +195,9 @@ enum Kind {
     Window,
 }
 
-/// The kind of a record, its moment, and two numbers of it: of a command its own; of a finish its packet and pipe; of a
-/// delivery its packet, and its first byte or the one that it acknowledges; of an acknowledgement that was taken its
-/// window and threshold.
+/// The kind of a record, its time, and two of its numbers: for a command its own number; for a
+/// finish its packet and pipe; for a delivery its packet, and its first byte or the byte that it
+/// acknowledges; for an acknowledgement that was accepted the window and the threshold.
 type Line = (Kind, u64, u64, u64);
 
 /// The lines of that example.
@@ -229,7 +230,7 @@ const LINES: [Line; 26] = [
     (Kind::Command, 100_000_000, 5, 0),
 ];
 
-/// The line of a record; None of other kinds, other flows and other instances.
+/// Returns the line of a record, or `None` for other kinds, other flows and other instances.
 fn line_of(record: &Record) -> Option<Line> {
     match *record {
         Record::CommandDone { moment, command } => Some((Kind::Command, moment, command, 0)),

@@ -1,4 +1,4 @@
-//! Worked numbers, each counted by hand. A test is proved safe too, so the calls stand in functions
+//! Worked numbers, each counted by hand. A test is proved safe too, so the calls are in functions
 //! of their own, and the tests are tables.
 
 use crate::tests::wants::assert_same;
@@ -11,7 +11,8 @@ use std::alloc::Global;
 use std::process::Abort;
 use std::test::Fail;
 
-/// A call, with the numbers of a rule and of what it names; behind a place its number and order.
+/// A call, with the numbers of a rule and of what the rule names. A call after a place has the
+/// place's number and order.
 #[derive(Clone, Copy)]
 enum Call {
     Allow(u32),
@@ -27,7 +28,7 @@ enum Call {
     ClassifyAfter(u32, u64),
 }
 
-// What is out of range is the nearest value in it: the tables hold no such number.
+// Returns the nearest number in the range. The tables have no number outside it.
 
 fn number(n: u32) -> RuleNumber {
     RuleNumber::new(n.min(99999)).unwrap()
@@ -48,7 +49,7 @@ fn place(n: u32, order: u64) -> Place {
     }
 }
 
-/// A rule that matches every packet.
+/// Returns a rule that matches every packet.
 fn rule(n: u32, action: Action) -> Rule {
     Rule {
         number: number(n),
@@ -61,7 +62,7 @@ fn rule(n: u32, action: Action) -> Rule {
     }
 }
 
-/// 1000 bytes.
+/// Returns a packet of 1000 bytes.
 fn packet(proto: Protocol, src: u32, sport: u16, dst: u32, dport: u16) -> Packet {
     Packet {
         proto,
@@ -76,7 +77,7 @@ fn packet(proto: Protocol, src: u32, sport: u16, dst: u32, dport: u16) -> Packet
     }
 }
 
-/// 1000 bytes of udp from 10.0.0.1:1000 to 10.0.0.2:2000.
+/// Returns a udp packet of 1000 bytes from 10.0.0.1:1000 to 10.0.0.2:2000.
 fn udp() -> Packet {
     packet(Protocol::Udp, 0x0a00_0001, 1000, 0x0a00_0002, 2000)
 }
@@ -154,14 +155,14 @@ fn answer(list: &mut RuleList, call: Call) -> &'static str {
     }
 }
 
-/// Each call has its answer.
+/// Checks that each call has its result.
 fn answers(rt: &impl Abort, list: &mut RuleList, wanted: &[(Call, &'static str)]) {
     for (place, (call, want)) in wanted.iter().enumerate() {
         assert_same(rt, (place, answer(list, *call)), (place, *want));
     }
 }
 
-/// Whether a rule has this number, order, packets and bytes.
+/// Returns true if a rule has this number, order, packets and bytes.
 fn is_line(counted: &CountedRule, want: (u32, u64, u64, u64)) -> bool {
     let place = counted.place();
     counted.rule().number.get() == want.0
@@ -170,7 +171,7 @@ fn is_line(counted: &CountedRule, want: (u32, u64, u64, u64)) -> bool {
         && counted.bytes() == want.3
 }
 
-/// The listing has these lines: number, order, packets, bytes.
+/// Checks that the listing has these lines: number, order, packets, bytes.
 fn lists(rt: &impl Abort, list: &mut RuleList, wanted: &[(u32, u64, u64, u64)]) {
     assert_same(rt, list.len(), wanted.len());
     for (place, want) in wanted.iter().enumerate() {
@@ -179,7 +180,7 @@ fn lists(rt: &impl Abort, list: &mut RuleList, wanted: &[(u32, u64, u64, u64)]) 
     }
 }
 
-/// A packet of 1000 bytes gets this pipe, with this place.
+/// Returns true if a packet of 1000 bytes is sent to this pipe, with this place.
 fn finds_pipe(list: &RuleList, wanted: (u16, u32, u64)) -> bool {
     let verdict = list.find(&udp());
     match verdict {
@@ -218,7 +219,7 @@ fn jump_to_a_pipe(rt: HostRuntime) -> Result<(), Fail> {
     Ok(())
 }
 
-/// The list is full then.
+/// Fills the list.
 fn skip_from_all(rt: &impl Abort, list: &mut RuleList) {
     for n in 1..257 {
         assert_same(rt, (n, answer(list, Call::Skip(n, 65535))), (n, "ok"));
@@ -285,7 +286,7 @@ const FOUND_BEFORE: [(Call, &'static str); 11] = [
     (Call::SendAfter(1, 0), "deny"),
 ];
 
-/// Rules come and go between packets of one flow, in a list that is long enough for paths.
+/// Adds and removes rules between packets of one flow, in a list that is long enough for paths.
 #[test]
 fn what_was_found_before_changes(rt: HostRuntime) -> Result<(), Fail> {
     let mut list = made_at_last(rt.alloc())?;
@@ -319,7 +320,8 @@ const COUNTED: [(Call, &'static str); 11] = [
     (Call::SendAfter(2, 7), "allow"),
 ];
 
-/// Packets of one flow are counted by their path, and its rules have them when they are listed, and when one goes.
+/// Checks that packets of one flow are counted by their path, and that the counts are added to its
+/// rules when they are listed, and when one is removed.
 #[test]
 fn what_a_path_counted(rt: HostRuntime) -> Result<(), Fail> {
     let mut list = made_at_last(rt.alloc())?;
@@ -343,7 +345,7 @@ fn what_a_path_counted(rt: HostRuntime) -> Result<(), Fail> {
     Ok(())
 }
 
-/// Tries once more where memory was refused.
+/// Creates a list, and retries once if an allocation fails.
 fn made_at_last(alloc: Global) -> Result<RuleList, Fail> {
     match RuleList::new(alloc) {
         Ok(list) => Ok(list),
@@ -351,14 +353,14 @@ fn made_at_last(alloc: Global) -> Result<RuleList, Fail> {
     }
 }
 
-/// Rules of each number below an end come, one after the other.
+/// Adds a rule for each number below an end, one after the other.
 fn grows_to(rt: &impl Abort, list: &mut RuleList, end: u32) {
     for n in 1..end {
         assert_same(rt, (n, grows(list, n)), (n, true));
     }
 }
 
-/// One rule more, at the second try where memory was refused; the list was as before then.
+/// Adds a rule, and retries once if an allocation fails, after which the list must be unchanged.
 fn grows(list: &mut RuleList, n: u32) -> bool {
     let before = list.len();
     let first = answer(list, Call::Count(n));
@@ -368,7 +370,7 @@ fn grows(list: &mut RuleList, n: u32) -> bool {
     list.len() == before && answer(list, Call::Count(n)) == "ok"
 }
 
-/// Passes with ample memory, and where any one allocation is refused.
+/// Checks growth. Passes with ample memory, and if any one allocation fails.
 #[test]
 fn memory_may_be_refused(rt: HostRuntime) -> Result<(), Fail> {
     let mut list = made_at_last(rt.alloc())?;
@@ -376,7 +378,7 @@ fn memory_may_be_refused(rt: HostRuntime) -> Result<(), Fail> {
     Ok(())
 }
 
-/// allow udp from 10.0.0.0/30 1000-1001 to 10.0.0.2/32 2000-2000
+/// Returns the rule allow udp from 10.0.0.0/30 1000-1001 to 10.0.0.2/32 2000-2000.
 fn narrow_rule() -> Rule {
     Rule {
         number: number(100),
@@ -389,7 +391,8 @@ fn narrow_rule() -> Rule {
     }
 }
 
-/// What is done with a packet: its protocol, source, destination, each with its port, and the answer, told by hand.
+/// The packets, given by their protocol, source and destination, each with its port, and the
+/// verdicts, worked out by hand.
 const MATCHES: [(Protocol, u32, u16, u32, u16, &'static str); 8] = [
     (Protocol::Udp, 0x0a00_0001, 1000, 0x0a00_0002, 2000, "allow"),
     (Protocol::Udp, 0x0a00_0003, 1001, 0x0a00_0002, 2000, "allow"),
@@ -401,7 +404,7 @@ const MATCHES: [(Protocol, u32, u16, u32, u16, &'static str); 8] = [
     (Protocol::Udp, 0x0a00_0001, 1000, 0x0a00_0002, 2001, "deny"),
 ];
 
-/// The one rule of this list matches the packets that it should.
+/// Checks that the only rule of this list matches the right packets.
 fn matches_as_told(rt: &impl Abort, list: &RuleList) {
     for (place, (proto, src, sport, dst, dport, want)) in MATCHES.iter().enumerate() {
         let sent = packet(*proto, *src, *sport, *dst, *dport);
@@ -417,7 +420,7 @@ fn what_a_rule_matches(rt: HostRuntime) -> Result<(), Fail> {
     Ok(())
 }
 
-/// allow udp from any 1-300 to any
+/// Returns the rule allow udp from any 1-300 to any.
 fn low_ports() -> Rule {
     Rule {
         proto: ProtocolMatch::OnlyUdp,
@@ -426,7 +429,7 @@ fn low_ports() -> Rule {
     }
 }
 
-/// Each of 3000 flows gets its own verdict, foreseen and then counted.
+/// Checks that each of 3000 flows has its own verdict, first predicted and then counted.
 fn take_turns(list: &mut RuleList) -> bool {
     for sport in 1..3001 {
         let sent = packet(Protocol::Udp, 0x0a00_0001, sport, 0x0a00_0002, 2000);
@@ -445,7 +448,7 @@ const DENIALS: [(Call, &'static str); 4] = [
     (Call::Deny(23), "ok"),
 ];
 
-/// More flows than there are places for paths, in turn: they take each other's places.
+/// Checks more flows than there are places for paths, in turn, so that they replace each other.
 #[test]
 fn flows_at_one_place(rt: HostRuntime) -> Result<(), Fail> {
     let mut list = RuleList::new(rt.alloc())?;

@@ -1,4 +1,5 @@
-//! What the tests want. `assert!` and `assert_eq!` are proved at each place where they stand, and a call is not.
+//! The assertions of the tests. `assert!` and `assert_eq!` are proved at each place where they are
+//! used, and a call is not.
 
 use emu_model::Record;
 use std::fmt::Debug;
@@ -8,18 +9,18 @@ pub fn assert_same<T: Debug + Drop + PartialEq>(rt: &impl Abort, given: T, wante
     assert_eq!(rt; given, wanted);
 }
 
-/// What holds is told where it doesn't.
+/// Checks a condition, and reports the message if it is false.
 pub fn assert_with_message(rt: &impl Abort, holds: bool, what: &str) {
     assert!(rt; holds, "{what}");
 }
 
-/// A record stands at its place.
+/// Checks that a record is at its place.
 pub fn assert_record(rt: &impl Abort, records: &[Record], place: usize, wanted: Record) {
     let is_there = place < records.len() && records[place] == wanted;
     assert_same(rt, (place, is_there), (place, true));
 }
 
-/// From a place on there are just these records.
+/// Checks that from a place on there are exactly these records.
 pub fn assert_records(rt: &impl Abort, records: &[Record], first: usize, wanted: &[Record]) {
     assert_same(rt, records.len(), first.saturating_add(wanted.len()));
     for (place, record) in wanted.iter().enumerate() {

@@ -1,11 +1,12 @@
-//! As many experiments as a scenario may have, no two of them alike: each has its own report, to the last one.
+//! The maximum number of experiments in a scenario, all different: each has its own report, up to
+//! the last one.
 
 use super::workers::run_by_workers;
 use super::*;
 use shard::MAX_RESIDENTS;
 use std::alloc::AllocError;
 
-// An experiment for each number, which ends at that moment.
+// Returns a scenario with an experiment for each number, which ends at that time.
 fn scenario(alloc: Global) -> Result<String, AllocError> {
     let mut text = String::new(alloc);
     for k in 0..MAX_RESIDENTS {
@@ -15,7 +16,7 @@ fn scenario(alloc: Global) -> Result<String, AllocError> {
     Ok(text)
 }
 
-// Their reports.
+// Returns the reports of the scenario.
 fn reports(alloc: Global) -> Result<String, AllocError> {
     let mut text = String::new(alloc);
     for k in 0..MAX_RESIDENTS {

@@ -1,9 +1,9 @@
-//! Readers and writers that fail, are interrupted, give or take little, or keep bytes back.
+//! Readers and writers that fail, are interrupted, return or accept few bytes, or buffer bytes.
 
 use super::*;
 use std::io::{ErrorKind, Read, Write};
 
-/// A reader that gives a few bytes at each read, and fails at the read after so many.
+/// A reader that returns a few bytes at each read, and fails at the read after `reads` reads.
 #[derive(Drop)]
 struct Reader<'a> {
     left: &'a [u8],
@@ -21,7 +21,7 @@ impl Read for Reader<'_> {
     }
 }
 
-/// A reader that is interrupted twice before each read, which gives a byte.
+/// A reader that is interrupted twice before each read, which returns one byte.
 #[derive(Drop)]
 struct Shaky<'a> {
     left: &'a [u8],
@@ -39,7 +39,8 @@ impl Read for Shaky<'_> {
     }
 }
 
-/// A writer that is interrupted twice before each write, which takes a byte, and before each flush.
+/// A writer that is interrupted twice before each write, which accepts one byte, and before each
+/// flush.
 #[derive(Drop)]
 struct ShakyOut {
     taken: Vec<u8>,
@@ -69,7 +70,7 @@ impl Write for ShakyOut {
     }
 }
 
-/// A writer that takes so many bytes, a few at each write, and then fails, or takes none.
+/// A writer that accepts `room` bytes, a few at each write, and then fails, or accepts none.
 #[derive(Drop)]
 struct Writer {
     taken: Vec<u8>,
@@ -93,8 +94,8 @@ impl Write for Writer {
     }
 }
 
-/// A writer that keeps bytes back until it is flushed. It is interrupted at its first flushes, and may fail at the
-/// one after them.
+/// A writer that buffers bytes until it is flushed. It is interrupted at its first flushes, and may
+/// fail at the next one.
 #[derive(Drop)]
 struct Late {
     kept: Vec<u8>,
@@ -123,7 +124,7 @@ impl Write for Late {
     }
 }
 
-// Reads fail in their turn: nothing is written.
+// Checks that nothing is written if one of the first reads fails.
 fn reads_fail<H: Threads + Wait + Sync + Abort + AllocGlobal>(rt: &H, way: Way, scenario: &str) {
     for reads in 0..3 {
         let mut reader = Device::new(Reader {
@@ -146,7 +147,7 @@ fn each_read_fails(rt: HostRuntime) {
     }
 }
 
-// Writes fail after each number of bytes: just these were written.
+// Checks writes that fail after each number of bytes: exactly these bytes were written.
 fn writes_fail<H: Threads + Wait + Sync + Abort + AllocGlobal>(
     rt: &H,
     way: Way,
@@ -204,7 +205,8 @@ fn interrupted_reads(rt: HostRuntime) {
     }
 }
 
-/// Patience for two interruptions is enough where each call after them goes well: it is given back then.
+/// Checks that patience for two interruptions is enough if each call after them succeeds, because
+/// that restores it.
 #[test]
 fn patience_is_given_back(rt: HostRuntime) {
     for way in [Way::Alone, Way::Together] {
@@ -226,7 +228,8 @@ fn patience_is_given_back(rt: HostRuntime) {
     }
 }
 
-// What a call answers to a writer that keeps bytes back, and what that handed on.
+// Returns the result of a call with a writer that buffers bytes, and the bytes that the writer
+// passed on.
 fn flushes<H: Threads + Wait + Sync>(
     rt: &H,
     alloc: Global,
@@ -260,7 +263,7 @@ fn interrupted_flush(rt: HostRuntime) {
     }
 }
 
-/// A device whose calls are interrupted without end. It counts them.
+/// A device whose calls are interrupted forever. It counts them.
 #[derive(Drop)]
 struct Endless {
     calls: u64,
@@ -310,7 +313,7 @@ fn interrupted_without_end(rt: HostRuntime) {
 
 #[test]
 fn flush_interrupted_without_end(rt: HostRuntime) {
-    // Nothing is written, so the flush is the one call.
+    // Nothing is written, so the flush is the only call.
     let mut reader = Device::new("".as_bytes());
     let mut writer = Device::with_patience(Endless { calls: 0 }, 1000);
     let outcome = run_alone(rt.alloc(), &mut reader, &mut writer);
@@ -354,7 +357,7 @@ impl Write for Once {
 
 #[test]
 fn failed_for_good(rt: HostRuntime) {
-    // A device that failed isn't called again, also by the next run.
+    // A device that failed isn't called again, not even by the next run.
     let mut reader = Device::new(Once { calls: 0 });
     let mut writer = Device::new(Once { calls: 0 });
     for way in [Way::Alone, Way::Together, Way::Check] {

@@ -1,12 +1,13 @@
-//! Readers and writers of our own: they go byte by byte, are interrupted before each, and fail at each in its turn.
+//! Readers and writers of our own: they transfer one byte at a time, are interrupted before each,
+//! and fail at each in turn.
 
 ghost use Rattle.std.specs.Prelude.{◌≡◌, ◌<◌, true};
 ghost use Rattle.alone.specs.Troubles.{has_failed};
 
 use super::*;
 
-/// A reader that gives a byte at each read. It is interrupted so often before each of them, and fails at the read
-/// after so many.
+/// A reader that returns one byte at each read. It is interrupted `interrupts` times before each of
+/// them, and fails at the read after `reads` reads.
 #[derive(Drop)]
 struct Drip<'a> {
     left: &'a [u8],
@@ -56,8 +57,8 @@ impl Inlet for Drip<'_> {
     }
 }
 
-/// A writer that takes a byte at each write. It is interrupted so often before each of them and before a flush, and
-/// fails at the call after so many.
+/// A writer that accepts one byte at each write. It is interrupted `interrupts` times before each
+/// of them and before a flush, and fails at the call after `calls` calls.
 #[derive(Drop)]
 struct Drain {
     taken: Vec<u8>,
@@ -68,7 +69,7 @@ struct Drain {
 }
 
 impl Drain {
-    // Whether a call is one that does something.
+    // Begins a call. Returns an error if the call is interrupted or fails.
     fn begin(&mut self) -> Result<(), Trouble>
         ensures failed { self.new.failed ≡ has_failed result }
         ensures stays { self.old.failed ≡ true → result ≡ Err Trouble.Failed }
@@ -115,7 +116,7 @@ impl Outlet for Drain {
     }
 }
 
-// A reader of this text.
+// Creates a reader of this text.
 fn drip_of(text: &str, reads: usize, interrupts: u32) -> Drip<'_> {
     Drip {
         left: text.as_bytes(),
@@ -126,7 +127,7 @@ fn drip_of(text: &str, reads: usize, interrupts: u32) -> Drip<'_> {
     }
 }
 
-// A writer that holds nothing yet.
+// Creates a writer that holds nothing yet.
 fn new_drain(alloc: Global, calls: usize, interrupts: u32) -> Drain {
     Drain {
         taken: Vec::new(alloc),
@@ -137,7 +138,7 @@ fn new_drain(alloc: Global, calls: usize, interrupts: u32) -> Drain {
     }
 }
 
-/// What each way writes of `one_packet`.
+/// The output of each way for `one_packet`.
 const WRITTEN: [(Way, &str); 3] = [
     (Way::Alone, texts::ONE_PACKET_REPORT),
     (Way::Together, texts::ONE_PACKET_REPORT),
@@ -146,7 +147,8 @@ const WRITTEN: [(Way, &str); 3] = [
 
 #[test]
 fn byte_by_byte(rt: HostRuntime) {
-    // A read for each byte and one for the end, a write for each byte and a flush: no call more.
+    // One read for each byte and one for the end, and one write for each byte and a flush: no more
+    // calls.
     for (way, report) in WRITTEN {
         for interrupts in [0, 1, 100] {
             let mut reader = drip_of(texts::ONE_PACKET, texts::ONE_PACKET.len() + 1, interrupts);

@@ -1,12 +1,13 @@
-//! Limits for all experiments together: at them a run answers as without, past them nothing is written.
+//! Limits for all experiments together: up to the limits a run has the same result as without them,
+//! and past them nothing is written.
 
 use super::*;
 
-/// The steps that the four experiments may take: three of them 10^6 each, and the last 2.
+/// The steps that the four experiments may take: 10^6 for each of three, and 2 for the last.
 const STEPS: u64 = 3_000_002;
 
-/// Whether a run within limits answers four experiments and four reports, and what it wrote: by each experiment itself, or
-/// by two workers. It wants all of the text to be kept.
+/// Runs within limits, each experiment by itself or with two workers. Returns whether there are
+/// four experiments and four reports, and the output. The whole text must be kept.
 fn within<H: Abort + Threads + Wait + Sync + AllocGlobal>(
     rt: &H,
     is_alone: bool,

@@ -1,9 +1,9 @@
-//! Sessions over memory, and a scenario's bytes by the pure core.
+//! Sessions over memory, and a scenario's bytes through the pure core.
 
 use super::*;
 use alone::{NoHints, live, reports_of};
 
-/// What a session answers, and what it wrote.
+/// Returns the result of a session, and its output.
 fn talk(alloc: Global, lines: &str) -> (Result<(), RunFault>, Vec<u8>) {
     let mut reader = Device::new(lines.as_bytes());
     let mut writer = Device::new(Vec::new(alloc));
@@ -11,8 +11,8 @@ fn talk(alloc: Global, lines: &str) -> (Result<(), RunFault>, Vec<u8>) {
     (outcome, writer.into_inner())
 }
 
-/// 1000 bytes at 1 Mbit/s take 8 ms, and then 10 ms of delay: the packet comes at 18 ms, and the answer is sent 1 ns
-/// later.
+/// A link on which 1000 bytes at 1 Mbit/s take 8 ms, followed by 10 ms of delay: the packet arrives
+/// at 18 ms, and the reply is sent 1 ns later.
 const ASKED: &str = "experiment by-hand seed 1 budget 10\n\
     @0 pipe 1 config bw 1Mbit/s delay 10\n\
     @0 add 100 pipe 1 ip from any to any\n\
@@ -53,8 +53,8 @@ fn reacts_by_hand(rt: HostRuntime) {
     assert!(rt; written.as_slice() == ANSWERED.as_bytes());
 }
 
-/// The same link. The packet finishes at 8 ms; nothing is due after its delivery. Each answer that says nothing of time
-/// itself has the next due, from `next on` to `next off`.
+/// The link of `ASKED`. The packet finishes at 8 ms, and nothing is due after its delivery. From
+/// `next on` to `next off`, each answer that doesn't report the time itself has the next due.
 const ADDED: &str = "#> next on\n\
     experiment by-hand seed 1 budget 10\n\
     @0 pipe 1 config bw 1Mbit/s delay 10\n\

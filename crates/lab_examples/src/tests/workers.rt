@@ -1,9 +1,11 @@
-//! Many workers: the bytes of `run_alone`, whatever the plan, and two benches at once.
+//! Many workers: they write the bytes of `run_alone`, whatever the plan, and two benches run at
+//! once.
 
 use super::*;
 use std::sync::atomic::{AtomicU64, Ordering};
 
-/// Each bench's k-th turn waits until the other's k-th turn has begun, and says whether it has.
+/// A gate at which each bench's k-th turn waits until the other's k-th turn has begun, and reports
+/// whether it has.
 #[derive(Drop)]
 struct Meeting {
     left: AtomicU64,
@@ -33,7 +35,7 @@ impl Gate for Meeting {
     }
 }
 
-/// What a run by workers answers, and what it wrote.
+/// Returns the result of a run with workers, and its output.
 pub fn run_by_workers<R: Threads + Wait + Sync, G: Gate>(
     rt: &R,
     alloc: Global,
@@ -47,7 +49,8 @@ pub fn run_by_workers<R: Threads + Wait + Sync, G: Gate>(
     (outcome, writer.into_inner())
 }
 
-/// Wants the reports of four experiments, by so many workers with so many turns between two moves.
+/// Checks the reports of four experiments, with this number of workers and of turns between two
+/// moves.
 fn moves_so<H: Threads + Wait + Sync + Abort + AllocGlobal>(rt: &H, plan: Plan) {
     let (outcome, written) = run_by_workers(
         rt,
@@ -83,7 +86,7 @@ experiment b seed 0 budget 10\n\
 @20000000 end\n\
 ";
 
-/// Their reports.
+/// The reports of `TWICE`.
 const TWICE_REPORTS: &str = "experiment a\n\
 0 ok 0\n\
 0 ok 1\n\
@@ -120,8 +123,9 @@ fn benches_at_once(rt: HostRuntime) -> Result<(), Fail> {
     Ok(())
 }
 
-/// Counts the turns of experiments that didn't begin on their bench. Bench 0 waits for one for a while, where the turn
-/// is another experiment's than the one before, which it has offered.
+/// A gate that counts the turns of experiments that didn't begin on their bench. Bench 0 waits a
+/// while for one if the turn is that of a different experiment than the turn before, because it has
+/// offered that one.
 #[derive(Drop)]
 struct Watch {
     last: AtomicU64,
@@ -152,7 +156,7 @@ impl Gate for Watch {
     }
 }
 
-// How many turns were those of adopted experiments, in a run with a move after each turn.
+// Returns the number of turns of adopted experiments in a run with this plan.
 fn adoptions<H: Threads + Wait + Sync + Abort + AllocGlobal>(rt: &H, plan: Plan) -> u64 {
     let gate = Watch {
         last: AtomicU64::new(0),
@@ -164,7 +168,7 @@ fn adoptions<H: Threads + Wait + Sync + Abort + AllocGlobal>(rt: &H, plan: Plan)
     gate.adopted.load(Ordering::SeqCst)
 }
 
-/// Experiments go to another bench; where they are never to move, none does.
+/// Checks that experiments move to another bench, and that none moves if the plan forbids it.
 #[test]
 fn experiments_are_adopted(rt: HostRuntime) -> Result<(), Fail> {
     let never = Plan::new(2, 0).ok_or("a plan")?;
@@ -180,7 +184,7 @@ fn experiments_are_adopted(rt: HostRuntime) -> Result<(), Fail> {
     Ok(())
 }
 
-/// A gate that always says no.
+/// A gate that always refuses.
 #[derive(Clone, Copy)]
 struct ShutGate;
 
@@ -211,7 +215,7 @@ fn gate_says_no(rt: HostRuntime) -> Result<(), Fail> {
     Ok(())
 }
 
-/// All of it is written, or `Memory` is answered and nothing is.
+/// Checks that everything is written, or that the result is `Memory` and nothing is written.
 #[test]
 fn refused_together(rt: HostRuntime) -> Result<(), Fail> {
     let plan = Plan::new(2, 1).ok_or("a plan")?;
@@ -231,7 +235,7 @@ fn refused_together(rt: HostRuntime) -> Result<(), Fail> {
     Ok(())
 }
 
-/// A gate that says no to the turns of bench 0 alone.
+/// A gate that refuses only the turns of bench 0.
 #[derive(Clone, Copy)]
 struct HalfShut;
 
@@ -247,7 +251,7 @@ impl Gate for HalfShut {
     }
 }
 
-/// A fault of one worker has the others leave off.
+/// Checks that a fault of one worker ends the run: the result is `Gate`, and nothing is written.
 #[test]
 fn gate_says_no_to_one(rt: HostRuntime) -> Result<(), Fail> {
     let plan = Plan::new(2, 0).ok_or("a plan")?;

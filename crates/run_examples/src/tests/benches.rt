@@ -15,10 +15,10 @@ use std::process::Abort;
 use std::slice;
 use text_examples as texts;
 
-/// The latest moment (ns) of a command.
+/// The latest time (ns) of a command.
 const LATEST: u64 = 1_000_000_000_000_000;
 
-// What the tenants here are given that post their end and little else.
+// Returns the specification of the tenants that post little more than their end.
 fn small_spec(rt: &impl Abort) -> Spec {
     let packets = PacketBudget::new(4).expect(rt, "in range");
     let steps = StepBudget::new(100).expect(rt, "in range");
@@ -35,7 +35,7 @@ fn open_tenant<K: Kit>(
     K::open(registry, rt.alloc(), small_spec(rt)).expect(rt, "a tenant")
 }
 
-// A tenant whose experiment came to a bench.
+// Creates a tenant whose experiment is on a bench.
 fn host_tenant<K: Kit>(
     rt: &(impl Abort + AllocGlobal),
     registry: &mut Registry,
@@ -46,7 +46,7 @@ fn host_tenant<K: Kit>(
     tenant
 }
 
-// Why a command was not posted, which then comes back as it was.
+// Returns why a command was not posted. It must come back unchanged.
 fn refusal<K: Kit>(rt: &impl Abort, tenant: &mut K::Tenant, timed: Timed) -> Option<PostError> {
     match K::post(tenant, timed) {
         Ok(()) => return None,
@@ -57,7 +57,7 @@ fn refusal<K: Kit>(rt: &impl Abort, tenant: &mut K::Tenant, timed: Timed) -> Opt
     }
 }
 
-// Posts a listing at a moment, and wants this refusal of it, or none.
+// Posts a listing at a time, and checks its refusal, or that there is none.
 fn shows<K: Kit>(rt: &impl Abort, tenant: &mut K::Tenant, moment: u64, wanted: Option<PostError>) {
     let timed = Timed {
         moment,
@@ -67,7 +67,7 @@ fn shows<K: Kit>(rt: &impl Abort, tenant: &mut K::Tenant, moment: u64, wanted: O
     assert_same(rt, (moment, is_answered), (moment, true));
 }
 
-// Posts an end likewise.
+// Posts an end at a time, and checks its refusal, or that there is none.
 fn ends<K: Kit>(rt: &impl Abort, tenant: &mut K::Tenant, moment: u64, wanted: Option<PostError>) {
     let timed = Timed {
         moment,
@@ -111,7 +111,7 @@ fn nothing_is_posted_behind_an_end(rt: HostRuntime) {
     nothing_is_posted_behind_an_end_of::<Real>(&rt);
 }
 
-// Why no tenant was opened.
+// Returns why no tenant was opened.
 fn open_error<K: Kit>(
     rt: &(impl Abort + AllocGlobal),
     registry: &mut Registry,
@@ -141,7 +141,7 @@ fn the_last_name(rt: HostRuntime) {
     the_last_name_of::<Real>(&rt);
 }
 
-// Turns a resident whose only command is its end.
+// Runs a resident whose only command is its end.
 fn end_resident<K: Kit>(
     rt: &impl Abort,
     bench: &mut K::Bench,
@@ -154,8 +154,8 @@ fn end_resident<K: Kit>(
     dossier
 }
 
-// Both come back as they were.
-fn strangers<K: Kit>(
+// Checks that both arguments come back unchanged.
+fn isolation<K: Kit>(
     rt: &impl Abort,
     tenant: K::Tenant,
     dossier: K::Dossier,
@@ -163,7 +163,7 @@ fn strangers<K: Kit>(
     K::settle(tenant, dossier).err().expect(rt, "its own")
 }
 
-// The dossier is the tenant's, of one command, its end.
+// Checks that the dossier is the tenant's, and has one command, its end.
 fn settles<K: Kit>(rt: &impl Abort, tenant: K::Tenant, dossier: K::Dossier) {
     let name = K::name(&tenant);
     let outcome = K::settle(tenant, dossier).ok().expect(rt, "strange");
@@ -199,7 +199,7 @@ fn strange_dossier(rt: HostRuntime) {
     strange_dossier_of::<Real>(&rt);
 }
 
-// Offers the resident of a name.
+// Offers the resident with a name.
 fn offers<K: Kit>(rt: &impl Abort, bench: &mut K::Bench, name: u32) {
     let slot = K::slot_of(bench, name).expect(rt, "a resident");
     assert_holds!(rt; offer::<K>(bench, slot) == Move::Done);
@@ -219,8 +219,8 @@ fn adopts<K: Kit>(rt: &impl Abort, bench: &mut K::Bench, peer: &mut K::Peer, nam
     assert_holds!(rt; adopt::<K>(bench, peer) == Move::Nobody);
 }
 
-// Bench 0 admits 0, 1 and 2: 0 ends, 1 goes to the other bench, 2 is offered, retaken and offered
-// again.
+// Closes two benches. Bench 0 admits 0, 1 and 2: 0 ends, 1 moves to the other bench, 2 is offered,
+// retaken and offered again.
 fn two_closings<K: Kit>(rt: &(impl Abort + AllocGlobal)) -> (Closing, Closing) {
     let mut registry = Registry::new();
     let (mut here, mut peer) = K::with_peer(rt.alloc()).expect(rt, "a bench");
@@ -259,25 +259,26 @@ fn nobody_is_at_a_new_bench(rt: HostRuntime) {
     nobody_is_at_a_new_bench_of::<Real>(&rt);
 }
 
-// The only resident is polled, which answers so, and makes an event after which it goes on.
+// Polls the only resident, checks the result, and processes an event after which the resident
+// continues.
 fn runs<K: Kit>(rt: &impl Abort, bench: &mut K::Bench, polled: Polled) {
     assert_same(rt, K::poll(bench, 0), polled);
     assert_holds!(rt; turn::<K>(bench) == Advance::Ran(0));
 }
 
-// A letter was there.
+// Returns true if there was a letter.
 fn reads<K: Kit>(rt: &impl Abort, guest: &mut Guest<K::Tenant>) -> bool {
     let letter = K::read(&mut guest.tenant).expect(rt, "memory");
     letter.is_some()
 }
 
-// Whether a dossier has just so many records, at least one.
+// Returns true if a dossier has exactly this number of records, which must be at least one.
 fn has_records<K: Kit>(dossier: &K::Dossier, count: usize) -> bool {
     K::ended_record(dossier, count.saturating_sub(1)).is_some()
         && K::ended_record(dossier, count).is_none()
 }
 
-// The dossier has six records, of which the first five were read.
+// Checks that the dossier has six records, of which the first five were read.
 fn has_read_five<K: Kit>(rt: &impl Abort, guest: &Guest<K::Tenant>, dossier: &K::Dossier) {
     let read = K::letters(&guest.tenant);
     assert_same(rt, read.len(), 5);
@@ -295,7 +296,7 @@ fn letters_of<K: Kit>(rt: &(impl Abort + AllocGlobal)) {
     assert_holds!(rt; admit::<K>(&mut bench, parcel));
     post_all::<K>(rt, &mut guest);
 
-    // Three commands, and the two events that come before the fourth, which is the end.
+    // Three commands, and the two events before the fourth command, which is the end.
     for _ in 0..4 {
         runs::<K>(rt, &mut bench, Polled::Took(0));
     }
@@ -316,7 +317,8 @@ fn letters(rt: HostRuntime) {
     letters_of::<Real>(&rt);
 }
 
-// The 82 records of its report: of the first three commands, two of each of 38 packets, two drops, and of the end.
+// The 82 records of its report: for the first three commands, two for each of 38 packets, two
+// drops, and one for the end.
 const CODEL_RECORDS: usize = 82;
 
 // Polls and turns the only resident until it has ended.
@@ -330,7 +332,7 @@ fn last_of<K: Kit>(rt: &impl Abort, bench: &mut K::Bench) -> K::Dossier {
     panic!(rt; "not ended");
 }
 
-// The ring has 64 slots, so 18 records were never published.
+// Checks records that were never published: the ring has 64 slots, so this is true of 18 records.
 fn unread_of<K: Kit>(rt: &(impl Abort + AllocGlobal)) {
     let mut registry = Registry::new();
     let (mut bench, _peer) = K::with_peer(rt.alloc()).expect(rt, "a bench");

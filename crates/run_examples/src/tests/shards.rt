@@ -28,7 +28,7 @@ use std::test::Fail;
 use text_examples as texts;
 use timer_wheel::{Agenda, Wheel};
 
-// Polls, turns and posts of a shard with nobody in it, and then with one guest.
+// Checks polls, turns and posts of an empty shard, and then with one guest.
 fn answers(
     rt: &(impl Abort + AllocGlobal),
     shard: &mut Desk,
@@ -69,7 +69,7 @@ fn shard_answers(rt: HostRuntime) -> Result<(), Fail> {
     Ok(())
 }
 
-// Takes all guests in, and has them to their ends.
+// Takes all guests in, and runs them to their ends.
 fn hosts(
     rt: &(impl Abort + AllocGlobal),
     shard: &mut Desk,
@@ -80,7 +80,7 @@ fn hosts(
     host(rt, shard, guests, reads)
 }
 
-// Has guests on one shard, and reads their letters or not.
+// Runs guests on one shard, and reads their letters if `reads` is true.
 fn are_hosted(
     rt: &(impl Abort + AllocGlobal),
     cards: &[(&'static str, &'static str)],
@@ -93,7 +93,7 @@ fn are_hosted(
     hosted
 }
 
-// Has four guests on one shard.
+// Runs four guests on one shard.
 fn hosts_four(rt: &(impl Abort + AllocGlobal), reads: bool) -> Result<(), AllocError> {
     let cards = [
         (texts::ONE_SLOT, texts::ONE_SLOT_REPORT),
@@ -121,7 +121,7 @@ fn hand_over<A: Agenda, B: Agenda>(
     take_in(there, parcel)
 }
 
-// Moves the resident of a name to the other shard.
+// Moves the resident with a name to the other shard.
 fn moves<A: Agenda, B: Agenda>(
     rt: &(impl Abort + AllocGlobal),
     here: &mut Host<A>,
@@ -138,7 +138,7 @@ fn moves<A: Agenda, B: Agenda>(
     Ok(())
 }
 
-// The first guest and one more on one shard, the others on another.
+// Takes in the first guest and one more on one shard, and the others on another.
 fn settle_on_two<A: Agenda>(
     alloc: Global,
     here: &mut Host<A>,
@@ -155,17 +155,17 @@ fn settle_on_two<A: Agenda>(
     Ok(())
 }
 
-/// A clock (ns) shortly before the one at which a shard's time begins anew, which is 2^62.
+/// A clock (ns) shortly before 2^62, at which a shard's time restarts.
 const FAR: u64 = (1 << 62) - 1000;
 
-/// How often the first guest was moved, and how often an entry was refused.
+/// The number of moves of the first guest, and the number of refused entries.
 #[derive(Clone, Copy, Debug, PartialEq)]
 struct Way {
     moved: u64,
     refused: u64,
 }
 
-// Has the first of three guests stand on two shards in turn, after each of its events on the other.
+// Moves the first of three guests to the other of two shards after each of its events.
 fn goes<A: Agenda>(
     rt: &(impl Abort + AllocGlobal),
     here: &mut Host<A>,
@@ -189,7 +189,7 @@ fn goes<A: Agenda>(
             }
             Move::Ran(_) => {}
             Move::Ended(name, events) => {
-                // It was moved after each event but the last.
+                // It was moved after each event except the last.
                 assert_holds!(rt; name != 0 || events == moved.saturating_add(1));
                 ended = ended.saturating_add(1);
             }
@@ -200,7 +200,8 @@ fn goes<A: Agenda>(
     Ok(Way { moved, refused })
 }
 
-// Has three guests on two shards, of which the second one's clock is far, and the first one's here.
+// Runs three guests on two shards, of which the second shard's clock is far ahead, and the first
+// shard's clock is `clock`.
 fn travels<A: Agenda>(
     rt: &(impl Abort + AllocGlobal),
     clock: u64,
@@ -219,7 +220,7 @@ fn travels<A: Agenda>(
     way
 }
 
-// A guest that travels beside two that flood their budgets.
+// Creates a guest that moves, and two neighbours that flood their budgets.
 fn beside_floods(
     rt: &(impl Abort + AllocGlobal),
     text: &'static str,
@@ -229,7 +230,7 @@ fn beside_floods(
     invite_all(rt, 0, &[(text, report), flood, flood])
 }
 
-// Has a guest travel so.
+// Moves a guest with such neighbours.
 fn is_packed_every_event(
     rt: &(impl Abort + AllocGlobal),
     text: &'static str,
@@ -253,15 +254,16 @@ fn packed_every_event(rt: HostRuntime) -> Result<(), Fail> {
     Ok(())
 }
 
-// The same on two shards whose clocks are both far.
+// Moves a guest with such neighbours between two shards whose clocks are both far ahead.
 fn begins_anew<A: Agenda>(rt: &(impl Abort + AllocGlobal)) -> Result<Way, AllocError> {
     let (text, report) = (texts::FAST_RETRANSMIT, texts::FAST_RETRANSMIT_REPORT);
     let mut guests = beside_floods(rt, text, report)?;
     travels::<A>(rt, FAR, guests.as_mut_slice())
 }
 
-// Each shard's time begins anew once: its clock passes 2^62, and not again, since none of the guests goes on for longer
-// than 0.1 s. So just as often an agenda refuses memory that refuses the first entry from then on.
+// Checks that each shard's time restarts once: its clock passes 2^62, and not again, since none of
+// the guests runs for longer than 0.1 s. An agenda that refuses the first entry after a restart
+// refuses an allocation equally often.
 #[test]
 fn rebase(rt: HostRuntime) -> Result<(), Fail> {
     let plain = begins_anew::<Wheel>(&rt)?;
@@ -273,7 +275,8 @@ fn rebase(rt: HostRuntime) -> Result<(), Fail> {
     Ok(())
 }
 
-// Has a guest on a shard that gives its agenda no memory, as long as another one needs to end, and then on that one.
+// Runs a guest on a shard whose agenda gets no memory, for as long as another one needs to end, and
+// then on that other shard.
 fn waits<A: Agenda>(
     rt: &(impl Abort + AllocGlobal),
     here: &mut Host<A>,
@@ -295,7 +298,8 @@ fn waits<A: Agenda>(
     host(rt, there, guests.as_mut_slice(), true)
 }
 
-// On an agenda that is refused memory each time a guest makes no event and loses nothing.
+// Checks that a guest processes no event and loses nothing on an agenda whose every allocation
+// fails.
 #[test]
 fn always_gives_up(rt: HostRuntime) -> Result<(), Fail> {
     let mut here: Host<GivesUp> = Shard::new(rt.alloc())?;
@@ -310,7 +314,7 @@ fn always_gives_up(rt: HostRuntime) -> Result<(), Fail> {
     Ok(())
 }
 
-// Whether a guest's parcel comes back as it was, since the shard is crowded.
+// Returns true if a guest's parcel comes back unchanged because the shard is crowded.
 fn crowds_out(alloc: Global, shard: &mut Desk, guest: &Guest) -> Result<bool, AllocError> {
     let parcel = parcel(alloc, guest)?;
     let before = seen_in(&parcel);
@@ -330,7 +334,7 @@ fn seats(
     settle(rt.alloc(), shard, &guest)
 }
 
-// Fills a shard, and has one guest more before its door.
+// Fills a shard, and offers it one more guest.
 fn crowds(rt: &(impl Abort + AllocGlobal), shard: &mut Desk) -> Result<(), AllocError> {
     for slot in 0..MAX_RESIDENTS {
         let name = u32::try_from(slot).unwrap_or(0);
@@ -359,14 +363,15 @@ fn unread_letters(rt: HostRuntime) -> Result<(), Fail> {
     Ok(())
 }
 
-// Packets that are delivered one after the other: more records than letters have room by far.
+// Packets that are delivered one after the other: far more records than the mail has places for
+// letters.
 const LONG: &str = "experiment long seed 0 budget 9\n\
 @0 add 100 allow udp from any to any\n\
 @0 train 1 udp 10.0.0.1 1 10.0.0.2 2 100 count 20000 gap 10\n\
 @1000000 end\n\
 ";
 
-// How many records and delivered packets an experiment left that has ended.
+// Returns the numbers of records and of delivered packets of an experiment that has ended.
 fn left_by(turned: &Turned<ListMail>) -> Option<(usize, u64)> {
     match turned {
         Turned::Ended(left) => Some((left.records().len(), left.counters().delivered)),
@@ -374,7 +379,7 @@ fn left_by(turned: &Turned<ListMail>) -> Option<(usize, u64)> {
     }
 }
 
-// Has a guest to its end, whose letters nobody reads.
+// Runs a guest to its end, without reading its letters.
 fn ends_unread(rt: &(impl Abort + AllocGlobal), shard: &mut Desk) -> Result<(), AllocError> {
     let mut guests = invite_all(rt, 0, &[(LONG, "")])?;
     settle_all(rt.alloc(), shard, guests.as_slice())?;
@@ -402,15 +407,16 @@ fn long_and_unread(rt: HostRuntime) -> Result<(), Fail> {
     Ok(())
 }
 
-// The records of a neighbour that holds 65535 packets: of its three commands, and one for each packet.
+// The number of records of a neighbour that holds 65535 packets: those of its three commands, and
+// one for each packet.
 const HELD: usize = 65_538;
 
-// How many records the resident of a slot has.
+// Returns the number of records of the resident in a slot.
 fn record_count(shard: &Desk, slot: usize) -> usize {
     counts_of(shard, slot).map_or(0, |(records, _)| records)
 }
 
-// Has resident 1 of a shard, at slot 0, hold 65535 packets.
+// Lets resident 1 of a shard, in slot 0, hold 65535 packets.
 fn flood_shard(
     rt: &(impl Abort + AllocGlobal),
     shard: &mut Desk,
@@ -428,7 +434,7 @@ fn flood_shard(
     Ok(())
 }
 
-// Has a guest beside a neighbour that holds 65535 packets.
+// Runs a guest next to a neighbour that holds 65535 packets.
 fn is_beside(rt: &(impl Abort + AllocGlobal), shard: &mut Desk) -> Result<(), AllocError> {
     let mut neighbour = invite_all(rt, 1, &[(texts::NEIGHBOUR, "")])?;
     flood_shard(rt, shard, neighbour.as_mut_slice())?;

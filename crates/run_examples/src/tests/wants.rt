@@ -1,4 +1,5 @@
-//! What the tests want. `assert!` and `assert_eq!` are proved at each place where they stand, and a call is not.
+//! The assertions of the tests. `assert!` and `assert_eq!` are proved at each place where they are
+//! used, and a call is not.
 
 use std::fmt::Debug;
 use std::process::Abort;
@@ -7,7 +8,7 @@ pub fn assert_same<T: Debug + Drop + PartialEq>(rt: &impl Abort, given: T, wante
     assert_eq!(rt; given, wanted);
 }
 
-/// What holds is told where it doesn't.
+/// Checks a condition, and reports the message if it is false.
 pub fn assert_with_message(rt: &impl Abort, holds: bool, what: &str) {
     assert!(rt; holds, "{what}");
 }

@@ -1,4 +1,5 @@
-//! Worked examples on worlds. Their texts and reports are those of examples/: what each writes that runs alone.
+//! Worked examples on worlds. Their texts and reports are those of examples/: each experiment's
+//! report when it runs alone.
 
 mod calls;
 mod desk;
@@ -19,22 +20,22 @@ use std::test::Fail;
 use timer_wheel::{ListAgenda, Wheel};
 use world::{Place, Step, World};
 
-/// How many lists of steps are drawn, and how long each is.
+/// The number of random lists of steps, and the length of each.
 const LISTS: u8 = 200;
 
 const STEPS: usize = 2000;
 
-/// How many shards and guests there are.
+/// The numbers of shards and guests.
 const SHARDS: u32 = 3;
 
 const GUESTS: u32 = 6;
 
-// A number below another one, which isn't 0.
+// Returns a random number below a maximum, which isn't 0.
 fn below(words: &mut ChaCha20Rng, most: u32) -> u32 {
     words.next_word() % most.max(1)
 }
 
-// A step that is drawn: most are posts, polls and turns.
+// Returns a random step. Most are posts, polls and turns.
 fn draw_step(words: &mut ChaCha20Rng, guests: &mut [Guest]) -> Step {
     let name = below(words, GUESTS);
     let shard = below(words, SHARDS) as usize;
@@ -58,7 +59,7 @@ fn draw_step(words: &mut ChaCha20Rng, guests: &mut [Guest]) -> Step {
     }
 }
 
-// Six guests.
+// Creates six guests.
 fn six_guests(rt: &(impl Abort + AllocGlobal)) -> Result<Vec<Guest>, AllocError> {
     let texts = [
         (text_examples::ONE_SLOT, text_examples::ONE_SLOT_REPORT),
@@ -83,8 +84,8 @@ fn six_guests(rt: &(impl Abort + AllocGlobal)) -> Result<Vec<Guest>, AllocError>
     invite_all(rt, &texts)
 }
 
-// A new world in which a list of steps is made, one by one, and which is brought to its end then. Answers how many had
-// ended before.
+// Performs a list of steps in a new world, one by one, and then runs the world to its end. Returns
+// the number of guests that had ended before.
 fn lives_in<W: Stage>(
     rt: &(impl Abort + AllocGlobal),
     world: &mut W,
@@ -105,7 +106,7 @@ fn lives_in<W: Stage>(
     Ok(early)
 }
 
-// The list of a seed and a number, in a world of its own.
+// Performs the list with a seed and a number, in a world of its own.
 fn lives<W: Stage>(
     rt: &(impl Abort + AllocGlobal),
     seed: u8,
@@ -120,7 +121,7 @@ fn lives<W: Stage>(
     lives_in(rt, &mut world, &mut words, guests)
 }
 
-// As many lists of a seed. Answers how many names had ended with their lists.
+// Performs `lists` lists with a seed. Returns the number of names that had ended with their lists.
 fn lives_through<W: Stage>(
     rt: &(impl Abort + AllocGlobal),
     seed: u8,
@@ -169,7 +170,7 @@ fn attend<W: Stage>(world: &mut W, name: u32) -> Result<(), AllocError> {
     Ok(())
 }
 
-// A guest's command is taken, it makes an event, and goes from its shard to the other one.
+// Lets a guest take a command, process an event, and move from its shard to the other one.
 fn goes_on<W: Stage>(world: &mut W, shard: usize, slot: usize) -> Result<(), AllocError> {
     let other = usize::from(shard == 0);
     let round = [
@@ -184,8 +185,8 @@ fn goes_on<W: Stage>(world: &mut W, shard: usize, slot: usize) -> Result<(), All
     run(world, &round)
 }
 
-// Has the guest 0 of two shards go to the other one after each turn, beside two others, until it has ended. Answers how
-// often it moved.
+// Moves guest 0 to the other of two shards after each turn, together with two others, until it has
+// ended. Returns the number of moves.
 fn travels_in<W: Stage>(world: &mut W) -> Result<u64, AllocError> {
     let mut moved = 0u64;
     for _ in 0..MAX_ROUNDS {
@@ -200,7 +201,7 @@ fn travels_in<W: Stage>(world: &mut W) -> Result<u64, AllocError> {
     Ok(moved)
 }
 
-// The same from the guests' first steps on to their reports.
+// Registers the guests, moves guest 0 as in `travels_in`, and checks the reports.
 fn travels_through<W: Stage>(
     rt: &(impl Abort + AllocGlobal),
     world: &mut W,
@@ -219,7 +220,7 @@ fn travels_through<W: Stage>(
     Ok(moved)
 }
 
-// The guest of a text, beside two that flood their budgets.
+// Runs the guest of a text, with two neighbours that flood their budgets.
 fn travels<W: Stage>(
     rt: &(impl Abort + AllocGlobal),
     text: &'static str,
@@ -246,7 +247,8 @@ fn packed_every_event(rt: HostRuntime) -> Result<(), Fail> {
     Ok(())
 }
 
-// The records of a neighbour that holds 65535 packets: of its three commands, and one for each packet.
+// The number of records of a neighbour that holds 65535 packets: those of its three commands, and
+// one for each packet.
 const HELD: usize = 65_538;
 
 // Polls and turns the resident of the first slot until it holds all its packets.
@@ -320,7 +322,7 @@ fn beside_a_flood(rt: HostRuntime) -> Result<(), Fail> {
     Ok(())
 }
 
-// Nothing can be done in a world of no name but to begin a shard's time anew.
+// Checks that in a world without names, only restarting a shard's time is possible.
 fn has_nobody<W: Stage>(rt: &impl Abort, world: &mut W) -> Result<(), AllocError> {
     assert_holds!(rt; world.place_of(0).is_none());
     assert_same(rt, counts_of(world, 0), (0, 0));
@@ -332,7 +334,7 @@ fn has_nobody<W: Stage>(rt: &impl Abort, world: &mut W) -> Result<(), AllocError
     Ok(())
 }
 
-// The first name of a world goes where these steps take it.
+// Checks that the first name of a world is where these steps move it.
 fn has_one<W: Stage>(rt: &impl Abort, world: &mut W, spec: Spec) -> Result<(), AllocError> {
     assert_holds!(rt; step(world, Step::Registered(spec))?);
     assert_holds!(rt; world.place_of(0) == Some(Place::HandedOut));

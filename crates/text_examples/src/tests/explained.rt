@@ -1,4 +1,4 @@
-//! Words at fault, what is found in a text and in a report, and warnings.
+//! Faulty words, the findings in a text and in a report, and warnings.
 
 mod finding;
 mod line;

@@ -1,4 +1,4 @@
-//! What is read and what is written.
+//! Parsing scenarios and formatting reports.
 
 mod reports;
 mod scenarios;

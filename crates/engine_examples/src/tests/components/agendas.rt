@@ -1,11 +1,11 @@
-//! Orders and dues chosen by hand.
+//! Event queues, with orders and times chosen by hand.
 
 use crate::tests::wants::assert_same;
 use emu_model::{Class, Source};
 use std::alloc::{AllocError, Global};
 use timer_wheel::*;
 
-// In rising order; the last is the latest due that a shard sets.
+// Times in increasing order; the last is the latest that a shard uses.
 const DUES: [u64; 7] = [
     0,
     255,
@@ -23,7 +23,7 @@ fn expiry(number: u32) -> Source {
     }
 }
 
-// Sets a due that isn't below the clock.
+// Schedules a source at a time that isn't before the clock.
 fn put<A: Agenda>(
     agenda: &mut A,
     owner: Owner,
@@ -36,12 +36,13 @@ fn put<A: Agenda>(
     agenda.set(owner, source, due)
 }
 
-// A set that is refused memory is made again, and is made then.
+// Schedules a source, and retries once if an allocation fails. The second try must succeed.
 fn puts<A: Agenda>(agenda: &mut A, owner: Owner, source: Source, due: u64) -> bool {
     put(agenda, owner, source, due).is_ok() || put(agenda, owner, source, due).is_ok()
 }
 
-// The due, owner, class and number of what is popped, which is where the clock moved before.
+// Pops the first entry, and returns its due, owner, class and number. The clock must have moved to
+// its due before.
 fn pop<A: Agenda>(agenda: &mut A) -> Option<(u64, Owner, u8, u32)> {
     let least = agenda.move_to_least()?;
     if agenda.clock() != least.due {
@@ -59,7 +60,8 @@ fn pop<A: Agenda>(agenda: &mut A) -> Option<(u64, Owner, u8, u32)> {
     ))
 }
 
-// Sets all dues in falling order, with rising numbers, and pops them in rising order.
+// Schedules all times in decreasing order, with increasing numbers, and pops them in increasing
+// order.
 fn falls_and_rises<A: Agenda>(agenda: &mut A) -> bool {
     let mut number = 0;
     for due in DUES.iter().rev() {
@@ -78,7 +80,8 @@ fn falls_and_rises<A: Agenda>(agenda: &mut A) -> bool {
     pop(agenda) == None
 }
 
-// Three owners at one due, and two sources of one of them: by owner, class and number.
+// Checks that entries with the same due, three owners and two sources of one of them, are popped by
+// owner, class and number.
 fn ties<A: Agenda>(agenda: &mut A) -> bool {
     let finish = Source {
         class: Class::Finish,
@@ -110,7 +113,8 @@ fn ties<A: Agenda>(agenda: &mut A) -> bool {
     true
 }
 
-// A due takes another's place; an owner's dues, one, and all are taken away.
+// Checks that a new due replaces the old one, and that the dues of an owner, one due, and all dues
+// can be removed.
 fn replaces_and_clears<A: Agenda>(agenda: &mut A) -> bool {
     for (owner, number, due) in [(0, 1, 900), (0, 1, 70), (0, 2, 60), (1, 2, 50), (1, 3, 40)] {
         if !puts(agenda, owner, expiry(number), due) {
@@ -130,8 +134,8 @@ fn replaces_and_clears<A: Agenda>(agenda: &mut A) -> bool {
     first && clock == 70 && again && rewound && empty
 }
 
-// Passes with ample memory, and where any one allocation of it is refused: a refused call left all as
-// it was.
+// Checks that a failed call changes nothing. Passes with ample memory, and if any one of its
+// allocations fails.
 fn refused_changes_nothing<A: Agenda>(agenda: &mut A) -> bool {
     for number in 0..40 {
         if !puts(agenda, 0, expiry(number), 300) {
@@ -146,7 +150,7 @@ fn refused_changes_nothing<A: Agenda>(agenda: &mut A) -> bool {
     pop(agenda) == None
 }
 
-// The same of a source's new due: refused, it keeps the one that it had.
+// Checks that a source keeps its due if scheduling a new one fails.
 fn refused_keeps_the_due<A: Agenda>(agenda: &mut A) -> bool {
     if !puts(agenda, 4, expiry(6), 65_536) {
         return false;
@@ -158,7 +162,7 @@ fn refused_keeps_the_due<A: Agenda>(agenda: &mut A) -> bool {
     pop(agenda) == Some((due, 4, 3, 6)) && pop(agenda) == None
 }
 
-// An agenda whose making may be refused once.
+// Creates an event queue, and retries once if an allocation fails.
 fn new_agenda<A: Agenda>(alloc: Global, clock: u64) -> Option<A> {
     match A::new(alloc, clock).ok() {
         Some(agenda) => Some(agenda),
@@ -166,8 +170,8 @@ fn new_agenda<A: Agenda>(alloc: Global, clock: u64) -> Option<A> {
     }
 }
 
-// All of it by new agendas of a kind: what failed first. Each is given up by a call, since each place where one may be
-// dropped is proved with all its parts.
+// Runs all checks on new event queues of one kind, and returns the first that failed. Each queue is
+// dropped by a call, because each place where one may be dropped is proved with all its parts.
 fn fault_of<A: Agenda + Drop>(alloc: Global) -> Option<&'static str> {
     for (name, clock) in [
         ("rising order", 0),
@@ -207,8 +211,8 @@ fn a_wheel_in_order_and_refused(rt: HostRuntime) {
     assert_same(&rt, fault_of::<Wheel>(rt.alloc()), None);
 }
 
-// Over a walk of 500 sets with numbers from a generator of Lehmer's (multiplier 48271, modulus 2^31 - 1), and what is
-// left then.
+// Checks that two event queues agree during a walk of 500 insertions, with numbers from a Lehmer
+// generator (multiplier 48271, modulus 2^31 - 1), and in what is left afterwards.
 fn answer_alike<A: Agenda, B: Agenda>(one: &mut A, other: &mut B) -> bool {
     let mut word = 1u64;
     for _ in 0..500 {
@@ -261,7 +265,7 @@ fn wheel_answers_as_the_list(rt: HostRuntime) {
     assert_holds!(&rt; kinds_answer_alike::<Wheel, ListAgenda>(rt.alloc()));
 }
 
-// More entries in one slot than a call for each would have room for on the stack.
+// Adds more entries to one slot than the stack could hold if there was a call for each.
 fn takes_many<A: Agenda>(agenda: &mut A) -> bool {
     for number in 0..200_000 {
         if put(agenda, 0, expiry(number), 4_294_967_296).is_err() {

@@ -10,7 +10,7 @@ fn due(moment: u64, class: Class, number: u32) -> Option<Due> {
     })
 }
 
-/// One place more, at the second try where memory was refused; the index was as before then.
+/// Adds a place, and retries once if an allocation fails, after which the index must be unchanged.
 fn pushes(rt: &impl Abort, index: &mut DueIndex, due: Option<Due>) {
     let before = index.len();
     if index.push_ready().is_err() {
@@ -20,7 +20,7 @@ fn pushes(rt: &impl Abort, index: &mut DueIndex, due: Option<Due>) {
     index.push(DueNumber::of(due));
 }
 
-/// What is due at a place from now on.
+/// Sets the due at a place.
 fn changes(rt: &impl Abort, index: &mut DueIndex, place: usize, due: Option<Due>) {
     assert!(rt; place < index.len(), "no such place");
     index.set(place, DueNumber::of(due));
@@ -52,14 +52,14 @@ fn follows_each_change(rt: &impl Abort, index: &mut DueIndex) {
     }
 }
 
-// Six sources, by hand: a change of any of them shows at once, up and down.
+// Checks six sources by hand: a change of any of them is visible at once, up and down.
 #[test]
 fn least_follows_each_change(rt: HostRuntime) {
     let mut index = DueIndex::new(rt.alloc());
     follows_each_change(&rt, &mut index);
 }
 
-// At one moment, and the last at the next.
+// Adds sources that are due at one time, and a last one that is due at the next.
 fn ties(rt: &impl Abort, index: &mut DueIndex) {
     pushes(rt, index, due(5, Class::Emission, 1));
     pushes(rt, index, due(5, Class::Expiry, 9));
@@ -85,7 +85,7 @@ fn ties_go(rt: &impl Abort, index: &mut DueIndex) {
     least_is(rt, index, None);
 }
 
-// At one moment the classes come in order, and in a class the numbers.
+// Checks that sources with the same time are ordered by class, and then by number.
 #[test]
 fn ties_go_by_class_and_number(rt: HostRuntime) {
     let mut index = DueIndex::new(rt.alloc());
@@ -106,14 +106,14 @@ fn some_are_empty(rt: &impl Abort, index: &mut DueIndex) {
     least_is(rt, index, due(8, Class::Exit, 512));
 }
 
-// Where nothing is due at some places, and after all have gone.
+// Checks an index with places where nothing is due, and one from which all dues are gone.
 #[test]
 fn places_may_be_empty(rt: HostRuntime) {
     let mut index = DueIndex::new(rt.alloc());
     some_are_empty(&rt, &mut index);
 }
 
-/// Passes with ample memory, and where any one allocation is refused.
+/// Checks growth. Passes with ample memory, and if any one allocation fails.
 #[test]
 fn growth_may_be_refused_memory(rt: HostRuntime) {
     let mut index = DueIndex::new(rt.alloc());

@@ -55,7 +55,7 @@ fn unlimited_rate_takes_no_time(rt: HostRuntime) {
     assert_same(&rt, server.due(), Some(7));
 }
 
-/// When what is next on its way is due, and what it is, which leaves.
+/// Returns the due of the next item in flight, and the item, which leaves.
 fn next(line: &mut DelayLine<u8>) -> (Option<u64>, Option<u8>) {
     (line.due(), line.leave())
 }
@@ -85,7 +85,8 @@ fn exits_keep_order(rt: HostRuntime) {
     exits_keep_order_on(&rt, &mut DelayLine::new(rt.alloc()));
 }
 
-/// An item comes made ready and another not; one that is refused leaves the line as it was.
+/// Enters one item after `enter_ready`, and one without it. A failed call must leave the line
+/// unchanged.
 fn two_enter(rt: &impl Abort, line: &mut DelayLine<u8>, item: u8, delay: Delay) {
     let now = u64::from(item);
     let before = (line.due(), line.in_flight());
@@ -100,8 +101,8 @@ fn two_enter(rt: &impl Abort, line: &mut DelayLine<u8>, item: u8, delay: Delay) 
     }
 }
 
-/// What is refused leaves the line as it was, and an entry that was made ready isn't refused. A run
-/// in which an allocation fails shows it.
+/// Checks that a failed entry leaves the line unchanged, and that an entry after `enter_ready`
+/// can't fail. Only a run in which an allocation fails shows it.
 #[test]
 fn refused_entries_change_nothing(rt: HostRuntime) {
     let delay = milliseconds(&rt, 0);
@@ -128,8 +129,8 @@ fn items_are_replaced_on(rt: &impl Abort, line: &mut DelayLine<u8>) {
     assert_same(rt, next(line), (Some(2_000_000), Some(12)));
 }
 
-/// What is on its way stands at its place, and another item that is put there leaves at the same
-/// moment.
+/// Checks that an item in flight keeps its place, and that another item put in that place leaves at
+/// the same time.
 #[test]
 fn items_are_replaced_in_place(rt: HostRuntime) {
     items_are_replaced_on(&rt, &mut DelayLine::new(rt.alloc()));

@@ -1,4 +1,4 @@
-//! Records of each kind that counts, with counts by hand.
+//! Records of each kind that is counted, with counts computed by hand.
 
 use crate::tests::wants::{assert_record, assert_same};
 use emu_model::{DropCause, Load, Record};
@@ -38,7 +38,7 @@ fn notes(rt: &impl Abort, log: &mut RecordLog, entry: &Record) {
     log.note(entry);
 }
 
-// Thirteen records.
+// Adds thirteen records.
 fn notes_all(rt: &impl Abort, log: &mut RecordLog) {
     notes(
         rt,
@@ -69,12 +69,12 @@ fn counts_go_by_kind_and_cause(rt: HostRuntime) {
     assert_record(&rt, &records, 11, drop_record(4, DropCause::Full));
 }
 
-// How many records there are, and how many packets were delivered.
+// Returns the numbers of records and of delivered packets.
 fn counts(log: &RecordLog) -> (usize, u64) {
     (log.as_slice().len(), log.delivered_count())
 }
 
-// Where memory is refused nothing is lost.
+// Checks that nothing is lost if an allocation fails.
 fn keeps_its_records(rt: &impl Abort, log: &mut RecordLog) {
     if log.reserve(1).is_err() {
         return assert_same(rt, counts(log), (0, 0));

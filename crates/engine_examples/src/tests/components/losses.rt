@@ -3,8 +3,8 @@ use emu_model::{LossRate, PipeNumber};
 use loss_stream::LossStream;
 use std::process::Abort;
 
-/// What becomes of the first two packets of seed 0 at a rate in millionths. The key is zero, and its opening words are
-/// 2917185654 and 2419978656.
+/// Returns whether the first two packets of seed 0 are lost, at rates in millionths. The key is
+/// zero, and its first words are 2917185654 and 2419978656.
 fn two_lost(rt: &impl Abort, first: u32, second: u32) -> [bool; 2] {
     let pipe = PipeNumber::new(1).expect(rt, "a pipe");
     let mut stream = LossStream::new(0, pipe, 0);

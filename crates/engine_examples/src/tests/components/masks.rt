@@ -42,7 +42,7 @@ fn to(dst: u32) -> FlowId {
     apply(mask(0, 0xffff_ffff, 0), Protocol::Udp, dst, 2000)
 }
 
-// The number of a destination, which may be new.
+// Returns the number of a destination, which may be new.
 fn number(rt: &impl Abort, instances: &mut Instances, dst: u32) -> u8 {
     instances
         .find_or_make(to(dst))
@@ -60,7 +60,7 @@ fn each_destination_has_its_instance(rt: HostRuntime) {
     assert_same(&rt, instances.len(), 2);
 }
 
-// Whether packets of two protocols, to two destinations and ports, are one flow.
+// Returns true if packets of two protocols, to two destinations and ports, are one flow.
 fn are_one(mask: Mask, one: (Protocol, u32, u16), other: (Protocol, u32, u16)) -> bool {
     apply(mask, one.0, one.1, one.2) == apply(mask, other.0, other.1, other.2)
 }
@@ -93,7 +93,7 @@ fn the_257th_has_no_instance(rt: HostRuntime) {
     take_no_257th(&rt, &mut instances);
 }
 
-// The number of a destination, at the second try where memory was refused.
+// Returns the number of a destination, and retries once if an allocation fails.
 fn number_in_the_end(instances: &mut Instances, dst: u32) -> Option<u8> {
     if dst % 2 == 0 && instances.find_or_make_ready(to(dst)).is_err() {
         instances.find_or_make_ready(to(dst)).ok()?;
@@ -104,8 +104,8 @@ fn number_in_the_end(instances: &mut Instances, dst: u32) -> Option<u8> {
     }
 }
 
-// Passes with ample memory, and where any one allocation of it is refused: a refused call left all as
-// it was, and goes when it is made again.
+// Checks that a failed call changes nothing, and succeeds when it is repeated. Passes with ample
+// memory, and if any one of its allocations fails.
 #[test]
 fn a_refused_growth_changes_nothing(rt: HostRuntime) {
     let mut instances = Instances::new(rt.alloc());

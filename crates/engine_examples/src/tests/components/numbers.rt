@@ -2,8 +2,8 @@ use crate::tests::wants::{assert_same, assert_with_message};
 use due_index::NumberTable;
 use std::process::Abort;
 
-/// A number leads to a place from now on, at the second try where memory was refused; what the numbers around it lead
-/// to is as it was then.
+/// Maps a number to a place, and retries once if an allocation fails, after which the numbers
+/// around it must be unchanged.
 fn leads(rt: &impl Abort, table: &mut NumberTable, number: u16, place: u16) {
     let before = around(table, number);
     if table.make_room(number).is_err() {
@@ -13,7 +13,7 @@ fn leads(rt: &impl Abort, table: &mut NumberTable, number: u16, place: u16) {
     table.set(number, usize::from(place));
 }
 
-/// The places of a number and of those beside it.
+/// Returns the places of a number and of its neighbours.
 fn around(table: &NumberTable, number: u16) -> [Option<usize>; 3] {
     [
         table.get(number.saturating_sub(1)),
@@ -22,7 +22,7 @@ fn around(table: &NumberTable, number: u16) -> [Option<usize>; 3] {
     ]
 }
 
-// Numbers far apart, in no order, and the last of all.
+// Checks numbers that are far apart, in no order, and the last of all.
 fn numbers_lead(rt: &impl Abort, table: &mut NumberTable) {
     assert_holds!(rt; table.get(0).is_none());
     for (number, place) in &[(7, 0), (1, 1), (65535, 2), (300, 65535), (0, 4)] {
@@ -52,7 +52,7 @@ fn numbers_lead_to_their_places(rt: HostRuntime) {
     numbers_lead(&rt, &mut table);
 }
 
-/// Passes with ample memory, and where any one allocation is refused.
+/// Checks many numbers. Passes with ample memory, and if any one allocation fails.
 fn many_numbers_lead(rt: &impl Abort, table: &mut NumberTable) {
     for number in 1..40 {
         leads(rt, table, number, 40 - number);

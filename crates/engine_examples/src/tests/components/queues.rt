@@ -1,4 +1,4 @@
-//! The control law's numbers, the limits, runs under CoDel, and refused memory.
+//! The numbers of the control law, the limits, runs with CoDel, and failed allocations.
 
 ghost use Rattle.emu_model.specs.Moments.{IsMoment};
 
@@ -39,7 +39,7 @@ fn control_law_rounds_down(rt: HostRuntime) {
     assert_same(&rt, control_law(7, u32::MAX, time(&rt, 1000)), 7);
 }
 
-/// Wants a packet to be taken, or to be refused for this cause, at ten times its number.
+/// Checks that a packet is accepted, or refused for this cause, at ten times its number.
 fn comes(
     rt: &impl Abort,
     tail: &mut DropTail<u32>,
@@ -52,7 +52,8 @@ fn comes(
     assert_holds!(rt; answer == wanted);
 }
 
-/// The same of a queue under CoDel.
+/// Checks that a packet is accepted by a CoDel queue, or refused for this cause, at ten times its
+/// number.
 fn comes_to_codel(
     rt: &impl Abort,
     queue: &mut Codel<u32>,
@@ -67,7 +68,7 @@ fn comes_to_codel(
 
 const FULL: Option<EnqueueError> = Some(EnqueueError::Full);
 
-/// Number, size and stamp of what a queue gives.
+/// Returns the number, size and time stamp of a dequeued packet.
 fn parts(given: Option<Queued<u32>>) -> Option<(u32, u16, u64)> {
     match given {
         Some(waiting) => Some((waiting.item, waiting.size.get(), waiting.stamp)),
@@ -107,7 +108,7 @@ fn kbytes_limit_what_waits(rt: HostRuntime) {
     kbytes_limit(&rt, &mut queue);
 }
 
-/// What became of a packet, and when.
+/// The fate of a packet, and its time.
 #[derive(Clone, Copy, Debug, PartialEq)]
 enum Event {
     Dropped(u64, u32),
@@ -119,7 +120,7 @@ fn codel(rt: &(impl Abort + AllocGlobal)) -> Codel<u32> {
     Codel::new(rt.alloc(), slots(rt, 50), target, interval)
 }
 
-/// So many packets of 1000 bytes come at a moment, numbered from `first` on.
+/// Enqueues `count` packets of 1000 bytes at a time, numbered from `first` on.
 fn come(rt: &impl Abort, queue: &mut Codel<u32>, first: u32, count: u32, now: u64) {
     for place in 0..count {
         let packet = first.saturating_add(place);
@@ -132,7 +133,7 @@ fn note(rt: &impl Abort, events: &mut Vec<Event>, event: Event) {
     assert_holds!(rt; events.push(event).is_ok());
 }
 
-/// Notes the drops of a dequeue at a moment, and what is given from `from` on.
+/// Records the drops of a dequeue at a time, and the packets that it returns from `from` on.
 fn note_all(
     rt: &impl Abort,
     events: &mut Vec<Event>,
@@ -150,7 +151,7 @@ fn note_all(
     }
 }
 
-/// One dequeue at a moment.
+/// Dequeues once at a time.
 fn leave(rt: &impl Abort, queue: &mut Codel<u32>, now: u64, from: u64, events: &mut Vec<Event>)
     requires { IsMoment now }
 {
@@ -158,7 +159,7 @@ fn leave(rt: &impl Abort, queue: &mut Codel<u32>, now: u64, from: u64, events: &
     note_all(rt, events, now, from, &dequeued);
 }
 
-/// A dequeue every 8 ms from `first` times that to below `end` times it.
+/// Dequeues every 8 ms, from `first` times 8 ms to before `end` times 8 ms.
 fn serve(
     rt: &impl Abort,
     queue: &mut Codel<u32>,
@@ -176,7 +177,7 @@ fn are(rt: &impl Abort, events: &Vec<Event>, wanted: &[Event]) {
     assert_holds!(rt; events.as_slice() == wanted);
 }
 
-/// Wants this of so many packets that come at 0.
+/// Checks the events of a queue in which this number of packets arrive at time 0.
 fn serves_all(rt: &(impl Abort + AllocGlobal), packets: u32, from: u64, wanted: &[Event]) {
     let mut queue = codel(rt);
     come(rt, &mut queue, 0, packets, 0);
@@ -219,8 +220,9 @@ const AT_THE_NANOSECOND: [Event; 6] = [
     Event::Given(282_710_678, 40),
 ];
 
-/// Packets 14 and 28 are dropped, at 112 and at 216 ms. The next drop is due at 212 ms and 100 ms over the root of 2,
-/// which are 70710678.1 ns, and not a nanosecond before.
+/// Checks that packets 14 and 28 are dropped, at 112 and at 216 ms. The next drop is due 100 ms
+/// divided by the square root of 2, which is 70710678.1 ns, after 212 ms, and not a nanosecond
+/// earlier.
 #[test]
 fn codel_drops_at_the_nanosecond(rt: HostRuntime) {
     let mut queue = codel(&rt);
@@ -241,8 +243,9 @@ const BEGUN_AGAIN: [Event; 6] = [
     Event::Given(336 * MILLISECOND, 44),
 ];
 
-/// Of thirty packets dropping ends at 216 ms, where 1000 bytes are left. So of those that come then one alone is dropped,
-/// the first that is dequeued 100 ms after 224 ms: were it dropping still, drops would be due since 212 ms.
+/// Checks that dropping ends at 216 ms with thirty packets, when 1000 bytes are left. Of the
+/// packets that arrive then, only one is dropped, the first that is dequeued 100 ms after 224 ms.
+/// If the queue were still dropping, drops would be due since 212 ms.
 #[test]
 fn codel_begins_again_after_it_ended(rt: HostRuntime) {
     let mut queue = codel(&rt);
@@ -255,8 +258,8 @@ fn codel_begins_again_after_it_ended(rt: HostRuntime) {
     are(&rt, &events, &BEGUN_AGAIN);
 }
 
-/// Takes blocks of memory, ever smaller ones, until not even a few bytes are given; false where the allocator has no
-/// such end.
+/// Allocates smaller and smaller blocks until not even a few bytes are available. Returns false if
+/// the allocator has no such end.
 fn fill(alloc: Global, blocks: &mut Vec<Vec<u64>>) -> bool {
     let mut words: usize = 1 << 43;
     for _ in 0..MAX_BLOCKS {
@@ -275,7 +278,8 @@ fn fill(alloc: Global, blocks: &mut Vec<Vec<u64>>) -> bool {
 
 const MAX_BLOCKS: usize = 60_000;
 
-/// A queue of each kind: `dropping` is above its target since 0, and drops at 300 ms.
+/// Checks that a queue of each kind reports a failed allocation. `dropping` has been above its
+/// target since 0, and drops at 300 ms.
 fn queues_refuse(
     rt: &impl Abort,
     tail: &mut DropTail<u32>,
@@ -325,7 +329,8 @@ fn memory_that_runs_out_changes_nothing(rt: HostRuntime) {
     }
 }
 
-/// What waits stands at its place, and another item that is put there keeps its size and its stamp.
+/// Checks that a waiting packet keeps its place, and that another item put in that place has the
+/// same size and time stamp.
 fn tail_is_replaced(rt: &impl Abort, tail: &mut DropTail<u32>) {
     assert_same(rt, tail.at(0), None);
     for packet in 0..3 {

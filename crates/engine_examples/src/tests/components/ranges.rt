@@ -4,8 +4,9 @@ use crate::tests::wants::assert_same;
 use emu_model::*;
 use std::process::Abort;
 
-// What a maker takes at both ends of its range and next to them, for numbers of each width: whether those from `low` to
-// `high` alone. Where the integer holds nothing below or above, there is no next.
+// Returns true if a constructor accepts exactly the numbers from `low` to `high`, judged by the two
+// ends of its range and their neighbours, for numbers of each width. There is no neighbour where
+// the integer has no smaller or larger value.
 fn keeps_8<const LOW: u8, const HIGH: u8>(
     _made: Option<RangedU8<LOW, HIGH>>,
     low: u8,
@@ -66,7 +67,7 @@ fn takes_64<const LOW: u64, const HIGH: u64>(value: u64) -> bool {
     RangedU64::<LOW, HIGH>::new(value).is_some()
 }
 
-// Each range of a scenario.
+// Checks each range of a scenario.
 #[test]
 fn makers_keep_their_ranges(rt: HostRuntime) {
     assert_holds!(&rt; keeps_16(Size::new(0), 40, 1500));
@@ -97,7 +98,7 @@ fn ports_stand_in_order(rt: HostRuntime) {
     assert_holds!(&rt; PortRange::new(20, 10).is_none());
 }
 
-// What is left of 10.1.2.3 at a length, which is kept.
+// Returns the bits of 10.1.2.3 that are left at a prefix length, which must be kept.
 fn cleared_address(rt: &impl Abort, len: u8) -> u32 {
     let length = PrefixLength::new(len).expect(rt, "a length");
     let prefix = Prefix::new(0x0a010203, length);
@@ -122,7 +123,7 @@ fn due(moment: u64, class: Class, number: u32) -> Due {
     }
 }
 
-// Whether a due is before just those from a place on.
+// Returns true if a due is before exactly those from a place on.
 fn is_before_all_from(due: &Due, rising: &[Due], place: usize) -> bool {
     for (other, later) in rising.iter().enumerate() {
         if due.is_before(later) != (place < other) {
@@ -132,7 +133,7 @@ fn is_before_all_from(due: &Due, rising: &[Due], place: usize) -> bool {
     true
 }
 
-// By moment first, then by class, then by number.
+// Checks that dues are ordered by time, then by class, then by number.
 #[test]
 fn dues_stand_in_order(rt: HostRuntime) {
     let rising = [
@@ -158,7 +159,7 @@ fn inject(size: Size) -> Command {
     })
 }
 
-// It reads what it tells the range of, and changes nothing.
+// Checks that `command_in_range` only reads the command whose range it states.
 #[test]
 fn ranges_of_a_command_are_told(rt: HostRuntime) {
     let size = Size::new(1500).expect(&rt, "a size");

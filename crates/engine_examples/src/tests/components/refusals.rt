@@ -1,4 +1,4 @@
-//! The numbers that refusals and causes of drops have outside.
+//! The numbers of refusals and of drop causes that users see.
 
 use emu_model::{DropCause, Refusal};
 use flow_mask::InstanceError;

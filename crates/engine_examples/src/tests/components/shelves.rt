@@ -32,7 +32,7 @@ fn put<S: Shelf>(shelf: &mut S, owner: Owner, number: u64) -> Result<Key, PutErr
     shelf.put(owner, packet(number))
 }
 
-// The number of the owner's packet at a key.
+// Returns the number of the owner's packet at a key.
 fn look<S: Shelf>(shelf: &S, owner: Owner, key: Key) -> Option<u64> {
     match shelf.look(owner, key) {
         Some(packet) => Some(packet.number),
@@ -47,7 +47,7 @@ fn take<S: Shelf>(shelf: &mut S, owner: Owner, key: Key) -> Option<u64> {
     }
 }
 
-// How many packets an owner can put until it is over its budget.
+// Returns how many packets an owner can put before it is over its budget.
 fn flood<S: Shelf>(shelf: &mut S, owner: Owner) -> Option<u64> {
     for number in 0..100_000 {
         if shelf.put_ready(owner).is_err() {
@@ -74,7 +74,7 @@ fn is_over_budget<S: Shelf>(shelf: &mut S, owner: Owner) -> bool {
     matches!(put(shelf, owner, 99), Err(PutError::OverBudget))
 }
 
-// A free place is used again.
+// Checks that a free place is used again.
 fn keeps_its_budget<S: Shelf>(rt: &impl Abort, shelf: &mut S) {
     let first = puts(rt, shelf, 0, 10);
     let second = puts(rt, shelf, 0, 11);
@@ -95,7 +95,7 @@ fn own_shelf_keeps_its_budget(rt: HostRuntime) {
     keeps_its_budget(&rt, &mut shelf);
 }
 
-// A new owner, at the second try where memory was refused.
+// Admits a new owner, and retries once if an allocation fails.
 fn new_owner(rt: &impl Abort, store: &mut Store, packets: u16) -> Owner {
     match store.admit(budget(rt, packets)) {
         Ok(owner) => owner,
@@ -112,7 +112,7 @@ fn floods(rt: &impl Abort, store: &mut Store) {
     assert_same(rt, flood(store, quiet), Some(1));
     assert_holds!(rt; (store.count(quiet), store.count(loud)) == (2, 65535));
 
-    // What a dismissed owner held is gone, and its number is given out anew.
+    // The packets of a dismissed owner are gone, and its number is used again.
     store.dismiss(loud);
     assert_holds!(rt; flood(store, loud) == Some(0));
     assert_same(rt, look(store, quiet, kept), Some(20));
@@ -134,8 +134,8 @@ fn grows(rt: &impl Abort, store: &mut Store) {
     assert_same(rt, flood(store, second), Some(3));
 }
 
-// Passes with ample memory, and where any one allocation of it is refused: a refused call left all as
-// it was, and goes when it is made again.
+// Checks that a failed call changes nothing, and succeeds when it is repeated. Passes with ample
+// memory, and if any one of its allocations fails.
 #[test]
 fn a_refused_growth_changes_nothing(rt: HostRuntime) {
     let mut store = Store::new(rt.alloc());

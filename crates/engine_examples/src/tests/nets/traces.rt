@@ -1,4 +1,4 @@
-//! What `trace` records.
+//! The records of `trace`.
 
 use super::*;
 
@@ -29,7 +29,7 @@ fn arrival_record(moment: u64, packet: u64, pipe: PipeNumber, instance: u8) -> R
     }
 }
 
-/// The packets from this address have this instance.
+/// Returns the record that packets from this address have this instance.
 fn identifier_record(pipe: PipeNumber, instance: u8, src: u32) -> Record {
     Record::InstanceIdentified {
         moment: 0,
@@ -52,22 +52,22 @@ fn finished_in(moment: u64, packet: u64, pipe: PipeNumber, instance: u8) -> Reco
     }
 }
 
-/// 1 Mbit/s and 10 ms for each source.
+/// Returns a pipe with 1 Mbit/s and 10 ms for each source.
 fn pipe_for_each_source(pipe: PipeNumber) -> Option<Command> {
     let mut config = config(1_000_000, 10)?;
     config.mask.src = 0xffff_ffff;
     Some(Command::Config { pipe, config })
 }
 
-/// A packet of 1000 bytes from another source.
+/// Returns a packet of 1000 bytes from another source.
 fn other_thousand() -> Option<SendSpec> {
     let mut send = thousand()?;
     send.src = 0x0a00_0003;
     Some(send)
 }
 
-// With `trace` a making, the instance that it makes, and an arrival are recorded, and a making that the
-// budget drops; without it none.
+// Checks that `trace` records a creation, the instance that the packet creates, an arrival, and a
+// creation that the budget drops, and that nothing of this is recorded without `trace`.
 #[test]
 fn traced_budget(rt: HostRuntime) {
     let room = PacketBudget::new(1).expect(&rt, "budget");
@@ -117,9 +117,9 @@ fn traced_budget(rt: HostRuntime) {
     assert_records(&rt, &records, 3, &expected);
 }
 
-// A command and an event that each make an instance, and an event that makes none. Passes with ample
-// memory, and where any one allocation is refused: what is refused leaves all as it was (`obeys` and
-// `goes_on` look at that), and makes its three lines at the second try.
+// Checks a command and an event that each create an instance, and an event that creates none.
+// Passes with ample memory, and if any one allocation fails. What fails changes nothing (`obeys`
+// and `goes_on` check that), and records its three lines on the second try.
 #[test]
 fn refused_trace_changes_nothing(rt: HostRuntime) {
     let room = PacketBudget::new(10).expect(&rt, "budget");

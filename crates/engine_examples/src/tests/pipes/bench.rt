@@ -1,4 +1,4 @@
-//! A pipe beside its packets, what can be done to it, and a log of what happens.
+//! A pipe together with its packets, the actions on it, and a log of its events.
 
 ghost use Rattle.std.specs.Prelude.{[], ◌∷◌, IfSome};
 ghost use Rattle.pipe_core.specs.Moves.{AreNamed};
@@ -19,7 +19,7 @@ pub const FIRST: u32 = 0x0a00_0002;
 
 pub const SECOND: u32 = 0x0a00_0003;
 
-/// A pipe beside a shelf of its own, on which its keys name its packets.
+/// A pipe with a shelf of its own, on which its keys refer to its packets.
 #[derive(Drop)]
 struct Bench {
     budget: usize,
@@ -42,7 +42,7 @@ impl Model for Bench {
         × ((own_pocket b.shelf).budget ≡ b.budget) };
 }
 
-/// The next thing that happens in a pipe.
+/// The next event in a pipe.
 #[derive(Clone, Copy)]
 struct Next {
     moment: u64,
@@ -50,17 +50,17 @@ struct Next {
     index: usize,
 }
 
-/// What is done to a pipe.
+/// An action on a pipe.
 #[derive(Clone, Copy)]
 pub enum Act {
-    /// A packet of this number and of so many bytes comes to this destination.
+    /// A packet with this number and this size in bytes arrives for this destination.
     Send {
         now: u64,
         number: u64,
         dst: u32,
         size: u16,
     },
-    /// All that happens before a moment.
+    /// All events before a time.
     Run {
         until: u64,
     },
@@ -69,20 +69,21 @@ pub enum Act {
         config: PipeConfig,
         refusal: Option<Refusal>,
     },
-    /// What this instance shows.
+    /// The listing of this instance.
     Show {
         index: usize,
         shown: Option<Shown>,
     },
-    /// The pipe moves to a store, where so many packets stand then, and from there to a new shelf.
+    /// The pipe moves to a store, which then holds this number of packets, and from there to a new
+    /// shelf.
     Travel {
         stood: usize,
     },
-    /// The pipe gives up all that it holds.
+    /// The pipe gives up all its packets.
     Delete,
 }
 
-/// A packet of 1000 bytes that comes at 0.
+/// Returns the arrival of a packet of 1000 bytes at time 0.
 pub fn thousand(number: u64, dst: u32) -> Act {
     Act::Send {
         now: 0,
@@ -92,7 +93,7 @@ pub fn thousand(number: u64, dst: u32) -> Act {
     }
 }
 
-/// What became of a packet.
+/// The fate of a packet.
 #[derive(Clone, Copy, PartialEq)]
 pub enum Fate {
     Full,
@@ -102,10 +103,12 @@ pub enum Fate {
     Gone,
 }
 
-/// What became of a packet of this number at this moment (ns), which is 0 where it was full or has gone.
+/// The fate of the packet with this number, and its time (ns), which is 0 if the packet was refused
+/// as `full` or has gone.
 pub type Note = (Fate, u64, u64);
 
-/// The earlier of two, at one moment what leaves, and then the first.
+/// Returns the earlier of two events. If both have the same time, an exit is first, and otherwise
+/// the first of the two.
 fn earlier_of(best: Option<Next>, next: Next) -> Option<Next> {
     match best {
         Some(best)
@@ -116,7 +119,7 @@ fn earlier_of(best: Option<Next>, next: Next) -> Option<Next> {
 }
 
 impl Bench {
-    /// A pipe 1 over a shelf of 64 packets.
+    /// Creates pipe 1 with a shelf of 64 packets.
     fn new(alloc: Global, config: PipeConfig) -> Option<Self> {
         let number = PipeNumber::new(1)?;
         let limit = PacketBudget::new(64)?;
@@ -132,7 +135,8 @@ impl Bench {
         })
     }
 
-    /// A packet comes, and what the pipe answers; None where it is refused.
+    /// Lets a packet arrive, and returns the pipe's result, or `None` if the bench is full, the
+    /// time is too late, or an allocation fails.
     fn arrive(&mut self, now: u64, packet: &Packet) -> Option<Option<DropCause>> {
         if now >= END || self.shelf.count(0) >= self.budget {
             return None;
@@ -144,7 +148,7 @@ impl Bench {
         Some(self.pipe.arrive(&mut self.shelf, 0, now, packet))
     }
 
-    /// The number of what leaves first in an instance.
+    /// Returns the number of the packet that leaves an instance first.
     fn exit(&mut self, index: usize) -> Option<u64> {
         if index >= self.pipe.instances() {
             return None;
@@ -155,7 +159,7 @@ impl Bench {
         }
     }
 
-    /// The number of what would leave first.
+    /// Returns the number of the packet that would leave first.
     fn front(&self, index: usize) -> Option<u64> {
         if index >= self.pipe.instances() {
             return None;
@@ -166,8 +170,8 @@ impl Bench {
         }
     }
 
-    /// What is in service in an instance finishes when it is due, and tells its number; None where it is
-    /// refused.
+    /// Finishes the packet in service in an instance when it is due, and returns its number, or
+    /// `None` if nothing can finish or an allocation fails.
     fn finish(&mut self, index: usize) -> Option<u64> {
         if index >= self.pipe.instances() {
             return None;
@@ -186,12 +190,12 @@ impl Bench {
         }
     }
 
-    /// A new configuration.
+    /// Sets a new configuration.
     fn configure(&mut self, config: PipeConfig) -> Option<Refusal> {
         self.pipe.configure(config)
     }
 
-    /// The pipe gives up all that it holds; None where it is refused.
+    /// Lets the pipe give up all its packets. Returns `None` if an allocation fails.
     fn delete(&mut self) -> Option<Vec<Packet>> {
         match self.pipe.delete(&mut self.shelf, 0) {
             Ok(gone) => Some(gone),
@@ -199,8 +203,9 @@ impl Bench {
         }
     }
 
-    /// The pipe moves to a store, where another owner has a packet, and from there to a new shelf: how
-    /// many packets stood in the store. None where memory is refused, and the pipe did not move.
+    /// Moves the pipe to a store, in which another owner has a packet, and from there to a new
+    /// shelf. Returns the number of packets that were in the store, or `None` if an allocation
+    /// fails and the pipe did not move.
     fn travel(&mut self, alloc: Global) -> Option<usize> {
         let limit = PacketBudget::new(64)?;
         let mut store = Store::new(alloc);
@@ -209,7 +214,7 @@ impl Bench {
         stood
     }
 
-    /// The same, by this store.
+    /// Moves the pipe as `travel` does, through this store.
     fn travel_by(
         &mut self,
         alloc: Global,
@@ -236,7 +241,8 @@ impl Bench {
         Some(stood)
     }
 
-    /// A packet of so many bytes comes. One that is refused changes nothing, and comes again.
+    /// Lets a packet of this size in bytes arrive. A failed call must change nothing, and is
+    /// repeated.
     fn send(&mut self, now: u64, number: u64, dst: u32, size: u16) -> Option<Option<DropCause>> {
         let Some(packet) = packet(number, dst, size) else {
             return None;
@@ -252,7 +258,7 @@ impl Bench {
         self.arrive(now, &packet)
     }
 
-    /// The next exit or finish.
+    /// Returns the next exit or finish.
     fn next(&self) -> Option<Next> {
         let mut best: Option<Next> = None;
         for index in 0..self.pipe.instances() {
@@ -283,8 +289,8 @@ impl Bench {
         best
     }
 
-    /// Makes the next exit or finish before a moment; None where there is none. A finish that is
-    /// refused changes nothing, and is made again.
+    /// Processes the next exit or finish before a time, or returns `None` if there is none. A
+    /// finish that fails must change nothing, and is repeated.
     fn step(&mut self, until: u64, notes: &mut Vec<Note>) -> Option<()> {
         let next = self.next()?;
         if next.moment >= until {
@@ -316,7 +322,7 @@ impl Bench {
         notes.push((Fate::Finished, next.moment, number)).ok()
     }
 
-    /// Makes all that happens before a moment.
+    /// Processes all events before a time.
     fn run(&mut self, until: u64, notes: &mut Vec<Note>) {
         for _ in 0..200 {
             if self.step(until, notes).is_none() {
@@ -325,8 +331,8 @@ impl Bench {
         }
     }
 
-    /// The pipe gives up all that it holds, at the second try where memory was refused, and nothing has changed
-    /// before that.
+    /// Lets the pipe give up all its packets, and retries once if an allocation fails, after which
+    /// nothing must have changed.
     fn give_up(&mut self, notes: &mut Vec<Note>) -> Option<()> {
         let (held, instances) = (self.shelf.count(0), self.pipe.instances());
         let gone = match self.delete() {
@@ -345,7 +351,7 @@ impl Bench {
         Some(())
     }
 
-    /// The pipe moves, at the second try where memory was refused.
+    /// Moves the pipe, and retries once if an allocation fails.
     fn travel_in_the_end(&mut self, alloc: Global) -> Option<usize> {
         match self.travel(alloc) {
             Some(stood) => Some(stood),
@@ -353,7 +359,8 @@ impl Bench {
         }
     }
 
-    /// Does one thing to the pipe, which must come out as wanted; None where that is refused twice.
+    /// Performs one action on the pipe. Returns `None` if the result isn't the expected one, or if
+    /// the action fails twice.
     fn act(&mut self, alloc: Global, act: &Act, notes: &mut Vec<Note>) -> Option<()> {
         let as_wanted = match *act {
             Act::Send {
@@ -378,7 +385,7 @@ impl Bench {
         if as_wanted { Some(()) } else { None }
     }
 
-    /// Does one thing after the other.
+    /// Performs one action after the other.
     fn play(&mut self, alloc: Global, acts: &[Act], notes: &mut Vec<Note>) -> Option<()> {
         for act in acts {
             self.act(alloc, act, notes)?;
@@ -387,7 +394,7 @@ impl Bench {
     }
 }
 
-/// A list with room for 64. A growth that is refused is made again.
+/// Creates a list with a capacity of 64. Retries once if the growth fails.
 fn room_for_64(alloc: Global) -> Vec<Note> {
     let mut notes = Vec::new(alloc);
     if notes.reserve(64).is_err() {
@@ -396,7 +403,7 @@ fn room_for_64(alloc: Global) -> Vec<Note> {
     notes
 }
 
-/// Wants this of a pipe of which these things are done.
+/// Checks the log of a pipe after these actions.
 pub fn plays(rt: &(impl Abort + AllocGlobal), config: PipeConfig, acts: &[Act], wanted: &[Note]) {
     let mut notes = room_for_64(rt.alloc());
     let mut bench = Bench::new(rt.alloc(), config).expect(rt, "a pipe");
@@ -423,7 +430,7 @@ fn packet(number: u64, dst: u32, size: u16) -> Option<Packet> {
     })
 }
 
-/// Keeps a packet of this number.
+/// Stores a packet with this number.
 pub fn keep<S: Shelf>(shelf: &mut S, owner: Owner, number: u64) -> Option<Key>
     ensures { IfSome result (λ key. AreNamed (S.pocket shelf.new owner) (key ∷ [])) }
 {

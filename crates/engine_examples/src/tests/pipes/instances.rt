@@ -1,4 +1,4 @@
-//! Worked pipes of one instance, with their moments from the texts that go with them.
+//! Worked pipes of one instance, with the times from the texts that explain them.
 
 use super::*;
 use crate::tests::wants::assert_same;
@@ -9,7 +9,7 @@ use packet_store::{Key, OwnShelf, Shelf};
 use pipe_core::Instance;
 use std::process::Abort;
 
-/// What a packet's arrival came to.
+/// The result of a packet's arrival.
 #[derive(Clone, Copy, Debug, PartialEq)]
 enum Arrival {
     In,
@@ -17,8 +17,8 @@ enum Arrival {
     Lost,
 }
 
-/// A packet comes at a moment: its word is drawn, and then the limit decides. None for want of memory,
-/// before anything was drawn.
+/// Lets a packet arrive at a time: its random word is drawn, and then the limit decides. Returns
+/// `None` if an allocation fails, before anything is drawn.
 fn arrive(
     instance: &mut Instance,
     shelf: &mut OwnShelf,
@@ -65,8 +65,9 @@ fn number_at(shelf: &OwnShelf, key: Key) -> u64 {
     }
 }
 
-/// Makes the next exit or finish, an exit before a finish: None where there is none. What left is noted, with its
-/// moment (ns). What is refused for memory is made again.
+/// Processes the next exit or finish, an exit before a finish, or returns `None` if there is none.
+/// Records the packet that left, with its time (ns). If a finish fails for lack of memory, the next
+/// call repeats it.
 fn step(
     instance: &mut Instance,
     shelf: &OwnShelf,
@@ -89,13 +90,13 @@ fn step(
     Some(())
 }
 
-/// A pipe of this rate (bit/s) and delay (ms), with 50 slots.
+/// Returns a pipe with this rate (bit/s) and delay (ms), with 50 slots.
 fn plain_config(rt: &impl Abort, bw: u64, delay: u16) -> PipeConfig {
     let slots = QueueLimit::Slots(SlotLimit::new(50).expect(rt, "a limit"));
     pipe(bw, delay, slots, Discipline::TailDrop).expect(rt, "a pipe")
 }
 
-/// A packet of 1000 bytes comes, at the second try where memory was refused.
+/// Lets a packet of 1000 bytes arrive, and retries once if an allocation fails.
 fn one_arrives(rt: &impl Abort, instance: &mut Instance, shelf: &mut OwnShelf) {
     let size = Size::new(1000).expect(rt, "a size");
     if arrive(instance, shelf, 0, 7, size).is_none() {
@@ -103,7 +104,8 @@ fn one_arrives(rt: &impl Abort, instance: &mut Instance, shelf: &mut OwnShelf) {
     }
 }
 
-/// Nothing came: a configuration changes the rate, and nothing is left.
+/// Checks that a configuration before the first packet changes the rate, and that the instance then
+/// gives up exactly one packet.
 #[test]
 fn configured_and_given_up(rt: HostRuntime) {
     let (first, second) = (
@@ -123,8 +125,8 @@ fn configured_and_given_up(rt: HostRuntime) {
     assert_holds!(&rt; leftovers.next().is_none());
 }
 
-/// Three packets, of which one is on its way, one in service and one waits, change places by their
-/// keys; what leaves is noted.
+/// Reverses the order of three packets by their keys, of which one is in the delay line, one is in
+/// service and one waits, and records the packets that leave.
 fn change_places(
     instance: &mut Instance,
     shelf: &mut OwnShelf,
@@ -157,7 +159,7 @@ fn change_places(
     Some(())
 }
 
-/// They leave in the new order, at the old moments.
+/// Checks that the packets leave in the new order, at the old times.
 #[test]
 fn keys_are_replaced_in_place(rt: HostRuntime) {
     let config = plain_config(&rt, 1_000_000, 20);

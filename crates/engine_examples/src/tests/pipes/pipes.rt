@@ -1,5 +1,5 @@
-//! Worked pipes, whose moments come from the texts that go with them, and pipes of which an allocation
-//! may be refused.
+//! Worked pipes, with the times from the texts that explain them, and pipes for which an allocation
+//! may fail.
 
 use super::bench::{Act, FIRST, Fate, SECOND, keep, number_at, plays, thousand};
 use super::*;
@@ -10,14 +10,14 @@ use packet_store::{OwnShelf, Shelf, Store};
 use pipe_core::{Shown, rehouse_line};
 use std::process::Abort;
 
-/// A pipe with this bandwidth (bit/s), delay (ms) and number of slots, and with the tail dropped.
+/// Returns a drop-tail pipe with this bandwidth (bit/s), delay (ms) and number of slots.
 fn plain_config(rt: &impl Abort, bw: u64, delay: u16, slots: u16) -> PipeConfig {
     let slots = SlotLimit::new(slots).expect(rt, "a limit");
     let tail = Discipline::TailDrop;
     pipe(bw, delay, QueueLimit::Slots(slots), tail).expect(rt, "a pipe")
 }
 
-/// A pipe of 1 Mbit/s with this delay (ms) and an instance for each destination.
+/// Returns a pipe with 1 Mbit/s, this delay (ms) and an instance for each destination.
 fn masked_config(rt: &impl Abort, delay: u16) -> PipeConfig {
     let mut config = plain_config(rt, 1_000_000, delay, 50);
     config.mask.dst = 0xffff_ffff;
@@ -57,7 +57,7 @@ fn one_slot(rt: HostRuntime) {
     plays(&rt, plain_config(&rt, 1_000_000, 0, 1), &acts, &wanted);
 }
 
-/// Three packets to two destinations, and then a mask that is refused.
+/// Checks three packets to two destinations, and then a mask that is refused.
 #[test]
 fn masked_instances_with_a_refused_allocation(rt: HostRuntime) {
     let acts = [
@@ -81,8 +81,9 @@ fn masked_instances_with_a_refused_allocation(rt: HostRuntime) {
     plays(&rt, masked_config(&rt, 0), &acts, &wanted);
 }
 
-/// A pipe is deleted with a packet on its way in each instance, and in the first one in service and one that waits:
-/// it gives them by instance, and in each as they would have left.
+/// Checks that a pipe is deleted that has a packet in the delay line of each instance, and in the
+/// first instance one in service and one that waits. It returns them by instance, and in each
+/// instance in the order in which they would have left.
 #[test]
 fn pipe_deleted_with_a_refused_allocation(rt: HostRuntime) {
     let acts = [
@@ -104,8 +105,8 @@ fn pipe_deleted_with_a_refused_allocation(rt: HostRuntime) {
     plays(&rt, masked_config(&rt, 100), &acts, &wanted);
 }
 
-/// A pipe moves while a packet is on its way, one is in service and one waits, and goes on with the
-/// same moments.
+/// Checks that a pipe that moves while a packet is in the delay line, one is in service and one
+/// waits, continues with the same times.
 #[test]
 fn a_pipe_that_moves_goes_on(rt: HostRuntime) {
     let acts = [
@@ -127,7 +128,7 @@ fn a_pipe_that_moves_goes_on(rt: HostRuntime) {
     plays(&rt, plain_config(&rt, 1_000_000, 10, 50), &acts, &wanted);
 }
 
-/// A delay line without a pipe moves alike.
+/// Checks that a delay line without a pipe moves in the same way.
 #[test]
 fn a_line_that_moves_goes_on(rt: HostRuntime) {
     let limit = PacketBudget::new(1).expect(&rt, "a budget");

@@ -1,4 +1,4 @@
-//! What stands in the table, with numbers chosen by hand.
+//! The contents of the table, with numbers chosen by hand.
 
 ghost use Rattle.std.specs.Prelude.{[], ◌≡◌};
 ghost use Rattle.packet_store.specs.Own.{own_pocket};
@@ -63,7 +63,7 @@ fn is(due: Due, moment: u64, class: Class, number: u32) -> bool {
     due.moment == moment && due.source.class == class && due.source.number == number
 }
 
-/// Configures a pipe, at the second try where memory was refused.
+/// Configures a pipe, and retries once if an allocation fails.
 fn configures(pipes: &mut PipeTable, number: u16, config: &PipeConfig) -> bool {
     let Some(number) = PipeNumber::new(number) else {
         return false;
@@ -83,7 +83,8 @@ fn number(rt: &impl Abort, value: u16) -> PipeNumber {
     PipeNumber::new(value).expect(rt, "a number")
 }
 
-// What is due without packets is what was due before; a listing has one line for each pipe, by number.
+// Checks that without packets the first due is the one that was given, and that a listing has one
+// line for each pipe.
 #[test]
 fn pipes_stand_by_number(rt: HostRuntime) {
     let mut pipes = PipeTable::new(rt.alloc(), 0);
@@ -97,7 +98,7 @@ fn pipes_stand_by_number(rt: HostRuntime) {
     assert_holds!(&rt; pipes.lines() == 3);
 }
 
-// Where memory is refused nothing has changed.
+// Checks that a failed allocation changes nothing.
 #[test]
 fn a_refused_pipe_is_not_made(rt: HostRuntime) {
     let mut pipes = PipeTable::new(rt.alloc(), 0);
@@ -109,7 +110,7 @@ fn a_refused_pipe_is_not_made(rt: HostRuntime) {
     assert_holds!(&rt; pipes.lines() == wanted);
 }
 
-/// A packet comes to a pipe that is made for it; None where memory was refused.
+/// Lets a packet arrive at a pipe that is created for it. Returns `None` if an allocation fails.
 fn arrives_alone(rt: &impl Abort, pipes: &mut PipeTable, shelf: &mut OwnShelf) -> Option<()>
     requires empty { pipes.old ≡ record { seed = 0; pipes = [] } }
     requires room { own_pocket shelf.old ≡ empty_pocket 2 }
@@ -123,7 +124,8 @@ fn arrives_alone(rt: &impl Abort, pipes: &mut PipeTable, shelf: &mut OwnShelf) -
     Some(())
 }
 
-/// Its finish at 8000000 is appended to what was due before, or nothing where memory was refused.
+/// Checks that the packet's finish at 8000000 is appended to the given dues, or nothing if an
+/// allocation fails.
 fn appends_dues(rt: &(impl Abort + AllocGlobal), pipes: &PipeTable) {
     let mut dues = Vec::new(rt.alloc());
     if dues.push(command(9)).is_err() {
@@ -137,7 +139,8 @@ fn appends_dues(rt: &(impl Abort + AllocGlobal), pipes: &PipeTable) {
     assert_holds!(rt; is(dues[1], 8_000_000, Class::Finish, 256));
 }
 
-// A packet of 1000 bytes at 0 finishes at 8000000, behind what was due before.
+// Checks that a packet of 1000 bytes at time 0 finishes at 8000000, and that this is appended to
+// the given dues.
 #[test]
 fn dues_are_appended(rt: HostRuntime) {
     let mut shelf = OwnShelf::new(rt.alloc(), PacketBudget::new(2).expect(&rt, "a budget"));
@@ -156,7 +159,7 @@ fn sixty_four_are_there(rt: &impl Abort, pipes: &mut PipeTable, slow: &PipeConfi
     }
 }
 
-// A 65th pipe is refused, and one that is there can be configured anew.
+// Checks that a 65th pipe is refused, and that an existing one can be configured again.
 #[test]
 fn pipes_are_counted(rt: HostRuntime) {
     let mut pipes = PipeTable::new(rt.alloc(), 0);

@@ -28,7 +28,7 @@ fn sender(rt: &impl Abort, smss: u16, segments: u32, ssthresh: u32, timing: Timi
     })
 }
 
-/// The first byte of what is sent, if anything may be.
+/// Sends a segment if one may be sent, and returns its first byte.
 fn sent(sender: &mut Sender, now: u64) -> Option<u64>
     requires early { IsMoment now }
 {
@@ -38,7 +38,7 @@ fn sent(sender: &mut Sender, now: u64) -> Option<u64>
     Some(sender.emit(now))
 }
 
-/// Sends just the segments that begin at these bytes.
+/// Checks that exactly the segments that begin at these bytes are sent.
 fn sends(rt: &impl Abort, sender: &mut Sender, now: u64, firsts: &[u64])
     requires early { IsMoment now }
 {
@@ -48,7 +48,7 @@ fn sends(rt: &impl Abort, sender: &mut Sender, now: u64, firsts: &[u64])
     assert_with_message(rt, !sender.may_emit(), "no more");
 }
 
-/// What an acknowledgement leaves as cwnd and ssthresh.
+/// Checks cwnd and ssthresh after an acknowledgement.
 fn check_ack(rt: &impl Abort, sender: &mut Sender, now: u64, upto: u64, wanted: (u64, u64))
     requires early { IsMoment now }
 {
@@ -57,7 +57,7 @@ fn check_ack(rt: &impl Abort, sender: &mut Sender, now: u64, upto: u64, wanted: 
     assert_same(rt, windows, (upto, wanted.0, wanted.1));
 }
 
-/// What an expiry leaves as cwnd and ssthresh.
+/// Checks cwnd and ssthresh after an expiry.
 fn check_expiry(rt: &impl Abort, sender: &mut Sender, now: u64, wanted: (u64, u64))
     requires early { IsMoment now }
 {
@@ -127,8 +127,8 @@ fn third_duplicate_sends_again(rt: HostRuntime) {
     check_ack(&rt, &mut fast, 30, 8000, (2000, 2000));
 }
 
-// Duplicates let new segments through after the first expiry, so 10 segments are under way at the
-// second: half of them would be 5000.
+// Checks the threshold after a second expiry. Duplicate acknowledgements let new segments through
+// after the first expiry, so 10 segments are in flight at the second; half of them would be 5000.
 #[test]
 fn second_expiry_holds_the_threshold(rt: HostRuntime) {
     let mut late = sender(&rt, 1000, 20, 65535, fixed_timing(&rt, 1000));
@@ -157,7 +157,7 @@ fn second_expiry_holds_the_threshold(rt: HostRuntime) {
     due_at(&rt, &late, Some(8_000_000_000));
 }
 
-/// A segment that was made ready is acknowledged up to here.
+/// Checks that a segment after `take_ready` is acknowledged up to `wanted`.
 fn takes(rt: &impl Abort, receiver: &mut Receiver, first: u64, wanted: u64) {
     assert_with_message(rt, receiver.take_ready(first).is_ok(), "memory");
     assert_same(rt, (first, receiver.take(first)), (first, Ok(wanted)));
@@ -171,8 +171,8 @@ fn receiver_acknowledges_the_first_gap(rt: HostRuntime) {
     }
 }
 
-/// What is refused leaves the receiver, of whose segments the first alone has come without a gap, as it was; and a
-/// segment that was made ready isn't refused.
+/// Checks that a failed call leaves the receiver unchanged, of whose segments only the first has
+/// arrived without a gap, and that a segment after `take_ready` can't fail.
 fn comes_behind_a_gap(rt: &impl Abort, receiver: &mut Receiver, first: u64) {
     if receiver.take(first).is_ok() {
         return;
@@ -183,7 +183,8 @@ fn comes_behind_a_gap(rt: &impl Abort, receiver: &mut Receiver, first: u64) {
     }
 }
 
-/// Every second segment comes first. A run in which an allocation fails shows what is refused.
+/// Checks that failed segments change nothing, with every second segment first. Only a run in which
+/// an allocation fails shows it.
 #[test]
 fn refused_segments_change_nothing(rt: HostRuntime) {
     let mut receiver = Receiver::new(rt.alloc(), segment_size(&rt, 64));

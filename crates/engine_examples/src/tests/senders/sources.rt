@@ -17,7 +17,7 @@ fn number(rt: &impl Abort, n: u16) -> FlowNumber {
     FlowNumber::new(n).expect(rt, "a number")
 }
 
-/// The flow of the worked examples: four segments of 1460 bytes.
+/// Returns the flow of the worked examples: four segments of 1460 bytes.
 fn four_segments() -> Option<FlowSpec> {
     Some(FlowSpec {
         src: 0x0a000001,
@@ -32,7 +32,7 @@ fn four_segments() -> Option<FlowSpec> {
     })
 }
 
-/// The train of the worked example: three packets of 1000 bytes, 5 ns apart.
+/// Returns the train of the worked example: three packets of 1000 bytes, 5 ns apart.
 fn three_packets() -> Option<TrainSpec> {
     Some(TrainSpec {
         packet: SendSpec {
@@ -48,7 +48,7 @@ fn three_packets() -> Option<TrainSpec> {
     })
 }
 
-/// Begins a flow; at the second try where memory was refused, and it isn't there before that.
+/// Begins a flow, and retries once if an allocation fails, after which it must not exist.
 fn begins_flow(traffic: &mut Traffic, n: u16) -> bool {
     let (Some(number), Some(flow)) = (FlowNumber::new(n), four_segments()) else {
         return false;
@@ -65,7 +65,7 @@ fn begins_flow(traffic: &mut Traffic, n: u16) -> bool {
     traffic.start_flow(number, &flow).is_ok()
 }
 
-/// Begins a train likewise.
+/// Begins a train, and retries in the same way.
 fn begins_train(traffic: &mut Traffic, now: u64, n: u16) -> bool
     requires early { IsMoment now }
 {
@@ -84,7 +84,7 @@ fn begins_train(traffic: &mut Traffic, now: u64, n: u16) -> bool
     traffic.start_train(now, number, &train).is_ok()
 }
 
-/// A command at a moment, behind which nothing comes that is due later.
+/// Returns a command at a time, which is before everything that is due later.
 fn command(moment: u64) -> Due
     ensures { result ≡ due Class.NextCommand 0 moment }
 {
@@ -104,7 +104,7 @@ fn due_of(class: Class, number: u32, moment: u64) -> Due {
     }
 }
 
-/// What is sent next, if that is before another moment.
+/// Returns what is sent next, if that is before another time.
 fn sends(traffic: &mut Traffic, now: u64, end: u64) -> Option<Sending>
     requires early { IsMoment now }
 {
@@ -119,12 +119,12 @@ fn sends(traffic: &mut Traffic, now: u64, end: u64) -> Option<Sending>
     Some(Sending { load, send })
 }
 
-/// Source and destination, each with its port.
+/// Returns the source and the destination, each with its port.
 fn ends_of(send: SendSpec) -> (u32, u16, u32, u16) {
     (send.src, send.sport, send.dst, send.dport)
 }
 
-/// Flow and first byte of a segment.
+/// Returns the flow and the first byte of a segment.
 fn segment_in(load: Load) -> Option<(u16, u64)> {
     match load {
         Load::Seg { flow, first } => Some((flow.get(), first)),
@@ -132,7 +132,7 @@ fn segment_in(load: Load) -> Option<(u16, u64)> {
     }
 }
 
-/// The segment of flow 1 that begins at this byte is sent.
+/// Checks that the segment of flow 1 that begins at this byte is sent.
 fn sends_segment(rt: &impl Abort, traffic: &mut Traffic, now: u64, first: u64)
     requires early { IsMoment now }
 {
@@ -142,7 +142,7 @@ fn sends_segment(rt: &impl Abort, traffic: &mut Traffic, now: u64, first: u64)
     assert_same(rt, segment_in(sent.load), Some((1, first)));
 }
 
-/// Just the segments that begin at these bytes are sent.
+/// Checks that exactly the segments that begin at these bytes are sent.
 fn sends_segments(rt: &impl Abort, traffic: &mut Traffic, now: u64, firsts: &[u64])
     requires early { IsMoment now }
 {
@@ -153,7 +153,7 @@ fn sends_segments(rt: &impl Abort, traffic: &mut Traffic, now: u64, firsts: &[u6
     assert_same(rt, (now, more.is_none()), (now, true));
 }
 
-/// The acknowledgement of a segment, at the second try where memory was refused.
+/// Returns the acknowledgement of a segment, and retries once if an allocation fails.
 fn answers(traffic: &mut Traffic, n: u16, first: u64) -> Option<Sending> {
     let number = FlowNumber::new(n)?;
     if traffic.take_ready(number, first).is_err() {
@@ -162,7 +162,7 @@ fn answers(traffic: &mut Traffic, n: u16, first: u64) -> Option<Sending> {
     traffic.take(number, first)
 }
 
-/// Flow and what is acknowledged.
+/// Returns the flow and the byte that is acknowledged.
 fn acknowledged_in(load: Load) -> Option<(u16, u64)> {
     match load {
         Load::Ack { flow, upto } => Some((flow.get(), upto)),
@@ -192,20 +192,20 @@ fn train_begins(rt: &impl Abort, traffic: &mut Traffic, now: u64, n: u16)
     assert_same(rt, (n, begins_train(traffic, now, n)), (n, true));
 }
 
-/// A timer is due next, before a command, with this number and at this moment.
+/// Checks that a timer with this number and this time is due next, before a command.
 fn timer_is_next(rt: &impl Abort, traffic: &Traffic, now: u64, end: u64, wanted: (u32, u64)) {
     let due = traffic.earliest(now, command(end));
     assert_with_message(rt, due.source.class == Class::Expiry, "a timer");
     assert_same(rt, (due.source.number, due.moment), wanted);
 }
 
-/// Nothing is due before a command.
+/// Checks that nothing is due before a command.
 fn command_is_next(rt: &impl Abort, traffic: &Traffic, now: u64, end: u64) {
     let due = traffic.earliest(now, command(end));
     assert_with_message(rt, due.source.class == Class::NextCommand, "no timer runs");
 }
 
-// The example of four segments over 10 ms each way, by its report.
+// Checks the example of four segments over 10 ms in each direction against its report.
 #[test]
 fn four_segments_are_sent_and_answered(rt: HostRuntime) {
     let one = number(&rt, 1);
@@ -225,7 +225,7 @@ fn four_segments_are_sent_and_answered(rt: HostRuntime) {
     drop(traffic);
 }
 
-// The example of a flow that is stopped between its first and its second acknowledgement.
+// Checks the example of a flow that is stopped between its first and its second acknowledgement.
 #[test]
 fn stopped_flow_answers_and_sends_nothing(rt: HostRuntime) {
     let one = number(&rt, 1);
@@ -250,7 +250,8 @@ fn stopped_flow_answers_and_sends_nothing(rt: HostRuntime) {
     drop(traffic);
 }
 
-// One segment is left at the start of slow start; the time of one second is doubled.
+// Checks that one segment is left at the beginning of slow start, and that the timeout of one
+// second is doubled.
 #[test]
 fn timer_expires(rt: HostRuntime) {
     let one = number(&rt, 1);
@@ -264,7 +265,7 @@ fn timer_expires(rt: HostRuntime) {
     drop(traffic);
 }
 
-/// Which flow sends a segment now, if any does.
+/// Returns the flow that sends a segment now, if any.
 fn sender(traffic: &mut Traffic, now: u64) -> Option<u16>
     requires early { IsMoment now }
 {
@@ -273,7 +274,7 @@ fn sender(traffic: &mut Traffic, now: u64) -> Option<u16>
     Some(flow)
 }
 
-/// This flow sends three segments now.
+/// Checks that this flow sends three segments now.
 fn three_of(rt: &impl Abort, traffic: &mut Traffic, now: u64, n: u16)
     requires early { IsMoment now }
 {
@@ -282,7 +283,7 @@ fn three_of(rt: &impl Abort, traffic: &mut Traffic, now: u64, n: u16)
     }
 }
 
-/// The timer of a flow that sent first at this moment is the next, up to when it is stopped.
+/// Checks that the timer of a flow that sent first at this time is next, and stops the flow.
 fn timer_goes(rt: &impl Abort, traffic: &mut Traffic, now: u64, n: u16)
     requires early { IsMoment now }
 {
@@ -290,8 +291,8 @@ fn timer_goes(rt: &impl Abort, traffic: &mut Traffic, now: u64, n: u16)
     traffic.stop(number(rt, n));
 }
 
-// Of flows that may send, the least number does, whichever began first; their first timers come after a
-// second, and one that is stopped has none.
+// Checks that of the flows that may send, the one with the smallest number sends, whichever began
+// first. Their first timers expire after a second, and a stopped flow has none.
 #[test]
 fn least_number_sends_and_first_timer_expires(rt: HostRuntime) {
     let mut traffic = Traffic::new(rt.alloc());
@@ -309,13 +310,13 @@ fn least_number_sends_and_first_timer_expires(rt: HostRuntime) {
     drop(traffic);
 }
 
-/// The header of what is sent next.
+/// Returns the header of the next packet that is sent.
 fn header_of(traffic: &Traffic, number: FlowNumber) -> Option<SendSpec> {
     let found = traffic.find(number)?;
     Some(traffic.header_at(&found))
 }
 
-/// A plain packet of 1000 bytes with this header was sent.
+/// Returns true if a plain packet of 1000 bytes with this header was sent.
 fn is_thousand(sent: Option<Sending>, header: Option<SendSpec>) -> bool {
     let Some(Sending { load, send }) = sent else {
         return false;
@@ -324,7 +325,7 @@ fn is_thousand(sent: Option<Sending>, header: Option<SendSpec>) -> bool {
     header == Some(send) && load == Load::Plain && size == 1000
 }
 
-/// Of a train, whose number is the least, a packet is due and sent now.
+/// Checks that a packet of a train, whose number is the smallest, is due and sent now.
 fn thousand_is_sent(rt: &impl Abort, traffic: &mut Traffic, now: u64, number: FlowNumber)
     requires early { IsMoment now }
 {
@@ -336,7 +337,7 @@ fn thousand_is_sent(rt: &impl Abort, traffic: &mut Traffic, now: u64, number: Fl
     assert_same(rt, (now, is_thousand(sent, header)), (now, true));
 }
 
-// The example of a train of three packets, 5 ns apart.
+// Checks the example of a train of three packets, 5 ns apart.
 #[test]
 fn train_sends_its_packets(rt: HostRuntime) {
     let one = number(&rt, 1);
@@ -357,7 +358,7 @@ fn refuses(rt: &impl Abort, traffic: &Traffic, n: u16, wanted: Refusal) {
     assert_same(rt, (n, refusal == Some(wanted)), (n, true));
 }
 
-// Flows and trains share one set of numbers, and the limit of 256.
+// Checks that flows and trains share one set of numbers, and the limit of 256.
 #[test]
 fn sources_are_refused_in_order(rt: HostRuntime) {
     let mut traffic = Traffic::new(rt.alloc());
@@ -371,7 +372,7 @@ fn sources_are_refused_in_order(rt: HostRuntime) {
     drop(traffic);
 }
 
-// A flow's timer, its segment, and a train's packet, in this order.
+// Checks that a flow's timer, its segment, and a train's packet are in this order.
 #[test]
 fn dues_stand_in_order(rt: HostRuntime) {
     let mut traffic = Traffic::new(rt.alloc());
@@ -391,7 +392,7 @@ fn dues_stand_in_order(rt: HostRuntime) {
     drop(traffic);
 }
 
-/// Passes with ample memory, and where any one allocation is refused.
+/// Checks the start of flows. Passes with ample memory, and if any one allocation fails.
 #[test]
 fn start_flow_may_be_refused_memory(rt: HostRuntime) {
     let mut traffic = Traffic::new(rt.alloc());
@@ -410,7 +411,7 @@ fn start_train_may_be_refused_memory(rt: HostRuntime) {
     drop(traffic);
 }
 
-/// Takes segments past a gap, and then the one that was missing.
+/// Lets segments after a gap arrive, and then the missing one.
 #[test]
 fn take_ready_may_be_refused_memory(rt: HostRuntime) {
     let mut traffic = Traffic::new(rt.alloc());
@@ -422,7 +423,7 @@ fn take_ready_may_be_refused_memory(rt: HostRuntime) {
     drop(traffic);
 }
 
-/// Dues are added, at the second try where memory was refused, and the list was as before then.
+/// Adds the dues, and retries once if an allocation fails, after which the list must be unchanged.
 fn adds_dues(rt: &impl Abort, traffic: &Traffic, dues: &mut Vec<Due>) {
     let before = dues.len();
     if traffic.add_dues(0, dues).is_err() {
@@ -431,7 +432,7 @@ fn adds_dues(rt: &impl Abort, traffic: &Traffic, dues: &mut Vec<Due>) {
     }
 }
 
-/// Where memory is refused the list is as it was.
+/// Checks that a failed allocation leaves the list unchanged.
 #[test]
 fn add_dues_may_be_refused_memory(rt: HostRuntime) {
     let mut traffic = Traffic::new(rt.alloc());

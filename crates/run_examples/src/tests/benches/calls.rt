@@ -1,5 +1,4 @@
-//! The calls of registries, tenants and benches, of whose answers the examples know nothing
-//! beforehand.
+//! The calls of registries, tenants and benches. The examples assume nothing about their results.
 
 use bench::{
     AdoptError, Bench, Closing, OfferError, OpenError, Outcome, Peer, Refused, RefusedPost,
@@ -10,10 +9,10 @@ use report::Source;
 use shard::{Dossier, Parcel, Polled, TakeInError, Turned};
 use std::alloc::{AllocError, Global};
 
-/// What a call that moves an experiment answered, with the parcel that it handed out: it is done,
-/// nobody was there, another thread was there first, memory was wanted while nothing was handed
-/// out, or the parcel was not taken in for want of memory, or since there was no room, or the deque
-/// refused it.
+/// The result of a call that moves an experiment, with the parcel that the call returned: it
+/// succeeded, there was no experiment, another thread was faster, an allocation failed and no
+/// parcel was returned, or the parcel was not taken in because an allocation failed, or because the
+/// shard was full, or the deque refused it.
 #[derive(Drop)]
 pub enum Answer<P> {
     Done,
@@ -25,7 +24,7 @@ pub enum Answer<P> {
     DequeFull(P),
 }
 
-/// An answer without the parcel.
+/// A result without the parcel.
 #[derive(Clone, Copy, PartialEq)]
 pub enum Move {
     Done,
@@ -34,7 +33,7 @@ pub enum Move {
     Failed,
 }
 
-/// What a turn answered.
+/// The result of a turn.
 #[derive(Drop)]
 pub enum Event<D> {
     Ran(u32),
@@ -42,7 +41,7 @@ pub enum Event<D> {
     Idle,
 }
 
-/// What a turn answered, without the dossier of who ended.
+/// The result of a turn, without the dossier of the experiment that ended.
 #[derive(Clone, Copy, PartialEq)]
 pub enum Advance {
     Ran(u32),
@@ -50,7 +49,7 @@ pub enum Advance {
     Idle,
 }
 
-/// What shows of a parcel.
+/// The visible properties of a parcel.
 #[derive(Clone, Copy)]
 pub struct Shape {
     pub name: u32,
@@ -59,7 +58,7 @@ pub struct Shape {
     pub consumed: usize,
 }
 
-/// What shows of an outcome, but for its records.
+/// The visible properties of an outcome, except its records.
 #[derive(Clone, Copy)]
 pub struct Final {
     pub name: u32,
@@ -70,8 +69,8 @@ pub struct Final {
     pub counters: Counters,
 }
 
-/// The calls, and the types that they take and give. An example is written over any kit, and run
-/// with `Real`: so its proof needn't take a bench apart wherever one is dropped.
+/// The calls, and the types of their arguments and results. An example is generic over any kit, and
+/// runs with `Real`, so its proof doesn't have to take a bench apart wherever one is dropped.
 pub trait Kit {
     type Tenant: Drop;
 
@@ -101,7 +100,7 @@ pub trait Kit {
 
     fn letters(tenant: &Self::Tenant) -> &[Record];
 
-    /// The outcome; or both come back.
+    /// Returns the outcome, or both arguments.
     fn settle(
         tenant: Self::Tenant,
         dossier: Self::Dossier,
@@ -117,13 +116,14 @@ pub trait Kit {
 
     fn record(outcome: &Self::Outcome, place: usize) -> Option<Record>;
 
-    /// How many records it gives.
+    /// Returns the number of records in an outcome.
     fn given_records(outcome: Self::Outcome) -> usize;
 
-    /// A bench, and the thief's end of its deque.
+    /// Creates a bench, and the thief's end of its deque.
     fn with_peer(alloc: Global) -> Result<(Self::Bench, Self::Peer), AllocError>;
 
-    /// The same, where the peer may be asked for again at the same bench.
+    /// Creates a bench, and the thief's end of its deque, like `with_peer`. The peer may be
+    /// requested again from the same bench.
     fn with_peer_again(alloc: Global) -> Result<(Self::Bench, Self::Peer), AllocError>;
 
     fn slot_of(bench: &Self::Bench, name: u32) -> Option<usize>;
@@ -147,7 +147,7 @@ pub trait Kit {
 #[derive(Clone, Copy)]
 pub struct Real;
 
-// What was handed out and not taken in.
+// Returns the answer for a parcel that was handed out and not taken in.
 fn of_refused(refused: Refused) -> Answer<Parcel<RingMail>> {
     match refused {
         TakeInError::NoMemory(parcel) => return Answer::Refused(parcel),
@@ -320,7 +320,7 @@ impl Kit for Real {
     }
 }
 
-/// An answer without the parcel.
+/// Returns an answer without the parcel.
 pub fn move_of<P>(answer: &Answer<P>) -> Move {
     match answer {
         Answer::Done => return Move::Done,
@@ -330,7 +330,7 @@ pub fn move_of<P>(answer: &Answer<P>) -> Move {
     }
 }
 
-/// Whether a parcel was taken in.
+/// Returns true if a parcel was taken in.
 pub fn admit<K: Kit>(bench: &mut K::Bench, parcel: K::Parcel) -> bool {
     move_of(&K::admit(bench, parcel)) == Move::Done
 }
@@ -355,7 +355,7 @@ pub fn turn<K: Kit>(bench: &mut K::Bench) -> Advance {
     }
 }
 
-/// The dossier of who ended by a turn, if somebody did.
+/// Returns the dossier of the experiment that ended in a turn, if one did.
 pub fn last_turn<K: Kit>(bench: &mut K::Bench) -> Option<K::Dossier> {
     match K::turn(bench) {
         Event::Ended(dossier) => return Some(dossier),

@@ -1,4 +1,4 @@
-//! Tenants that post the commands of a text, and want its report.
+//! Tenants that post the commands of a text, and expect its report.
 
 use super::calls::Kit;
 use crate::tests::wants::assert_same;
@@ -8,7 +8,7 @@ use report::report_text;
 use std::alloc::{AllocError, Global};
 use std::process::Abort;
 
-/// The tenant of an experiment of a text, and the report that is wanted of it.
+/// The tenant of an experiment of a text, and the expected report.
 #[derive(Drop)]
 pub struct Guest<T> {
     pub tenant: T,
@@ -16,7 +16,7 @@ pub struct Guest<T> {
     report: &'static str,
 }
 
-/// What a guest got in the end.
+/// The result for a guest at the end.
 #[derive(Drop)]
 pub struct Settled<O> {
     pub outcome: O,
@@ -24,7 +24,7 @@ pub struct Settled<O> {
     report: &'static str,
 }
 
-// The only experiment of a text.
+// Returns the only experiment of a text.
 fn plan_of(rt: &(impl Abort + AllocGlobal), text: &str) -> Result<Plan, AllocError> {
     match parse_scenario(rt.alloc(), text.as_bytes()) {
         Ok(scenario) => {
@@ -39,7 +39,8 @@ fn plan_of(rt: &(impl Abort + AllocGlobal), text: &str) -> Result<Plan, AllocErr
     }
 }
 
-/// The guest of a text with just one experiment, and that experiment.
+/// Creates the guest of a text that has exactly one experiment, and returns it with that
+/// experiment.
 pub fn invite<K: Kit>(
     rt: &(impl Abort + AllocGlobal),
     registry: &mut Registry,
@@ -63,7 +64,7 @@ pub fn invite<K: Kit>(
     }
 }
 
-/// The guest of a name, once.
+/// Takes the guest with a name, which must be there, once.
 pub fn take_guest<T: Drop>(
     rt: &impl Abort,
     guests: &mut [Option<Guest<T>>],
@@ -74,14 +75,14 @@ pub fn take_guest<T: Drop>(
     guests[index].take().expect(rt, "a second dossier")
 }
 
-/// Posts all commands, of which there are 64 at most.
+/// Posts all commands, of which there are at most 64.
 pub fn post_all<K: Kit>(rt: &impl Abort, guest: &mut Guest<K::Tenant>) {
     for command in guest.plan.commands.as_slice() {
         assert_holds!(rt; K::post(&mut guest.tenant, *command).is_ok());
     }
 }
 
-/// Takes a dossier for its own.
+/// Settles a guest with its dossier, which must be its own.
 pub fn settle<K: Kit>(
     rt: &impl Abort,
     guest: Guest<K::Tenant>,
@@ -102,10 +103,10 @@ pub fn settle<K: Kit>(
     }
 }
 
-/// No outcome here has as many records.
+/// The number of records that no outcome here reaches.
 const MAX_RECORDS: usize = 100_000;
 
-/// The report of an outcome.
+/// Returns the report of an outcome.
 pub fn text_of<K: Kit>(
     alloc: Global,
     settled: &Settled<K::Outcome>,
@@ -123,7 +124,7 @@ pub fn text_of<K: Kit>(
 }
 
 impl<O> Settled<O> {
-    /// The report that is wanted of it.
+    /// Returns the expected report.
     pub fn wanted_report(&self) -> &[u8] {
         self.report.as_bytes()
     }

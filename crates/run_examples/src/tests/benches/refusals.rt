@@ -1,5 +1,5 @@
-//! Any one allocation may be refused: what is refused comes back as it was and is asked for again,
-//! nothing is lost, and what goes on has its report.
+//! Runs in which any one allocation may fail. A failed call returns its argument unchanged and is
+//! repeated, nothing is lost, and every experiment that continues has its report.
 
 use super::calls::{
     Answer, Kit, Move, Real, Shape, admit, adopt, last_turn, move_of, offer, retake,
@@ -16,10 +16,10 @@ use text_examples as texts;
 
 const GUESTS: u32 = 6;
 
-/// More rounds than it takes.
+/// The maximum number of rounds, which is more than the test needs.
 const MAX_ROUNDS: u32 = 1000;
 
-// A parcel has the shape that it had before.
+// Checks that a parcel is unchanged.
 fn has_shape(rt: &impl Abort, now: &Shape, shape: &Shape) {
     assert_same(rt, now.name, shape.name);
     assert_holds!(rt; now.spec == shape.spec);
@@ -27,7 +27,7 @@ fn has_shape(rt: &impl Abort, now: &Shape, shape: &Shape) {
     assert_same(rt, now.consumed, shape.consumed);
 }
 
-// The parcel that comes back for want of memory, if one does.
+// Returns the parcel that came back because an allocation failed, if there is one.
 fn back<P: Drop>(rt: &impl Abort, answer: Answer<P>) -> Option<P> {
     match answer {
         Answer::Refused(parcel) => return Some(parcel),
@@ -36,7 +36,7 @@ fn back<P: Drop>(rt: &impl Abort, answer: Answer<P>) -> Option<P> {
     }
 }
 
-// What was not admitted comes back as it was, and is admitted then.
+// Admits a parcel. If it comes back, it must be unchanged, and is admitted then.
 fn admits<K: Kit>(rt: &impl Abort, bench: &mut K::Bench, parcel: K::Parcel) {
     let shape = K::shape(&parcel);
     let answer = K::admit(bench, parcel);
@@ -67,7 +67,7 @@ fn guest_of<K: Kit>(
     invite::<K>(rt, registry, text, report).expect(rt, "memory")
 }
 
-// What came back of a command that was not posted, and why.
+// Returns the command that was not posted, and the reason.
 fn refusal<K: Kit>(tenant: &mut K::Tenant, timed: Timed) -> Option<(PostError, Timed)> {
     match K::post(tenant, timed) {
         Ok(()) => return None,
@@ -75,7 +75,7 @@ fn refusal<K: Kit>(tenant: &mut K::Tenant, timed: Timed) -> Option<(PostError, T
     }
 }
 
-// The command comes back as it was, and is posted then.
+// Posts a command. If it comes back, it must be unchanged, and is posted then.
 fn posts<K: Kit>(rt: &impl Abort, tenant: &mut K::Tenant, timed: Timed) {
     let count = K::posted_len(tenant);
     let Some((cause, command)) = refusal::<K>(tenant, timed) else {
@@ -94,7 +94,7 @@ fn posts_all<K: Kit>(rt: &impl Abort, guest: &mut Guest<K::Tenant>) {
     }
 }
 
-// The next letter, if one is there. None is lost where memory is refused.
+// Reads the next letter, if there is one. No letter is lost if an allocation fails.
 fn reads<K: Kit>(rt: &impl Abort, tenant: &mut K::Tenant) -> Option<Record> {
     let count = K::letters(tenant).len();
     if let Ok(letter) = K::read(tenant) {
@@ -113,7 +113,8 @@ fn reads_all<K: Kit>(rt: &impl Abort, tenant: &mut K::Tenant) {
     }
 }
 
-// A resident that was parked resumes, and a command for which there was no room is taken.
+// Polls a slot. A resident that was parked resumes, and a command for which there was no memory is
+// taken.
 fn polls<K: Kit>(rt: &impl Abort, bench: &mut K::Bench, slot: usize) {
     if let Polled::NoMemory(name) = K::poll(bench, slot) {
         let again = K::poll(bench, slot);
@@ -121,7 +122,7 @@ fn polls<K: Kit>(rt: &impl Abort, bench: &mut K::Bench, slot: usize) {
     }
 }
 
-// What the deque refused.
+// Returns the parcel that the deque refused.
 fn of_offer<P: Drop>(answer: Answer<P>) -> Option<P> {
     let Answer::DequeFull(parcel) = answer else {
         return None;
@@ -129,7 +130,8 @@ fn of_offer<P: Drop>(answer: Answer<P>) -> Option<P> {
     Some(parcel)
 }
 
-// The resident stays where it was, and is offered then; or it was handed out, and is admitted then.
+// Offers a resident again. It either kept its place, and is offered then, or was handed out, and is
+// admitted then.
 fn offers_again<K: Kit>(
     rt: &impl Abort,
     bench: &mut K::Bench,
@@ -181,7 +183,7 @@ fn adopts<K: Kit>(rt: &impl Abort, bench: &mut K::Bench, peer: &mut K::Peer) {
     assert_holds!(rt; adopt::<K>(bench, peer) != Move::Failed);
 }
 
-// Whether all lines of a text but the last are the first of another one.
+// Returns true if all lines of a text except the last are the first lines of another text.
 fn begins_like(text: &[u8], whole: &[u8]) -> bool {
     let mut end = 0;
     for (at, byte) in text.iter().enumerate() {
@@ -202,7 +204,7 @@ fn settled_text<K: Kit>(rt: &(impl Abort + AllocGlobal), settled: &Settled<K::Ou
     text_of::<K>(rt.alloc(), settled).expect(rt, "memory")
 }
 
-// Wants the guest's report; of one that was halted, that its lines begin so.
+// Checks the guest's report. If the experiment was halted, checks that its lines begin the report.
 fn has_report<K: Kit>(
     rt: &(impl Abort + AllocGlobal),
     guest: Guest<K::Tenant>,
@@ -217,7 +219,7 @@ fn has_report<K: Kit>(
     assert_holds!(rt; written.as_slice() == settled.wanted_report());
 }
 
-// Makes an event, and settles with who has ended by it.
+// Processes a turn, and settles with the guest whose experiment ended in it.
 fn turns<K: Kit>(
     rt: &(impl Abort + AllocGlobal),
     bench: &mut K::Bench,
@@ -229,7 +231,7 @@ fn turns<K: Kit>(
     }
 }
 
-// The texts of the examples in their turn.
+// Returns the texts of the examples in turn.
 fn example(name: u32) -> (&'static str, &'static str) {
     match name % 3 {
         0 => return (texts::ONE_PACKET, texts::ONE_PACKET_REPORT),
@@ -238,7 +240,7 @@ fn example(name: u32) -> (&'static str, &'static str) {
     }
 }
 
-// A guest whose experiment is on a bench, and whose commands are posted.
+// Creates a guest whose experiment is on a bench, and whose commands are posted.
 fn seat_guest<K: Kit>(
     rt: &(impl Abort + AllocGlobal),
     registry: &mut Registry,
@@ -268,7 +270,7 @@ fn seat_all<K: Kit>(
     Ok(guests)
 }
 
-// Each resident of a bench is polled, and some of them make an event.
+// Polls each resident of a bench, and lets some of them process an event.
 fn serve<K: Kit>(
     rt: &(impl Abort + AllocGlobal),
     bench: &mut K::Bench,
@@ -291,8 +293,7 @@ fn read_letters<K: Kit>(rt: &impl Abort, guests: &mut [Option<Guest<K::Tenant>>]
     }
 }
 
-// All residents of the first bench are offered; one is retaken, and the second bench adopts the
-// others.
+// Offers all residents of the first bench. One is retaken, and the second bench adopts the others.
 fn hand_on<K: Kit>(rt: &impl Abort, from: &mut K::Bench, to: &mut K::Bench, peer: &mut K::Peer) {
     for name in 0..GUESTS {
         offers::<K>(rt, from, name);
@@ -327,7 +328,7 @@ fn refused_of<K: Kit>(rt: &(impl Abort + AllocGlobal)) {
     assert_holds!(rt; audit(&[K::close(here), K::close(there)]).is_ok());
 }
 
-// Passes with ample memory, and where any one allocation of it is refused.
+// Passes with ample memory, and if any one of its allocations fails.
 #[test]
 fn memory_refusal(rt: HostRuntime) {
     refused_of::<Real>(&rt);

@@ -1,4 +1,4 @@
-//! Two threads hand 64 experiments to each other while each turns.
+//! Two threads that pass 64 experiments to each other while both process turns.
 
 use super::calls::{Kit, Move, Real, admit, adopt, last_turn, offer, retake};
 use super::guests::{Guest, invite, post_all, settle, take_guest, text_of};
@@ -11,16 +11,17 @@ use text_examples as texts;
 
 const GUESTS: usize = 64;
 
-/// How many exchanges both threads are to make at least.
+/// The minimum number of exchanges by both threads.
 const EXCHANGES: u64 = 100_000;
 
-/// A thread makes an event for so many of its exchanges.
+/// The number of exchanges per event of a thread.
 const PACE: u64 = 40;
 
-/// More rounds than the threads take.
+/// The maximum number of rounds, which is more than the threads need.
 const MAX_ROUNDS: u64 = 1_000_000_000;
 
-/// A thread's bench, the thief's end of the other one's deque, and what it has done.
+/// The bench of a thread, the thief's end of the other thread's deque, and the counts of what it
+/// has done.
 #[derive(Drop)]
 struct Desk<B, P, D> {
     bench: B,
@@ -30,7 +31,7 @@ struct Desk<B, P, D> {
     exchanges: u64,
 }
 
-/// What a thread leaves.
+/// The results of a thread.
 #[derive(Drop)]
 struct Left<D> {
     closing: Closing,
@@ -38,7 +39,8 @@ struct Left<D> {
     exchanges: u64,
 }
 
-// Whether one came from the other bench's deque, or else from its own.
+// Returns true if an experiment was taken from the other bench's deque, or otherwise from the
+// thread's own.
 fn takes<K: Kit>(rt: &impl Abort, bench: &mut K::Bench, peer: &mut K::Peer) -> bool {
     let adopted = adopt::<K>(bench, peer);
     assert_holds!(rt; adopted != Move::Failed);
@@ -57,7 +59,7 @@ fn poll_all<K: Kit>(bench: &mut K::Bench) {
     }
 }
 
-// Offers the resident of a slot, if there is one, and takes one.
+// Offers the resident of a slot, if there is one, and takes an experiment.
 fn exchange<K: Kit>(rt: &impl Abort, desk: &mut Desk<K::Bench, K::Peer, K::Dossier>, slot: usize) {
     let offered = offer::<K>(&mut desk.bench, slot);
     assert_holds!(rt; offered != Move::Failed);
@@ -66,7 +68,7 @@ fn exchange<K: Kit>(rt: &impl Abort, desk: &mut Desk<K::Bench, K::Peer, K::Dossi
     }
 }
 
-// Makes an event, if it is time for one, and counts who ended.
+// Processes an event, if one is due, and counts the experiments that ended.
 fn event<K: Kit>(
     rt: &impl Abort,
     desk: &mut Desk<K::Bench, K::Peer, K::Dossier>,
@@ -92,7 +94,7 @@ fn leave<K: Kit>(desk: Desk<K::Bench, K::Peer, K::Dossier>) -> Left<K::Dossier> 
     }
 }
 
-// Goes on until all experiments have ended, here or there.
+// Continues until all experiments have ended, in either thread.
 fn work<K: Kit>(
     rt: &(impl Abort + AllocGlobal),
     bench: K::Bench,
@@ -116,7 +118,7 @@ fn work<K: Kit>(
     leave::<K>(desk)
 }
 
-// The texts of the examples in their turn.
+// Returns the texts of the examples in turn.
 fn example(k: usize) -> (&'static str, &'static str) {
     match k % 4 {
         0 => return (texts::ONE_SLOT, texts::ONE_SLOT_REPORT),
@@ -126,7 +128,7 @@ fn example(k: usize) -> (&'static str, &'static str) {
     }
 }
 
-// A guest whose commands are posted, and whose experiment is on a bench.
+// Creates a guest whose commands are posted, and whose experiment is on a bench.
 fn seat_guest<K: Kit>(
     rt: &(impl Abort + AllocGlobal),
     registry: &mut Registry,
@@ -140,7 +142,7 @@ fn seat_guest<K: Kit>(
     guest
 }
 
-// 64 guests, of whom each bench has every other one.
+// Creates 64 guests, alternately on the two benches.
 fn seat_all<K: Kit>(
     rt: &(impl Abort + AllocGlobal),
     here: &mut K::Bench,
@@ -157,7 +159,7 @@ fn seat_all<K: Kit>(
     guests
 }
 
-// Wants the report of a dossier's guest.
+// Checks the report of a dossier's guest.
 fn has_report<K: Kit>(
     rt: &(impl Abort + AllocGlobal),
     guests: &mut [Option<Guest<K::Tenant>>],
@@ -169,7 +171,7 @@ fn has_report<K: Kit>(
     assert_holds!(rt; written.as_slice() == settled.wanted_report());
 }
 
-// Wants the report of each dossier's guest, and answers how many there are.
+// Checks the report of each dossier's guest, and returns the number of dossiers.
 fn settle_all<K: Kit>(
     rt: &(impl Abort + AllocGlobal),
     guests: &mut [Option<Guest<K::Tenant>>],
@@ -182,7 +184,7 @@ fn settle_all<K: Kit>(
     count
 }
 
-// Wants many exchanges, nothing lost, and all reports.
+// Checks that there were many exchanges, that nothing was lost, and all reports.
 fn judge<K: Kit>(
     rt: &(impl Abort + AllocGlobal),
     guests: &mut [Option<Guest<K::Tenant>>],

@@ -1,11 +1,11 @@
-//! Agendas that refuse memory where another one wouldn't.
+//! Agendas for which an allocation fails although another agenda would succeed.
 
 use emu_model::Source;
 use std::alloc::{AllocError, Global};
 use std::marker::Model;
 use timer_wheel::{Agenda, Entry, Owner};
 
-/// An agenda that refuses memory for each entry.
+/// An agenda for which the allocation of every entry fails.
 #[derive(Drop)]
 pub struct GivesUp {
     clock: u64,
@@ -49,8 +49,9 @@ impl Agenda for GivesUp {
     }
 }
 
-/// An agenda that refuses memory for the first entry after its clock was put to 0, of an owner that has none: who sees
-/// it refuse knows that time began anew. It knows an owner that has none by its being cleared just before, as a shard does.
+/// An agenda for which the allocation of the first entry after its clock was set to 0 fails, if the
+/// owner has no entry. A test that sees the failure knows that time has restarted. The agenda
+/// recognises an owner without entries because the owner was cleared just before, as a shard does.
 #[derive(Drop)]
 pub struct Anew<A: Agenda> {
     within: A,
@@ -74,7 +75,7 @@ impl<A: Agenda> Anew<A> {
     ghost use Rattle.std.specs.Prelude.{◌≡◌, IsTrue};
     ghost use Rattle.timer_wheel.specs.Rows.{no_dues};
 
-    // Whether an owner was cleared in the last call.
+    // Returns true if an owner was cleared in the last call.
     fn is_cleared(&self, owner: Owner) -> bool
         ensures { IsTrue result → A.entries self.now owner ≡ no_dues }
     {

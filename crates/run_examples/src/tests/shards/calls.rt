@@ -1,5 +1,6 @@
-//! The calls of a shard, of whose answers the examples know nothing beforehand. What holds an experiment is given up
-//! by a call (`drop`, `ok`, `unwrap_err`): where a value is dropped in place, each of its parts is proved there.
+//! The calls of a shard. The examples assume nothing about their results. A value that holds an
+//! experiment is dropped by a call (`drop`, `ok`, `unwrap_err`), because each of its parts is
+//! proved wherever it is dropped in place.
 
 use emu_model::{Record, Spec, Timed};
 use shard::{ListMail, PackError, Parcel, Polled, PostError, Shard, TakeInError, Turned, Vacant};
@@ -8,25 +9,25 @@ use timer_wheel::{Agenda, Wheel};
 /// The shards of the examples, over an agenda.
 pub type Host<A> = Shard<A, ListMail>;
 
-/// Those over a wheel.
+/// The shards of the examples, over a wheel.
 pub type Desk = Host<Wheel>;
 
-/// What became of a parcel that was to be taken in.
+/// The result for a parcel that was to be taken in.
 pub type Arrival = Result<usize, TakeInError<ListMail>>;
 
-/// No command's moment is later (ns).
+/// The latest time (ns) of a command.
 const LATEST: u64 = 1_000_000_000_000_000;
 
 pub fn arrive<A: Agenda>(shard: &mut Host<A>, parcel: Parcel<ListMail>) -> Arrival {
     shard.take_in(parcel)
 }
 
-/// The slot of a parcel that was taken in.
+/// Takes a parcel in, and returns its slot.
 pub fn take_in<A: Agenda>(shard: &mut Host<A>, parcel: Parcel<ListMail>) -> Option<usize> {
     shard.take_in(parcel).ok()
 }
 
-/// Takes in what came back.
+/// Takes in a parcel that came back.
 pub fn take_in_again<A: Agenda>(shard: &mut Host<A>, answer: Arrival) -> Option<usize> {
     if answer.is_ok() {
         return answer.ok();
@@ -37,12 +38,13 @@ pub fn take_in_again<A: Agenda>(shard: &mut Host<A>, answer: Arrival) -> Option<
     }
 }
 
-/// The shard was crowded.
+/// Returns true if the shard was crowded.
 pub fn is_crowded(answer: &Arrival) -> bool {
     matches!(answer, Err(TakeInError::Crowded(_)))
 }
 
-/// What is seen of an experiment: its name and specification, and how many records, commands and events it has.
+/// The visible properties of an experiment: its name and specification, and the numbers of its
+/// records, commands and events.
 #[derive(Clone, Copy, PartialEq)]
 pub struct Sight {
     name: u32,
@@ -62,7 +64,7 @@ pub fn seen_in(parcel: &Parcel<ListMail>) -> Sight {
     }
 }
 
-/// What is seen of a parcel that came back.
+/// Returns the visible properties of a parcel that came back.
 pub fn seen_back(answer: &Arrival) -> Option<Sight> {
     match answer {
         Ok(_) => None,
@@ -71,7 +73,8 @@ pub fn seen_back(answer: &Arrival) -> Option<Sight> {
     }
 }
 
-/// How many records and commands the resident of a slot has; None where nobody is.
+/// Returns the numbers of records and commands of the resident in a slot, or `None` if the slot is
+/// vacant.
 pub fn counts_of<A: Agenda>(shard: &Host<A>, slot: usize) -> Option<(usize, usize)> {
     let records = shard.records(slot).ok()?.len();
     let commands = shard.consumed(slot).ok()?.len();
@@ -82,7 +85,8 @@ pub fn pack<A: Agenda>(shard: &mut Host<A>, slot: usize) -> Result<Parcel<ListMa
     shard.pack(slot)
 }
 
-/// Whether nobody is at a slot, as `pack` answers; who is there is packed and dropped.
+/// Returns true if a slot is vacant according to `pack`. A resident that is there is packed and
+/// dropped.
 pub fn packs_nobody<A: Agenda>(shard: &mut Host<A>, slot: usize) -> bool {
     let packed = shard.pack(slot);
     let is_vacant = matches!(&packed, Err(PackError::Vacant));
@@ -98,7 +102,7 @@ pub fn poll<A: Agenda>(shard: &mut Host<A>, slot: usize) -> Polled {
     shard.poll(slot)
 }
 
-/// None where the moment is too late for any command.
+/// Puts a command into a resident's mail. Returns `None` if the time is too late for any command.
 pub fn put<A: Agenda>(
     shard: &mut Host<A>,
     slot: usize,

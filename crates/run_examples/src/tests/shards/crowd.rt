@@ -1,4 +1,5 @@
-//! A full shard, whose residents have numbers chosen by hand: each call is about the slot that it names, to the last one.
+//! A full shard whose residents have numbers chosen by hand. Each call affects only the slot that
+//! it names, up to the last one.
 
 use super::turns::{Lists, Was, consumed_count, parcel, put, turn_once};
 use crate::tests::wants::assert_same;
@@ -7,15 +8,15 @@ use std::alloc::Global;
 use std::process::Abort;
 use std::test::Fail;
 
-/// The name of the resident of slot 0; the others follow.
+/// The name of the resident in slot 0; the others follow.
 const FIRST: u32 = 1_000;
 
-// The name of a slot's resident.
+// Returns the name of a slot's resident.
 fn name_at(slot: usize) -> u32 {
     FIRST.saturating_add(u32::try_from(slot).unwrap_or(0))
 }
 
-// Fills a shard; None where memory was refused.
+// Fills a shard. Returns `None` if an allocation fails.
 fn fill(rt: &impl Abort, alloc: Global, shard: &mut Lists) -> Option<()> {
     for slot in 0..MAX_RESIDENTS {
         let parcel = parcel(alloc, name_at(slot))?;
@@ -24,7 +25,7 @@ fn fill(rt: &impl Abort, alloc: Global, shard: &mut Lists) -> Option<()> {
     Some(())
 }
 
-// Gives each resident one command, of which the last slot's comes first.
+// Posts one command to each resident. The last slot's command is the earliest.
 fn posts_to_each(rt: &impl Abort, shard: &mut Lists) {
     for slot in 0..MAX_RESIDENTS {
         assert_same(rt, shard.slot_of(name_at(slot)), Some(slot));
@@ -40,12 +41,12 @@ fn posts_to_each(rt: &impl Abort, shard: &mut Lists) {
     }
 }
 
-// How many records the resident of a slot has.
+// Returns the number of records of the resident in a slot.
 fn record_count(shard: &Lists, slot: usize) -> usize {
     shard.records(slot).map_or(0, |records| records.len())
 }
 
-// Each turn is of the slot whose command comes next, and of no other.
+// Checks that each turn is that of the slot whose command is next, and of no other.
 fn turns_each(rt: &impl Abort, shard: &mut Lists) {
     for before in 0..MAX_RESIDENTS {
         let slot = MAX_RESIDENTS - 1 - before;
@@ -58,11 +59,12 @@ fn turns_each(rt: &impl Abort, shard: &mut Lists) {
     assert_same(rt, turn_once(shard), Was::Idle);
 }
 
-// Each resident is packed by its own slot, and comes back to it: it alone is vacant.
+// Checks that each resident is packed by its own slot and comes back to it, and that no other slot
+// becomes vacant.
 fn moves_each(rt: &impl Abort, shard: &mut Lists) {
     for slot in 0..MAX_RESIDENTS {
         let Ok(parcel) = shard.pack(slot) else {
-            // One allocation was refused, and no more.
+            // One allocation failed, and no more.
             continue;
         };
         assert_same(rt, parcel.name(), name_at(slot));

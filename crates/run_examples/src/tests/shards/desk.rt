@@ -1,4 +1,4 @@
-//! What the examples share: guests of a shard, whose commands are posted to it in their order.
+//! The guests of a shard, which the examples share. Their commands are posted in order.
 
 use super::calls::{Host, advance, poll, put, read, slot_of, take_in};
 use crate::tests::wants::{assert_same, assert_with_message};
@@ -10,14 +10,14 @@ use std::alloc::{AllocError, Global};
 use std::process::Abort;
 use timer_wheel::Agenda;
 
-/// How many letters a mail holds.
+/// The capacity of a mail, in letters.
 const LETTERS: usize = 64;
 
-/// More turns than any of the examples takes.
+/// The maximum number of turns, which is more than any example needs.
 pub const MAX_TURNS: u32 = 1_000_000;
 
-/// An experiment of a text, the name that it has on the shards, how many of its commands were posted, and the report
-/// that is wanted of it.
+/// An experiment of a text, its name on the shards, the number of its commands that were posted,
+/// and the expected report.
 #[derive(Drop)]
 pub struct Guest {
     name: u32,
@@ -44,7 +44,7 @@ impl Guest {
     }
 }
 
-/// The guest of a text with just one experiment.
+/// Creates the guest of a text that has exactly one experiment.
 pub fn invite(
     rt: &(impl Abort + AllocGlobal),
     name: u32,
@@ -68,7 +68,7 @@ pub fn invite(
     })
 }
 
-/// The guests of texts with the reports that are wanted of them, named from a number on.
+/// Creates the guests of texts with their expected reports, named from a number on.
 pub fn invite_all(
     rt: &(impl Abort + AllocGlobal),
     first: u32,
@@ -85,7 +85,7 @@ pub fn invite_all(
     Ok(guests)
 }
 
-/// A guest's experiment, to which no command came yet.
+/// Creates a guest's experiment, which has no commands yet.
 pub fn parcel(alloc: Global, guest: &Guest) -> Result<Parcel<ListMail>, AllocError> {
     let mail = ListMail::new(alloc)?;
     match Parcel::open(alloc, guest.name, guest.plan.spec, mail) {
@@ -116,7 +116,7 @@ pub fn settle_all<A: Agenda>(
     Ok(())
 }
 
-/// Puts a guest's commands into its mail until that is full.
+/// Puts a guest's commands into its mail until the mail is full.
 pub fn post<A: Agenda>(shard: &mut Host<A>, slot: usize, guest: &mut Guest) {
     for next in guest.posted..guest.commands().len() {
         let Some(timed) = guest.commands().get(next) else {
@@ -129,7 +129,7 @@ pub fn post<A: Agenda>(shard: &mut Host<A>, slot: usize, guest: &mut Guest) {
     }
 }
 
-/// Reads the letters that wait.
+/// Reads the waiting letters.
 pub fn read_all<A: Agenda>(shard: &mut Host<A>, slot: usize) {
     for _ in 0..LETTERS {
         if !matches!(read(shard, slot), Ok(Some(_))) {
@@ -138,8 +138,9 @@ pub fn read_all<A: Agenda>(shard: &mut Host<A>, slot: usize) {
     }
 }
 
-/// Posts the commands of each guest that is there, polls it, and reads its letters where they are to be read. None is
-/// to be refused memory. Answers how many have their entry again, since it was refused before.
+/// Posts the commands of each guest that is there, polls it, and reads its letters if `reads` is
+/// true. No allocation may fail. Returns the number of guests whose entry is restored after an
+/// earlier failure.
 pub fn attend<A: Agenda>(
     rt: &impl Abort,
     shard: &mut Host<A>,
@@ -164,7 +165,7 @@ pub fn attend<A: Agenda>(
     resumed
 }
 
-/// A turn, and the name of whose it was; of one that has ended, its steps too.
+/// A turn, and the name of its experiment; for one that has ended also its steps.
 #[derive(Clone, Copy, Debug, PartialEq)]
 pub enum Move {
     Ran(u32),
@@ -172,7 +173,7 @@ pub enum Move {
     Idle,
 }
 
-/// Makes a turn, and wants the report of a guest that ended.
+/// Processes a turn, and checks the report of a guest that ended.
 pub fn turn<A: Agenda>(
     rt: &(impl Abort + AllocGlobal),
     shard: &mut Host<A>,
@@ -184,7 +185,7 @@ pub fn turn<A: Agenda>(
     seen
 }
 
-// What a turn was. Wants the report of a guest that ended.
+// Returns the kind of a turn, and checks the report of a guest that ended.
 fn seen_of(
     rt: &(impl Abort + AllocGlobal),
     guests: &[Guest],
@@ -200,7 +201,8 @@ fn seen_of(
     }
 }
 
-/// Attends and turns until as many have ended as there are guests, each with its report.
+/// Attends and turns until as many experiments have ended as there are guests, each with its
+/// report.
 pub fn host<A: Agenda>(
     rt: &(impl Abort + AllocGlobal),
     shard: &mut Host<A>,
@@ -221,7 +223,7 @@ pub fn host<A: Agenda>(
     Ok(())
 }
 
-/// Wants the report of the guest that left this.
+/// Checks the report of the guest that left this dossier.
 pub fn has_report(
     rt: &(impl Abort + AllocGlobal),
     guests: &[Guest],
@@ -232,7 +234,8 @@ pub fn has_report(
     Ok(())
 }
 
-/// Wants of a guest that was halted the first lines of its report; the last one, of counters, may be another.
+/// Checks the first lines of the report of a guest that was halted. The last line, with the
+/// counters, may differ.
 pub fn has_lines(
     rt: &(impl Abort + AllocGlobal),
     guests: &[Guest],
@@ -247,7 +250,7 @@ pub fn has_lines(
     Ok(())
 }
 
-// The report of what a guest left, and the one that is wanted of it.
+// Returns the report of a guest's dossier, and the expected one.
 fn reports(
     rt: &(impl Abort + AllocGlobal),
     guests: &[Guest],
@@ -264,7 +267,7 @@ fn reports(
     Err(AllocError)
 }
 
-// Whether all lines of a text but the last are the first of another one.
+// Returns true if all lines of a text except the last are the first lines of another text.
 fn begins_like(text: &[u8], whole: &[u8]) -> bool {
     let mut end = 0;
     for (at, byte) in text.iter().enumerate() {

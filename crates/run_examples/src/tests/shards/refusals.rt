@@ -1,4 +1,4 @@
-//! Three guests on their way between two shards, of whom one allocation may be refused.
+//! Three guests that move between two shards, while one allocation may fail.
 
 use super::calls::{
     Desk, advance, arrive, counts_of, is_crowded, pack, poll, rebase, seen_back, seen_in, slot_of,
@@ -16,7 +16,7 @@ use std::process::Abort;
 use std::test::Fail;
 use text_examples as texts;
 
-/// What was met: how often memory was refused, and how many guests have ended.
+/// The number of failed allocations, and the number of guests that have ended.
 #[derive(Clone, Copy)]
 struct Road {
     refused: u64,
@@ -24,13 +24,14 @@ struct Road {
 }
 
 impl Road {
-    // One more refusal.
+    // Counts a failed allocation.
     fn refuses(&mut self) {
         self.refused = self.refused.saturating_add(1);
     }
 }
 
-// Takes a parcel in, again where it came back for want of memory, as it was.
+// Takes a parcel in. If it comes back because an allocation failed, it must be unchanged, and is
+// taken in again.
 fn takes_in(rt: &impl Abort, shard: &mut Desk, parcel: Parcel<ListMail>, road: &mut Road) {
     let before = seen_in(&parcel);
     let name = parcel.name();
@@ -44,7 +45,7 @@ fn takes_in(rt: &impl Abort, shard: &mut Desk, parcel: Parcel<ListMail>, road: &
     assert_with_message(rt, take_in_again(shard, answer).is_some(), "refused again");
 }
 
-// Packs the first guest. Refused memory, it stays as it was, and is packed then.
+// Packs the first guest. If an allocation fails, it must be unchanged, and is packed again.
 fn packs(
     rt: &impl Abort,
     shard: &mut Desk,
@@ -63,7 +64,7 @@ fn packs(
     pack(shard, slot).ok()
 }
 
-// Has the first guest go from one shard to the other.
+// Moves the first guest from one shard to the other.
 fn moves(rt: &impl Abort, here: &mut Desk, there: &mut Desk, road: &mut Road) {
     let Some(slot) = slot_of(here, 0) else {
         assert_with_message(rt, false, "nobody to be moved");
@@ -76,8 +77,9 @@ fn moves(rt: &impl Abort, here: &mut Desk, there: &mut Desk, road: &mut Road) {
     takes_in(rt, there, parcel, road);
 }
 
-// Posts the commands of each guest that is there, polls it and reads its letters. One that was parked for want of
-// memory has entries again; one that was refused memory now is as it was.
+// Posts the commands of each guest that is there, polls it and reads its letters. A guest that was
+// parked after a failed allocation has entries again, and a guest whose allocation fails now is
+// unchanged.
 fn attends(rt: &impl Abort, shard: &mut Desk, guests: &mut [Guest], road: &mut Road) {
     for guest in guests.iter_mut() {
         let Some(slot) = slot_of(shard, guest.name()) else {
@@ -102,7 +104,8 @@ fn attends(rt: &impl Abort, shard: &mut Desk, guests: &mut [Guest], road: &mut R
     }
 }
 
-// Wants the report of who ended; one that was halted for want of memory has its first lines.
+// Checks the report of the guest that ended. A guest that was halted by a failed allocation has the
+// first lines of its report.
 fn ends(
     rt: &(impl Abort + AllocGlobal),
     guests: &[Guest],
@@ -117,7 +120,7 @@ fn ends(
     has_report(rt, guests, left)
 }
 
-// A turn, and what it was.
+// Processes a turn, and returns its kind.
 fn turns(
     rt: &(impl Abort + AllocGlobal),
     shard: &mut Desk,
@@ -130,7 +133,7 @@ fn turns(
     seen
 }
 
-// What a turn was. Wants the report of who ended.
+// Returns the kind of a turn, and checks the report of the guest that ended.
 fn seen_of(
     rt: &(impl Abort + AllocGlobal),
     guests: &[Guest],
@@ -166,8 +169,9 @@ fn opens(
     Ok(())
 }
 
-// Has the first of three guests go to the other shard after each of its events. Answers how often memory was refused:
-// a parcel came back, a resident stayed or was parked or halted.
+// Moves the first of three guests to the other shard after each of its events. Returns the number
+// of failed allocations: a parcel came back, or a resident kept its place, was parked or was
+// halted.
 fn go(
     rt: &(impl Abort + AllocGlobal),
     here: &mut Desk,
@@ -200,7 +204,7 @@ fn go(
     Ok(road.refused)
 }
 
-// Three guests on two shards, of which the second one's clock is far.
+// Runs three guests on two shards, of which the second shard's clock is far ahead.
 fn three_to_their_ends(rt: &(impl Abort + AllocGlobal)) -> Result<u64, AllocError> {
     let cards = [
         (texts::FAST_RETRANSMIT, texts::FAST_RETRANSMIT_REPORT),
@@ -219,8 +223,8 @@ fn three_to_their_ends(rt: &(impl Abort + AllocGlobal)) -> Result<u64, AllocErro
     met
 }
 
-// One allocation is refused at most. So where memory was refused, be it for what the test itself holds, all is done
-// again, and nothing is refused then.
+// Checks that at most one allocation fails. If one failed, even in the test itself, everything is
+// repeated, and nothing fails then.
 #[test]
 fn memory_refusal(rt: HostRuntime) -> Result<(), Fail> {
     let met = match three_to_their_ends(&rt) {

@@ -10,7 +10,7 @@ use timer_wheel::ListAgenda;
 
 pub type Lists = Shard<ListAgenda, ListMail>;
 
-/// An experiment to which no command came; None where memory was refused.
+/// Creates an experiment without commands. Returns `None` if an allocation fails.
 pub fn parcel(alloc: Global, name: u32) -> Option<Parcel<ListMail>> {
     let packets = PacketBudget::new(4)?;
     let steps = StepBudget::new(100)?;
@@ -24,7 +24,7 @@ pub fn parcel(alloc: Global, name: u32) -> Option<Parcel<ListMail>> {
     }
 }
 
-// Takes in a resident of each name; None where memory was refused.
+// Takes in a resident for each name. Returns `None` if an allocation fails.
 fn seat_all(alloc: Global, shard: &mut Lists, names: &[u32]) -> Option<()> {
     for name in names {
         let parcel = parcel(alloc, *name)?;
@@ -33,14 +33,14 @@ fn seat_all(alloc: Global, shard: &mut Lists, names: &[u32]) -> Option<()> {
     Some(())
 }
 
-/// Puts a listing of the pipes at a moment.
+/// Puts a listing of the pipes at a time.
 pub fn put(shard: &mut Lists, slot: usize, moment: u16) -> Result<(), PostError> {
     let moment = u64::from(moment);
     let command = Command::PipeShow;
     shard.put(slot, Timed { moment, command })
 }
 
-/// What a turn was.
+/// The kind of a turn.
 #[derive(Clone, Copy, Debug, PartialEq)]
 pub enum Was {
     Ran(u32),
@@ -48,8 +48,8 @@ pub enum Was {
     Idle,
 }
 
-/// Makes a turn. A shard, a parcel and what a turn gives are dropped by calls: where they stand, each of their parts
-/// would be proved.
+/// Processes a turn. A shard, a parcel and the result of a turn are dropped by calls, because each
+/// of their parts would be proved wherever they are dropped in place.
 pub fn turn_once(shard: &mut Lists) -> Was {
     let turned = shard.turn();
     let was = match &turned {
@@ -61,7 +61,7 @@ pub fn turn_once(shard: &mut Lists) -> Was {
     was
 }
 
-/// How many commands the resident of a slot consumed.
+/// Returns the number of commands that the resident in a slot has consumed.
 pub fn consumed_count(shard: &Lists, slot: usize) -> Option<usize> {
     let commands = shard.consumed(slot).ok()?;
     Some(commands.len())
@@ -151,7 +151,7 @@ fn a_rebase_changes_nobody(rt: HostRuntime) -> Result<(), Fail> {
     Ok(())
 }
 
-// Passes with ample memory, and where any one allocation of it is refused.
+// Passes with ample memory, and if any one of its allocations fails.
 #[test]
 fn a_refused_shard_is_made_at_the_second_try(rt: HostRuntime) -> Result<(), Fail> {
     let first = Lists::new(rt.alloc());

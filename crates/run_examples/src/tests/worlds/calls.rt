@@ -1,4 +1,4 @@
-//! The calls of a world, of whose answers the examples know nothing beforehand.
+//! The calls of a world. The examples assume nothing about their results.
 
 use emu_model::Ending;
 use report::report_text;
@@ -6,7 +6,7 @@ use std::alloc::{AllocError, Global};
 use timer_wheel::Agenda;
 use world::{Did, Place, Step, World};
 
-/// What is seen of a name: where it is, and how many records and commands it has.
+/// The visible properties of a name: its place, and the numbers of its records and commands.
 #[derive(Clone, Copy)]
 pub struct Sight {
     pub place: Option<Place>,
@@ -14,28 +14,29 @@ pub struct Sight {
     pub commands: usize,
 }
 
-/// The report of what a name left, and whether it was halted for want of memory.
+/// The report of a name's experiment, and whether the experiment was halted because an allocation
+/// failed.
 #[derive(Drop)]
 pub struct Written {
     pub text: Vec<u8>,
     pub halted: bool,
 }
 
-/// A world. The examples are written over any, and run with that of the crate world: so their
-/// proofs needn't take it apart wherever it is dropped.
+/// A world. The examples are generic over any world, and run with that of the crate world, so their
+/// proofs don't have to take it apart wherever it is dropped.
 pub trait Stage: Drop {
     fn build(alloc: Global, shards: usize) -> Result<Self, AllocError>;
 
     fn makes(&mut self, step: Step) -> Did;
 
-    /// Makes steps. Answers how often memory was refused.
+    /// Performs steps. Returns the number of failed allocations.
     fn makes_all(&mut self, steps: &[Step]) -> u64;
 
     fn place_of(&self, name: u32) -> Option<Place>;
 
     fn sight(&self, name: u32) -> Sight;
 
-    /// Of a name that has ended, under a title.
+    /// Returns the report of a name that has ended, under a title.
     fn report_of(
         &self,
         alloc: Global,
@@ -43,7 +44,7 @@ pub trait Stage: Drop {
         title: &[u8],
     ) -> Result<Option<Written>, AllocError>;
 
-    /// Whether a name was halted for want of memory.
+    /// Returns true if a name was halted because an allocation failed.
     fn is_halted(&self, name: u32) -> bool;
 }
 
@@ -94,7 +95,7 @@ impl<A: Agenda> Stage for World<A> {
     }
 }
 
-/// Makes a step; an error for want of memory.
+/// Performs a step. Returns an error if an allocation fails.
 pub fn step<W: Stage>(world: &mut W, step: Step) -> Result<bool, AllocError> {
     match world.makes(step) {
         Did::Done => Ok(true),
@@ -103,7 +104,7 @@ pub fn step<W: Stage>(world: &mut W, step: Step) -> Result<bool, AllocError> {
     }
 }
 
-/// Makes steps; an error where one met want of memory.
+/// Performs steps. Returns an error if an allocation fails in one of them.
 pub fn run<W: Stage>(world: &mut W, steps: &[Step]) -> Result<(), AllocError> {
     if world.makes_all(steps) > 0 {
         return Err(AllocError);
@@ -111,13 +112,13 @@ pub fn run<W: Stage>(world: &mut W, steps: &[Step]) -> Result<(), AllocError> {
     Ok(())
 }
 
-/// How many records a name has, and how many commands came to it.
+/// Returns the numbers of records and commands of a name.
 pub fn counts_of<W: Stage>(world: &W, name: u32) -> (usize, usize) {
     let sight = world.sight(name);
     (sight.records, sight.commands)
 }
 
-/// Makes a step as a list of one. Answers how often it was refused memory.
+/// Performs a step as a list of one. Returns the number of failed allocations.
 pub fn counted_run<W: Stage>(world: &mut W, one: &Step) -> u64 {
     world.makes_all(&[*one])
 }

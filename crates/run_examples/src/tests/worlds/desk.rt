@@ -1,4 +1,4 @@
-//! What the examples share: guests of a world, whose commands are posted in their order.
+//! The guests of a world, which the examples share. Their commands are posted in order.
 
 use super::calls::{Stage, step};
 use crate::tests::wants::assert_with_message;
@@ -8,10 +8,10 @@ use std::alloc::AllocError;
 use std::process::Abort;
 use world::{Place, Step};
 
-/// More rounds than any of the examples takes.
+/// The maximum number of rounds, which is more than any example needs.
 pub const MAX_ROUNDS: u32 = 1_000_000;
 
-/// An experiment of a text, how many of its commands were posted, and its report.
+/// An experiment of a text, the number of its commands that were posted, and its report.
 #[derive(Drop)]
 pub struct Guest {
     plan: Plan,
@@ -24,13 +24,13 @@ impl Guest {
         self.plan.spec
     }
 
-    /// Nothing was posted yet.
+    /// Resets the guest, so that none of its commands was posted.
     pub fn again(&mut self) {
         self.posted = 0;
     }
 }
 
-// The only experiment of a text.
+// Returns the only experiment of a text.
 fn plan(rt: &(impl Abort + AllocGlobal), text: &str) -> Result<Plan, AllocError> {
     match parse_scenario(rt.alloc(), text.as_bytes()) {
         Ok(scenario) => {
@@ -45,7 +45,7 @@ fn plan(rt: &(impl Abort + AllocGlobal), text: &str) -> Result<Plan, AllocError>
     }
 }
 
-/// The guest of a text with just one experiment.
+/// Creates the guest of a text that has exactly one experiment.
 pub fn invite(
     rt: &(impl Abort + AllocGlobal),
     text: &str,
@@ -58,7 +58,7 @@ pub fn invite(
     })
 }
 
-/// The guests of texts, each with its report.
+/// Creates the guests of texts, each with its report.
 pub fn invite_all(
     rt: &(impl Abort + AllocGlobal),
     texts: &[(&'static str, &'static str)],
@@ -70,12 +70,12 @@ pub fn invite_all(
     Ok(guests)
 }
 
-/// Guests have the names from 0 on.
+/// Returns the name of a guest. Names begin at 0.
 pub fn name_of(index: usize) -> u32 {
     u32::try_from(index).unwrap_or(u32::MAX)
 }
 
-/// The post of a name's next command; None where all were posted.
+/// Returns the post of a name's next command, or `None` if all were posted.
 pub fn next_post(guests: &mut [Guest], name: u32) -> Option<Step> {
     let guest = guests.get_mut(name as usize)?;
     let timed = *guest.plan.commands.as_slice().get(guest.posted)?;
@@ -91,7 +91,7 @@ pub fn register<W: Stage>(world: &mut W, guests: &[Guest]) -> Result<(), AllocEr
     Ok(())
 }
 
-/// Posts all commands of a name that are left.
+/// Posts all remaining commands of a name.
 pub fn post_all<W: Stage>(
     world: &mut W,
     guests: &mut [Guest],
@@ -106,7 +106,8 @@ pub fn post_all<W: Stage>(
     Ok(())
 }
 
-// One thing that helps a name to its end; false where it has ended.
+// Performs steps that bring a name closer to its end. Returns false if the name has ended or
+// doesn't exist.
 fn help<W: Stage>(world: &mut W, guests: &mut [Guest], name: u32) -> Result<bool, AllocError> {
     match world.place_of(name) {
         Some(Place::HandedOut) => step(world, Step::Admit { name, shard: 0 })?,
@@ -122,7 +123,7 @@ fn help<W: Stage>(world: &mut W, guests: &mut [Guest], name: u32) -> Result<bool
     Ok(true)
 }
 
-/// Helps all names to their ends.
+/// Runs all names to their ends.
 pub fn finish<W: Stage>(
     rt: &(impl Abort + AllocGlobal),
     world: &mut W,
@@ -143,8 +144,8 @@ pub fn finish<W: Stage>(
     Ok(())
 }
 
-// Wants the guest's report of what it left, or of one that was halted, which answers false, that its lines but for the
-// last begin so. None where it hasn't ended.
+// Checks the guest's report. If the guest was halted, it checks that the lines except the last
+// begin the report, and returns false. Returns `None` if the guest hasn't ended.
 fn has_report<W: Stage>(
     rt: &(impl Abort + AllocGlobal),
     world: &W,
@@ -164,7 +165,7 @@ fn has_report<W: Stage>(
     Ok(Some(true))
 }
 
-// Whether all lines of a text but the last are the first of another one.
+// Returns true if all lines of a text except the last are the first lines of another text.
 fn begins_like(text: &[u8], whole: &[u8]) -> bool {
     let mut end = 0;
     for (at, byte) in text.iter().enumerate() {
@@ -178,14 +179,15 @@ fn begins_like(text: &[u8], whole: &[u8]) -> bool {
     text[..end] == whole[..end]
 }
 
-/// How many names have ended with their reports, and how many were halted, with the first lines of theirs.
+/// The number of names that have ended with their reports, and the number that were halted, with
+/// the first lines of theirs.
 #[derive(Clone, Copy)]
 pub struct Reports {
     pub whole: usize,
     pub cut: usize,
 }
 
-/// Wants the reports of all names that have ended.
+/// Checks the reports of all names that have ended.
 pub fn reports_of_ended<W: Stage>(
     rt: &(impl Abort + AllocGlobal),
     world: &W,

@@ -1,4 +1,4 @@
-//! Four guests on their way, of whom one allocation may be refused.
+//! Four guests that move, while one allocation may fail.
 
 use super::calls::{Sight, Stage, counted_run};
 use super::desk::{Guest, MAX_ROUNDS, invite_all, name_of, next_post, reports_of_ended};
@@ -9,13 +9,13 @@ use std::test::Fail;
 use timer_wheel::Wheel;
 use world::{Place, Step, World};
 
-/// How many guests there are.
+/// The number of guests.
 const GUESTS: u32 = 4;
 
-/// More commands than any of them has.
+/// The maximum number of posts, which is more than the commands of any guest.
 const MAX_POSTS: u32 = 64;
 
-// Four guests.
+// Creates four guests.
 fn four_guests(rt: &(impl Abort + AllocGlobal)) -> Result<Vec<Guest>, AllocError> {
     let texts = [
         (text_examples::ONE_PACKET, text_examples::ONE_PACKET_REPORT),
@@ -32,7 +32,7 @@ fn four_guests(rt: &(impl Abort + AllocGlobal)) -> Result<Vec<Guest>, AllocError
     invite_all(rt, &texts)
 }
 
-// What is seen of each.
+// Returns the visible properties of each guest.
 fn sights<W: Stage>(world: &W) -> [Sight; 4] {
     [
         world.sight(0),
@@ -42,8 +42,9 @@ fn sights<W: Stage>(world: &W) -> [Sight; 4] {
     ]
 }
 
-// Whether a step that was refused memory may have left a name so: its records and commands are as they were, and it is
-// where it was, or its parcel was handed out, or it was halted.
+// Returns true if a step in which an allocation failed may have left a name in this state: its
+// records and commands are unchanged, and it is where it was, or its parcel was handed out, or it
+// was halted.
 fn is_spared<W: Stage>(world: &W, name: u32, before: &Sight) -> bool {
     let now = world.sight(name);
     if now.records != before.records || now.commands != before.commands {
@@ -56,8 +57,8 @@ fn is_spared<W: Stage>(world: &W, name: u32, before: &Sight) -> bool {
     }
 }
 
-// Makes a step, and again where memory was refused for it, which has left all as it was but one name's place. Answers
-// how often it was refused.
+// Performs a step, and repeats it if an allocation fails, after which everything except the place
+// of one name must be unchanged. Returns the number of failed allocations.
 fn insists<W: Stage>(rt: &impl Abort, world: &mut W, one: &Step) -> u64 {
     let before = sights(world);
     let met = counted_run(world, one);
@@ -77,7 +78,7 @@ fn insists<W: Stage>(rt: &impl Abort, world: &mut W, one: &Step) -> u64 {
     met
 }
 
-// Registers, admits and posts to all of them.
+// Registers and admits all guests, and posts their commands.
 fn settle<W: Stage>(rt: &impl Abort, world: &mut W, guests: &mut [Guest]) -> u64 {
     let mut met = 0u64;
     for guest in &*guests {
@@ -95,8 +96,8 @@ fn settle<W: Stage>(rt: &impl Abort, world: &mut W, guests: &mut [Guest]) -> u64
     met
 }
 
-// One round of a shard: all its residents are polled, it turns, and a resident goes on to it from the other shard by
-// way of a deque; who is handed out is admitted again.
+// Performs one round of a shard: it polls all residents, turns, and moves a resident from the other
+// shard to this one through a deque. An experiment that is handed out is admitted again.
 fn round<W: Stage>(rt: &impl Abort, world: &mut W, shard: usize) -> u64 {
     let mut met = 0u64;
     for slot in 0..4 {
@@ -120,7 +121,7 @@ fn round<W: Stage>(rt: &impl Abort, world: &mut W, shard: usize) -> u64 {
     met
 }
 
-// Whether all of them have ended.
+// Returns true if all guests have ended.
 fn have_ended<W: Stage>(world: &W) -> bool {
     for name in 0..GUESTS {
         if world.place_of(name) != Some(Place::Ended) {
@@ -130,7 +131,7 @@ fn have_ended<W: Stage>(world: &W) -> bool {
     true
 }
 
-// All rounds that it takes.
+// Performs all rounds.
 fn rounds<W: Stage>(rt: &impl Abort, world: &mut W) -> u64 {
     let mut met = 0u64;
     for turn in 0..MAX_ROUNDS {
@@ -142,7 +143,7 @@ fn rounds<W: Stage>(rt: &impl Abort, world: &mut W) -> u64 {
     met
 }
 
-// All of them have ended, and only where a step was refused memory may one of them have been halted.
+// Checks that all guests have ended, and that one was halted only if an allocation failed.
 fn have_reports<W: Stage>(
     rt: &(impl Abort + AllocGlobal),
     world: &W,
@@ -155,7 +156,8 @@ fn have_reports<W: Stage>(
     Ok(met)
 }
 
-// Four guests to their ends, on two shards between which they go. Answers how many steps were refused memory.
+// Runs four guests to their ends, on two shards between which they move. Returns the number of
+// steps in which an allocation failed.
 fn four_to_their_ends<W: Stage>(rt: &(impl Abort + AllocGlobal)) -> Result<u64, AllocError> {
     let mut guests = four_guests(rt)?;
     let mut world = W::build(rt.alloc(), 2)?;
@@ -164,8 +166,8 @@ fn four_to_their_ends<W: Stage>(rt: &(impl Abort + AllocGlobal)) -> Result<u64, 
     have_reports(rt, &world, guests.as_slice(), met)
 }
 
-// One allocation is refused at most. So where memory was refused, be it for what the test itself holds, all is done
-// again, and nothing is refused then.
+// Checks that at most one allocation fails. If one failed, even in the test itself, everything is
+// repeated, and nothing fails then.
 #[test]
 fn memory_refusal(rt: HostRuntime) -> Result<(), Fail> {
     let met = match four_to_their_ends::<World<Wheel>>(&rt) {

@@ -1,4 +1,4 @@
-//! What is found in a text and in a report, and what is printed of it, written by hand.
+//! The findings in a text and in a report, and their output, written by hand.
 
 use control::{Cause, Fault};
 use emu_model::{DropCause, FlowNumber, Load, Record, Refusal};
@@ -12,7 +12,7 @@ fn fault(line: u64, cause: Cause) -> Fault {
     Fault { line, cause }
 }
 
-/// Wants this to be printed of the fault of this text.
+/// Checks the output for the fault of this text.
 fn shows(rt: &(impl Abort + AllocGlobal), text: &str, fault: &Fault, wanted: &str) {
     let found = find(text.as_bytes(), fault);
     let shown = show_finding(rt.alloc(), &found).expect(rt, "memory");
@@ -97,7 +97,7 @@ fn refusal(experiment: u64, command: u64, code: u64) -> RefusedCommand {
     }
 }
 
-/// What the records of some experiments say that is told.
+/// Returns the account of the records of some experiments.
 fn account(
     rt: &(impl Abort + AllocGlobal),
     experiments: &[&[Record]],
@@ -123,7 +123,7 @@ fn refusal_record(command: u64, refusal: Refusal) -> Record {
     }
 }
 
-/// The records of two experiments, of each of which a command is refused.
+/// Returns the records of two experiments, each with a command that is refused.
 fn refused_records() -> ([Record; 3], [Record; 1]) {
     (
         [
@@ -143,7 +143,7 @@ fn refusals(rt: HostRuntime) {
     assert!(rt; account.notes().is_empty());
 }
 
-/// Wants this to be printed of the command that was refused.
+/// Checks the output for the command that was refused.
 fn tells(rt: &(impl Abort + AllocGlobal), text: &mut Text, refusal: &RefusedCommand, wanted: &str) {
     let refused = text.find(refusal).expect(rt, "a line");
     let shown = show_refused(rt.alloc(), &refused).expect(rt, "memory");
@@ -187,7 +187,7 @@ fn drop_of(moment: u64, load: Load, cause: DropCause) -> Record {
     }
 }
 
-/// What a flow sends: a segment, or an acknowledgement.
+/// Returns the load of a flow's packet: a segment, or an acknowledgement.
 fn load_of(rt: &impl Abort, number: u16, is_segment: bool) -> Load {
     let flow = FlowNumber::new(number).expect(rt, "a flow's number");
     if is_segment {
@@ -206,7 +206,7 @@ fn note(experiment: u64, subject: Subject, first: u64, count: u64) -> Note {
     }
 }
 
-/// A packet of a flow that is dropped: a segment, or an acknowledgement.
+/// Returns the drop of a flow's packet: a segment, or an acknowledgement.
 fn drop_of_flow(
     rt: &impl Abort,
     moment: u64,
@@ -264,7 +264,7 @@ experiment b seed 0 budget 1
 experiment a seed 0 budget 0
 @0";
 
-/// Wants these faults behind this one.
+/// Checks the faults after this one.
 fn follow(rt: &(impl Abort + AllocGlobal), first: &Fault, wanted: &[Fault]) {
     let found = faults_behind(rt.alloc(), FAULTS.as_bytes(), first).expect(rt, "memory");
     assert!(rt; found.as_slice() == wanted);
@@ -297,7 +297,7 @@ fn a_fault_with_its_line(rt: HostRuntime) {
     assert!(rt; shown.as_slice() == wanted.as_bytes());
 }
 
-// Where memory is refused the answer says so, and it isn't where there is enough.
+// Checks that each call either reports a failed allocation or returns a complete result.
 #[test]
 fn memory_refused(rt: HostRuntime) {
     let fault = fault(4, Cause::AfterEnd);

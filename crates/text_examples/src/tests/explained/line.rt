@@ -1,11 +1,11 @@
-//! Words at fault, by their numbers in the line, and what is said of them.
+//! Faulty words, by their numbers in the line, and the hints for them.
 
 use control::{Behind, Check, Expected, FlowSeen, FlowWord, RuleWord, blame, blame_behind};
-use explain_line::{byte_hint, hint, range_hint, expected_at};
+use explain_line::{byte_hint, expected_at, hint, range_hint};
 use std::process::Abort;
 use std::test::*;
 
-/// Wants of each line this word to be the first at fault, or none where none is given.
+/// Checks the number of the first faulty word of each line, or that there is none.
 fn blames(rt: &impl Abort, check: Check, lines: &[(&str, Option<usize>)]) {
     for (line, index) in lines {
         let found = blame(line.as_bytes(), check).map(|blamed| blamed.index);

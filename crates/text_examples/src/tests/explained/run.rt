@@ -16,7 +16,7 @@ const SCENARIO: &str = "experiment a seed 3 budget 9
 @9 end
 ";
 
-/// Wants these warnings of the scenario's one experiment.
+/// Checks the warnings of the scenario's only experiment.
 fn warns(rt: &(impl Abort + AllocGlobal), notes: Option<&[Note]>, wanted: &[Warning]) {
     let scenario = parse_scenario(rt.alloc(), SCENARIO.as_bytes())
         .ok()
@@ -41,7 +41,8 @@ fn of_command(command: u64, concern: Concern) -> Warning {
     }
 }
 
-/// Acknowledgements of the flow, so many where that was counted: from 12.0.0.1:80 to 10.0.0.1:1000.
+/// Returns the warning about acknowledgements of the flow, from 12.0.0.1:80 to 10.0.0.1:1000, with
+/// their number if it was counted.
 fn no_way_back(count: Option<u64>) -> Concern {
     Concern::NoWay {
         ends: Ends {
@@ -57,7 +58,7 @@ fn no_way_back(count: Option<u64>) -> Concern {
     }
 }
 
-/// The single packet, from 1.2.3.4:1 to 5.6.7.8:2.
+/// Returns the warning about the single packet, from 1.2.3.4:1 to 5.6.7.8:2.
 fn no_way() -> Concern {
     Concern::NoWay {
         ends: Ends {

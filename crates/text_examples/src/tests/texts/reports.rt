@@ -1,4 +1,4 @@
-//! Whole reports of worked experiments, and each kind of line. The texts are the format's own.
+//! Whole reports of worked experiments, and each kind of line. The texts are those of the format.
 
 use emu_model::{
     Action, Bandwidth, CodelTime, Counters, Delay, Discipline, DropCause, FlowNumber, KByteLimit,
@@ -116,7 +116,7 @@ fn same_text(rt: &impl Abort, written: &[u8], wanted: &str) {
     assert_eq!(rt; str::from_utf8(written).ok(), Some(wanted));
 }
 
-/// Wants this report of these records.
+/// Checks the report of these records.
 fn reports(
     rt: &(impl Abort + AllocGlobal),
     name: &[u8],
@@ -128,7 +128,7 @@ fn reports(
     same_text(rt, &text, wanted);
 }
 
-/// Wants these lines of these records, which are written one by one.
+/// Checks the lines of these records, which are written one by one.
 fn writes(rt: &(impl Abort + AllocGlobal), records: &[Record], wanted: &str) {
     let mut text = Vec::new(rt.alloc());
     let mut moments = Moments::new();
@@ -258,8 +258,8 @@ fn reno_four_segments(rt: HostRuntime) {
     reports(&rt, b"r", &records, &counters, wanted);
 }
 
-// What the worked reports lack: each cause and refusal, addresses and ports of all kinds, a mask
-// with all kinds of digits, the longest numbers.
+// The cases that the worked reports lack: each cause and refusal, addresses and ports of all kinds,
+// a mask with all kinds of digits, the longest numbers.
 const REFUSALS: [Refusal; 10] = [
     Refusal::BadNumber,
     Refusal::BadSkip,
@@ -405,7 +405,8 @@ fn each_kind_of_line(rt: HostRuntime) {
     writes(&rt, &records, wanted);
 }
 
-// What `trace 1` adds: the least values, the greatest, and values that differ within a line.
+// Checks the lines that `trace 1` adds: the minimum values, the maximum values, and values that
+// differ within a line.
 #[test]
 fn lines_of_a_trace(rt: HostRuntime) {
     let (first_pipe, last_pipe) = (pipe_number(&rt, 1), pipe_number(&rt, 65535));
@@ -527,8 +528,8 @@ const MOMENTS: [u64; 16] = [
     u64::MAX - 9551616,
 ];
 
-// The last eight digits of a moment change by themselves, or with those before them, forwards and
-// back; and the longest line of an event is far longer than most.
+// Checks times whose last eight digits change by themselves, or with those before them, forwards
+// and backwards. The longest line of an event is far longer than most.
 #[test]
 fn digits_of_moments(rt: HostRuntime) {
     let mut text = Vec::new(rt.alloc());
@@ -555,7 +556,7 @@ fn digits_of_moments(rt: HostRuntime) {
     );
 }
 
-/// A record more, and its line.
+/// Adds a record, and its line.
 fn add(
     rt: &impl Abort,
     records: &mut Vec<Record>,
@@ -568,8 +569,8 @@ fn add(
     assert!(rt; wanted.extend_from_slice(line.as_bytes()).is_ok());
 }
 
-// Numbers of each length, and many lines at once: more events than are made together, and among them
-// lines of other kinds, one of them the last.
+// Adds numbers of each length, and many lines at once: more events than are formatted together, and
+// among them lines of other kinds, one of them the last.
 fn add_many(rt: &(impl Abort + AllocGlobal), records: &mut Vec<Record>, wanted: &mut Vec<u8>) {
     let mut number = 0u64;
     for turn in 0..100u64 {
@@ -606,7 +607,7 @@ fn many_lines_at_once(rt: HostRuntime) {
     assert!(rt; text.len() == wanted.len(), "none");
 }
 
-/// What was refused has left a text of this length.
+/// Checks that a failed call has left a text of this length.
 fn is_kept(rt: &impl Abort, refused: bool, text: &Vec<u8>, length: usize) {
     assert!(rt; !refused || text.len() == length);
 }
@@ -635,7 +636,8 @@ fn keep_what_was_written(rt: &impl Abort, text: &mut Vec<u8>, moments: &mut Mome
     is_kept(rt, refused, text, length);
 }
 
-/// What is refused leaves the text as it was. A run in which an allocation fails shows it.
+/// Checks that a failed call leaves the text unchanged. Only a run in which an allocation fails
+/// shows it.
 #[test]
 fn refused_lines_change_nothing(rt: HostRuntime) {
     let mut text = Vec::new(rt.alloc());

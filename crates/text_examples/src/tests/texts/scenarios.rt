@@ -7,7 +7,7 @@ mod limits;
 mod lines;
 mod printed;
 
-/// The fault of these bytes.
+/// Returns the fault of these bytes.
 fn fault_of(alloc: Global, bytes: &[u8]) -> Option<Fault> {
     match parse_scenario(alloc, bytes) {
         Err(ParseError::Fault(fault)) => Some(fault),
@@ -15,7 +15,7 @@ fn fault_of(alloc: Global, bytes: &[u8]) -> Option<Fault> {
     }
 }
 
-/// How many experiments there are, where the bytes are a scenario.
+/// Returns the number of experiments, if the bytes are a scenario.
 fn experiments_in(alloc: Global, bytes: &[u8]) -> Option<usize> {
     match parse_scenario(alloc, bytes) {
         Ok(scenario) => Some(scenario.experiments().len()),
@@ -23,13 +23,13 @@ fn experiments_in(alloc: Global, bytes: &[u8]) -> Option<usize> {
     }
 }
 
-/// Wants this fault.
+/// Checks the fault of a text.
 fn wants(rt: &(impl Abort + AllocGlobal), text: &str, line: u64, cause: Cause) {
     let found = fault_of(rt.alloc(), text.as_bytes());
     assert!(rt; found == Some(Fault { line, cause }), "in {text}");
 }
 
-/// Wants this fault in a text that was made for it.
+/// Checks the fault of a text that was formatted for it.
 fn wants_made(
     rt: &(impl Abort + AllocGlobal),
     text: Result<String, AllocError>,
@@ -40,18 +40,18 @@ fn wants_made(
     wants(rt, text.as_str(), line, cause);
 }
 
-/// Wants this fault in bytes that are not to be printed.
+/// Checks the fault of bytes that can't be printed.
 fn has_fault(rt: &(impl Abort + AllocGlobal), bytes: &[u8], line: u64, cause: Cause) {
     assert!(rt; fault_of(rt.alloc(), bytes) == Some(Fault { line, cause }));
 }
 
-/// Wants this fault in the second line, behind an experiment's first.
+/// Checks the fault of the second line, after an experiment's first line.
 fn wants_second(rt: &(impl Abort + AllocGlobal), line: &str, cause: Cause) {
     let text = format!(in rt.alloc(); "experiment a seed 0 budget 1\n{line}\n");
     wants_made(rt, text, 2, cause);
 }
 
-/// The same of each of these lines.
+/// Checks the fault of each of these second lines.
 fn want_second(rt: &(impl Abort + AllocGlobal), lines: &[&str], cause: Cause) {
     for line in lines {
         wants_second(rt, line, cause);
@@ -137,7 +137,7 @@ fn faults_between_lines(rt: HostRuntime) {
         3,
         Cause::AfterEnd,
     );
-    // Two faults in one line: the command is behind the end, and its moment is below the end's.
+    // Two faults in one line: the command is after the end, and its time is before that of the end.
     wants(
         &rt,
         "experiment a seed 0 budget 1\n@5 end\n@4 show\n",
@@ -156,14 +156,14 @@ fn faults_between_lines(rt: HostRuntime) {
         3,
         Cause::SameName,
     );
-    // No end of the experiment before, and its name again.
+    // The previous experiment has no end, and its name is repeated.
     wants(
         &rt,
         "experiment a seed 0 budget 1\n@0 show\nexperiment a seed 0 budget 1\n",
         3,
         Cause::NoEnd,
     );
-    // Two faulty lines: the first is named.
+    // Two faulty lines, of which the first is reported.
     wants(
         &rt,
         "experiment a seed 0 budget 1\n@0 delete 100000\n@0 delete 01\n",
@@ -172,7 +172,8 @@ fn faults_between_lines(rt: HostRuntime) {
     );
 }
 
-/// Wants 512 bytes to be a line, and 513 to be too long, where they begin so and go on in spaces.
+/// Checks that 512 bytes are a line, and that 513 are too long, if they begin like this and
+/// continue with spaces.
 fn has_length(rt: &(impl Abort + AllocGlobal), start: &str) {
     let fits = format!(in rt.alloc(); "{start:<512}\n").expect(rt, "memory");
     assert!(rt; experiments_in(rt.alloc(), fits.as_str().as_bytes()) == Some(0));
@@ -191,7 +192,7 @@ fn lengths(rt: HostRuntime) {
     assert!(rt; experiments_in(rt.alloc(), b"") == Some(0));
 }
 
-/// Each kind of command, and options out of their usual order.
+/// Each kind of command, and options that are not in their usual order.
 const KINDS: &str =
     "experiment a-1_b seed 18446744073709551615  budget 7 steps 9\n# x\n\n @0 add 100 skipto 200 tcp from 10.0.0.0/8 1-2 to any 80\n@1 pipe 3 config plr 0.25 codel interval 50 target 1us mask dst-ip 0xFF proto 0x6 queue 8KB delay 3ms bw 2Mbit/s\n@1 pipe 4 config\n@1 train 2 udp 1.2.3.4 5 6.7.8.9 10 40 count 3 gap 4\n@1 flow 9 1.2.3.4 5 6.7.8.9 10 smss 64 segments 2 rto adaptive window 7\n@1 one_pass 1\n@1 trace 1\n@1 delete 5\n@1 stop 9\n@1 pipe delete 3\n@1 pipe show\n@1 show\n@1 inject tcp 1.2.3.4 5 6.7.8.9 10 1500\n@2 end\nexperiment b seed 0 budget 1\n@0 end\n";
 
@@ -228,7 +229,7 @@ fn has_flow(rt: &impl Abort, flow: &FlowSpec) {
     }
 }
 
-/// A number for each kind of command.
+/// Returns a number for each kind of command.
 fn kind(command: &Command) -> u32 {
     match command {
         Command::Add(_) => 1,
@@ -247,7 +248,7 @@ fn kind(command: &Command) -> u32 {
     }
 }
 
-/// The worked numbers of a command.
+/// Checks the worked numbers of a command.
 fn has_numbers(rt: &impl Abort, command: &Command) {
     match command {
         Command::Add(rule) => has_rule(rt, rule),
@@ -262,7 +263,7 @@ fn has_numbers(rt: &impl Abort, command: &Command) {
     }
 }
 
-/// Two experiments of 15 commands in all, of each kind.
+/// Checks two experiments with 15 commands in all, of each kind.
 fn has_every_kind(rt: &impl Abort, scenario: &Scenario) {
     let mut commands = 0u32;
     let mut kinds = 0u32;
@@ -277,7 +278,8 @@ fn has_every_kind(rt: &impl Abort, scenario: &Scenario) {
     assert!(rt; (commands, kinds) == (15, 106));
 }
 
-/// Also run with each allocation refused in turn: want of memory is the only other answer.
+/// Checks each kind of command. The test also runs with each allocation failing in turn, and out of
+/// memory is then the only other result.
 #[test]
 fn every_kind(rt: HostRuntime) {
     match parse_scenario(rt.alloc(), KINDS.as_bytes()) {

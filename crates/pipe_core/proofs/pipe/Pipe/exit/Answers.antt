@@ -25,8 +25,8 @@ invariant_of-self g c =
     let s = c.self.inside in
     let at = place_inside c.self.view_is c.requires.inside c.index_mut-slot.ensures.value in (
       pipe_at _ _ _ at s.config s.seed s.number s.ids.ids c.exit-packet.new.self c.exit-packet.ensures.left.place c.self.invariant.0,
-      leaves_set s.slots.items c.args.instance c.exit-packet.new.self s.dues c.set.new.self c.due.result c.self.invariant.1
-          c.due.ensures c.set.ensures,
+      leaves_set s.slots.items c.args.instance c.exit-packet.new.self s.dues c.set_least.new.self c.due.result c.self.invariant.1
+          c.due.ensures c.set_least.ensures,
       c.self.invariant.2,
     )
 
@@ -64,7 +64,7 @@ returns-clause-ready g c =
     } in
     let same = room_same _ _ _ at s.seed s.number (min room s.dues.spare) s.config y left.place.id
     (λ size h. kept_room size c.index_mut-slot.result.now.instance y.instance left.queue left.service h) in
-    let spare = sym (ap (λ (p : Places). p.spare) c.set.ensures) in
+    let spare = sym (ap (λ (p : Places). p.spare) c.set_least.ensures) in
     rw (← c.self.view_is) (subst (λ n. (p : Packet) → HasRoomAt p old → HasRoomAt p (record old {
       slots = set s.slots.items c.args.instance y;
       spare = min room n;

@@ -32,8 +32,8 @@ invariant_of-self g c =
     let at = place_due (g.S.Shelf.pocket c.args.shelf.now c.args.owner) c.args.instance c.self.view_is c.requires.due c.index_mut-slot.ensures.value in (
       pipe_at _ _ _ at s.config s.seed s.number s.ids.ids y
           (finish_place s.config c.args.now y.instance.delay_line.spare c.finish-finished.new.drops.items _ _ _ y c.finish-finished.result c.finish-finished.ensures.finished c.finish-finished.ensures.refused) c.self.invariant.0,
-      leaves_set s.slots.items c.args.instance y s.dues c.set.new.self c.due.result c.self.invariant.1
-          c.due.ensures c.set.ensures,
+      leaves_set s.slots.items c.args.instance y s.dues c.set_least.new.self c.due.result c.self.invariant.1
+          c.due.ensures c.set_least.ensures,
       c.self.invariant.2,
     )
 
@@ -75,7 +75,7 @@ returns-clause-refused g c =
     let q : Pocket = g.S.Shelf.pocket c.finish-finished.new.shelf c.args.owner in
     let y : Slot = c.finish-finished.new.self in
     let old : KeyedPipe = inside_of s.config s.seed s.number s.slots.items (min (min (vec_capacity s.slots - vec_len s.slots) s.ids.spare) s.dues.spare) in
-    let spare = sym (ap (λ (p : Places). p.spare) c.set.ensures) in
+    let spare = sym (ap (λ (p : Places). p.spare) c.set_least.ensures) in
     rw (← c.self.view_is) (subst (λ m. OnErr c.finish-finished.result (IsGrown old (record old {
       slots = set s.slots.items c.args.instance y;
       spare = min (min (vec_capacity s.slots - vec_len s.slots) s.ids.spare) m;
@@ -99,8 +99,8 @@ due-requires g c =
     (slot_at _ _ _ at s.config s.seed s.number s.ids.ids c.self.invariant.0)
     (finish_place s.config c.args.now y.instance.delay_line.spare c.finish-finished.new.drops.items _ _ _ y c.finish-finished.result c.finish-finished.ensures.finished c.finish-finished.ensures.refused)
 
-pub set-requires : goal.set-requires
-set-requires g c =
+pub set_least-requires : goal.set_least-requires
+set_least-requires g c =
     let s = c.self.inside in
     leaves_within s.slots.items s.dues c.args.instance c.self.invariant.1 (within_due (g.S.Shelf.pocket c.args.shelf.now c.args.owner) c.args.instance c.self.view_is c.requires.due)
 

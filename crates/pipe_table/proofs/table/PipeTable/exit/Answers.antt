@@ -38,8 +38,8 @@ exit-packet-requires-clause-named g c =
     subst (λ (t : Table). AreNamed (g.S.Shelf.pocket c.args.shelf.now c.args.owner) (pipe_keys t.pipes)) (sym c.self.view_is) c.requires.named in
     named-at x.number i ps x at read (g.S.Shelf.pocket c.args.shelf.now c.args.owner) named
 
-pub set-requires : goal.set-requires
-set-requires g c =
+pub set_least-requires : goal.set_least-requires
+set_least-requires g c =
     let s = c.self.inside in
     let ps : List KeyedPipe = s.pipes.items in
     let i : ℕ = c.args.place in
@@ -60,7 +60,7 @@ invariant_of-self g c =
     let within : i < length ps = inside-within i c.args.instance ps inside in
     let at : StandsAt x.number i ps = standing-place s.seed ps i x c.self.invariant.0.0 within read in (
       sound-at x.number i ps x at read s.seed c.exit-packet.new.self c.self.invariant.0 (ap (λ (p : KeyedPipe). p.seed) c.exit-packet.ensures.same) (ap (λ (p : KeyedPipe). p.number) c.exit-packet.ensures.same),
-      indexed-put ps i c.exit-packet.new.self s.dues c.set.new.self c.self.invariant.1 within c.least.ensures.number c.least.ensures.few (λ f. c.set.ensures ∙ ap (λ d. record s.dues { leaves = slice_set s.dues.leaves i d }) (c.least.ensures.due f)),
+      indexed-put ps i c.exit-packet.new.self s.dues c.set_least.new.self c.self.invariant.1 within c.least.ensures.number c.least.ensures.few (λ f. c.set_least.ensures ∙ ap (λ d. record s.dues { leaves = slice_set s.dues.leaves i d }) (c.least.ensures.due f)),
       led-set ps i x c.exit-packet.new.self s.places within read (ap (λ (p : KeyedPipe). p.number) c.exit-packet.ensures.same) c.self.invariant.2,
     )
 

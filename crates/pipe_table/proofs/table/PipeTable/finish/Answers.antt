@@ -52,8 +52,8 @@ finish-finished-requires-clause-plain g c =
     let within : i < length ps = stands-within k i ps here in
     λ yes. (subst (λ (t : Table). IsPlainIn i c.args.instance c.args.now t.pipes) (sym c.self.view_is) (c.requires.plain yes)) x (get-there ps i x within read)
 
-pub set-requires : goal.set-requires
-set-requires g c =
+pub set_least-requires : goal.set_least-requires
+set_least-requires g c =
     let s = c.self.inside in
     let ps : List KeyedPipe = s.pipes.items in
     let i : ℕ = c.args.place in
@@ -78,7 +78,7 @@ invariant_of-self g c =
     let within : i < length ps = stands-within k i ps here in
     let at : StandsAt x.number i ps = standing-place s.seed ps i x c.self.invariant.0.0 within read in (
       sound-at x.number i ps x at read s.seed c.finish-finished.new.self c.self.invariant.0 (ap (λ (p : KeyedPipe). p.seed) c.finish-finished.ensures.same) (ap (λ (p : KeyedPipe). p.number) c.finish-finished.ensures.same),
-      indexed-put ps i c.finish-finished.new.self s.dues c.set.new.self c.self.invariant.1 within c.least.ensures.number c.least.ensures.few (λ f. c.set.ensures ∙ ap (λ d. record s.dues { leaves = slice_set s.dues.leaves i d }) (c.least.ensures.due f)),
+      indexed-put ps i c.finish-finished.new.self s.dues c.set_least.new.self c.self.invariant.1 within c.least.ensures.number c.least.ensures.few (λ f. c.set_least.ensures ∙ ap (λ d. record s.dues { leaves = slice_set s.dues.leaves i d }) (c.least.ensures.due f)),
       led-set ps i x c.finish-finished.new.self s.places within read (ap (λ (p : KeyedPipe). p.number) c.finish-finished.ensures.same) c.self.invariant.2,
     )
 

@@ -2,8 +2,8 @@
 
 use super::*;
 
-/// A right scenario of 16777216 bytes: one experiment, then comments of 512 bytes with their line
-/// feeds, so that a test is quick.
+/// Returns a valid scenario of 16777216 bytes: one experiment, then comments of 512 bytes with
+/// their line feeds, which keeps the test fast.
 fn greatest_text(rt: &(impl Abort + AllocGlobal)) -> String {
     let head = "experiment a seed 0 budget 1\n@0 end\n";
     let mut text = format!(in rt.alloc(); "{head}#{:<474}\n", "").expect(rt, "memory");
@@ -12,7 +12,7 @@ fn greatest_text(rt: &(impl Abort + AllocGlobal)) -> String {
     text
 }
 
-/// A line stands so often more at the end of a text.
+/// Appends a line to a text `count` times.
 fn append(
     rt: &(impl Abort + AllocGlobal),
     text: &mut String,
@@ -32,8 +32,8 @@ fn greatest_text_is_read(rt: HostRuntime) {
     assert!(rt; experiments_in(rt.alloc(), text.as_str().as_bytes()) == Some(1));
 }
 
-/// One byte more is too big, and that comes before all else: here the last line is also cut, too
-/// long, and no line of a scenario.
+/// Checks that one more byte is too big, and that this cause precedes all others: here the last
+/// line is also cut, too long, and no line of a scenario.
 #[test]
 fn one_byte_more_is_too_big(rt: HostRuntime) {
     let mut text = greatest_text(&rt);
@@ -51,7 +51,7 @@ fn one_byte_more_is_too_big(rt: HostRuntime) {
     has_fault(&rt, words.as_str().as_bytes(), 0, Cause::TooBig);
 }
 
-/// So many experiments, each of two lines, and lines behind them.
+/// Returns this number of experiments, each of two lines, and lines after them.
 pub fn experiments(rt: &(impl Abort + AllocGlobal), count: u32, behind: &str) -> String {
     let mut text = String::new(rt.alloc());
     for i in 0..count {
@@ -62,7 +62,7 @@ pub fn experiments(rt: &(impl Abort + AllocGlobal), count: u32, behind: &str) ->
     text
 }
 
-/// Wants this fault behind so many whole experiments.
+/// Checks the fault after this number of whole experiments.
 fn wants_behind(rt: &(impl Abort + AllocGlobal), count: u32, lines: &str, line: u64, cause: Cause) {
     let text = experiments(rt, count, lines);
     wants(rt, text.as_str(), line, cause);
@@ -74,16 +74,16 @@ fn too_many_experiments(rt: HostRuntime) {
     assert!(rt; experiments_in(rt.alloc(), most.as_str().as_bytes()) == Some(256));
     let other = "experiment other seed 0 budget 1\n";
     wants_behind(&rt, 256, other, 513, Cause::TooMany);
-    // Its name stood before, too.
+    // Its name is also that of an earlier experiment.
     let again = "experiment e0 seed 0 budget 1\n";
     wants_behind(&rt, 256, again, 513, Cause::TooMany);
     wants_behind(&rt, 255, again, 511, Cause::SameName);
-    // The 257th, while the 256th has no end; also under a name that stood before.
+    // The 257th experiment begins while the 256th has no end, also with the name of an earlier one.
     let two = "experiment x seed 0 budget 1\nexperiment y seed 0 budget 1\n";
     wants_behind(&rt, 255, two, 512, Cause::NoEnd);
     let twice = "experiment x seed 0 budget 1\nexperiment e0 seed 0 budget 1\n";
     wants_behind(&rt, 255, twice, 512, Cause::NoEnd);
-    // What is wrong with the line itself comes first.
+    // A fault of the line itself is reported first.
     let none = "experiment e0 seed 0 budget 0\n";
     wants_behind(&rt, 256, none, 513, Cause::OutOfRange);
     wants_behind(&rt, 256, "experiment e0 seed 0\n", 513, Cause::BadWord);

@@ -1,4 +1,4 @@
-//! Each cause at each kind of line, and which of two faults is named.
+//! Each cause in each kind of line, and which of two faults is reported.
 
 use super::*;
 
@@ -19,13 +19,13 @@ const COMMANDS: [&str; 13] = [
     "end",
 ];
 
-/// Wants this fault in the line after one experiment's first line; its line feed is not added.
+/// Checks the fault of the line after an experiment's first line. No line feed is added to it.
 fn wants_after_head(rt: &(impl Abort + AllocGlobal), line: &str, cause: Cause) {
     let text = format!(in rt.alloc(); "experiment a seed 0 budget 1\n{line}");
     wants_made(rt, text, 2, cause);
 }
 
-/// The same of a line that was made for it.
+/// Checks the fault of a line that was formatted for it.
 fn wants_line(rt: &(impl Abort + AllocGlobal), line: Result<String, AllocError>, cause: Cause) {
     let line = line.expect(rt, "memory");
     wants_after_head(rt, line.as_str(), cause);
@@ -42,7 +42,7 @@ fn has_own_causes(rt: &(impl Abort + AllocGlobal), command: &str) {
     wants_line(rt, late, Cause::OutOfRange);
 }
 
-/// The causes that are a line's own.
+/// Checks the causes that depend on one line only.
 #[test]
 fn own_causes_at_each_command(rt: HostRuntime) {
     for command in &COMMANDS {
@@ -80,7 +80,7 @@ fn bad_words_at_each_command(rt: HostRuntime) {
     }
 }
 
-/// The causes that go by the lines before. A moment that equals the one before is right.
+/// Checks the causes that depend on the lines before. A time that equals the previous one is valid.
 fn has_placed_causes(rt: &(impl Abort + AllocGlobal), command: &str) {
     let alloc = rt.alloc();
     let first = format!(in alloc; "\n@0 {command}\n");
@@ -140,7 +140,8 @@ fn causes_at_an_experiment(rt: HostRuntime) {
     }
 }
 
-/// Comments and lines without words are judged by their length and bytes, as every line.
+/// Checks comments and lines without words, which are judged by their length and bytes like every
+/// line.
 #[test]
 fn causes_at_skipped_lines(rt: HostRuntime) {
     wants(&rt, "#", 1, Cause::Cut);
@@ -155,11 +156,11 @@ fn causes_at_skipped_lines(rt: HostRuntime) {
     has_fault(&rt, b"# \xc3\xa9\n", 1, Cause::BadByte);
     assert!(rt; experiments_in(rt.alloc(), b"# from   to ~ !\n\n   \n") == Some(0));
     assert!(rt; experiments_in(rt.alloc(), b"\n") == Some(0));
-    // A word that only holds the sign is no comment.
+    // A word that only contains the sign is not a comment.
     wants(&rt, "experiment# b\n", 1, Cause::BadWord);
 }
 
-/// The last line stands without its end, or the text does: the line after all is named.
+/// Checks an experiment or a text without an end: the line after the last is reported.
 #[test]
 fn no_end_at_the_end(rt: HostRuntime) {
     wants(
@@ -182,7 +183,7 @@ fn no_end_at_the_end(rt: HostRuntime) {
     );
 }
 
-/// A moment is compared within its experiment alone.
+/// Checks that a time is compared only within its experiment.
 #[test]
 fn moments_begin_anew(rt: HostRuntime) {
     wants(
@@ -193,7 +194,7 @@ fn moments_begin_anew(rt: HostRuntime) {
     );
 }
 
-/// Two faults in one line, the later cause also alone elsewhere in these tests.
+/// Checks two faults in one line. The later cause also occurs alone elsewhere in these tests.
 #[test]
 fn two_faults_in_one_line(rt: HostRuntime) {
     let alloc = rt.alloc();
@@ -233,13 +234,13 @@ fn two_faults_in_one_line(rt: HostRuntime) {
     }
 }
 
-/// This line and a faulty one behind it.
+/// Checks the fault of this line, which is followed by a faulty one.
 fn is_first_fault(rt: &(impl Abort + AllocGlobal), line: &str, next: &str, cause: Cause) {
     let text = format!(in rt.alloc(); "experiment a seed 0 budget 1\n@5 show\n{line}{next}");
     wants_made(rt, text, 3, cause);
 }
 
-/// Of two faulty lines the first is named, whatever stands first among the causes.
+/// Checks that the first of two faulty lines is reported, whatever the order of the causes.
 #[test]
 fn two_faulty_lines(rt: HostRuntime) {
     for (line, cause) in &[

@@ -1,9 +1,10 @@
-//! Each cause as it is printed: by itself, and with its line. The words are those of docs/reference/scenario.md.
+//! Each cause as it is printed: by itself, and with its line. The words are those of
+//! docs/reference/scenario.md.
 
 use super::limits::experiments;
 use super::*;
 
-/// Wants what is printed to be the start and then the word.
+/// Checks that the output is the start and then the word.
 fn is_text(rt: &impl Abort, printed: Result<String, AllocError>, start: &str, word: &str) {
     let printed = printed.expect(rt, "memory");
     assert!(rt;
@@ -12,7 +13,7 @@ fn is_text(rt: &impl Abort, printed: Result<String, AllocError>, start: &str, wo
     );
 }
 
-/// Wants this word of a cause, by itself and with the least and the greatest line.
+/// Checks the word of a cause, by itself and with the minimum and the maximum line.
 fn is_printed(rt: &(impl Abort + AllocGlobal), cause: Cause, word: &str) {
     is_text(rt, format!(in rt.alloc(); "{cause}"), "", word);
     let least = Fault { line: 0, cause };
@@ -39,7 +40,7 @@ fn words_of_causes(rt: HostRuntime) {
     is_printed(&rt, Cause::Backwards, "backwards");
 }
 
-/// What is printed of these bytes.
+/// Returns the output for these bytes.
 fn printed_text(alloc: Global, bytes: &[u8]) -> Result<String, AllocError> {
     match parse_scenario(alloc, bytes) {
         Err(ParseError::Fault(fault)) => format!(in alloc; "{fault}"),
@@ -48,15 +49,16 @@ fn printed_text(alloc: Global, bytes: &[u8]) -> Result<String, AllocError> {
     }
 }
 
-/// Wants this to be printed of a text.
+/// Checks the output for a text.
 fn prints(rt: &(impl Abort + AllocGlobal), text: &str, line: &str) {
     is_text(rt, printed_text(rt.alloc(), text.as_bytes()), "", line);
 }
 
-/// Two whole experiments of one name.
+/// Two whole experiments with the same name.
 const TWICE: &str = "experiment a seed 0 budget 1\n@0 end\nexperiment a seed 0 budget 1\n@0 end\n";
 
-/// A text for each cause but `toobig`, with the line that is printed of it; a text that is too big stands in `limits`.
+/// Checks a text for each cause except `toobig`, with the line that is printed for it; a text that
+/// is too big is in `limits`.
 #[test]
 fn lines_of_texts(rt: HostRuntime) {
     for (text, line) in &[

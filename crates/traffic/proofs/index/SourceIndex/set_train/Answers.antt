@@ -10,7 +10,7 @@ returns c = λ fs ts h. record {
   whole = h.whole;
   sending = h.sending;
   entries = h.entries;
-  packets = ap (λ (p : Places). p.leaves) c.set.ensures
+  packets = ap (λ (p : Places). p.leaves) c.set_least.ensures
       ∙ (λ t. set (h.packets t) c.args.place (c.due.ensures.due t))
       ∙ sym (map-set packet_due ts c.args.place c.args.train.now);
 }
