@@ -7,7 +7,11 @@ _dnlab_tools() {
     *:--what) words="window queue sojourn delivered drops flight throughput cdf:sojourn cdf:throughput box:sojourn box:throughput" ;;
     *:--percentiles) words="50,99 50,95,99" ;;
     *:--by) words="varied settings experiment seed" ;;
-    *:--stat) words="goodput delay.p50 delay.p95 delay.p99 lost" ;;
+    *:--stat)
+      words="packets delivered in_flight retransmissions lost bytes useful rate goodput time first last fct jain"
+      words+=" utilisation jitter drops.denied drops.nopipe drops.noinstance drops.lost drops.full drops.codel drops.deleted drops.budget"
+      words+=" delay.min delay.mean delay.p50 delay.p95 delay.p99 delay.max"
+      ;;
     *:--interval) words="t bootstrap" ;;
     *:--ci) words="90 95 99" ;;
     *:--every | *:--bin) words="10ms 100ms 1s" ;;

@@ -17,13 +17,18 @@ _dnlab() {
     run:--max-* | alone:--max-*) ;;
     run:*) words="--workers --moves --max-steps --max-output --progress --explain --strict --help" ;;
     alone:*) words="--max-steps --max-output --progress --explain --strict --help" ;;
-    check:*) words="--explain --strict --help" ;;
+    check:*) words="--explain --json --strict --help" ;;
     live:*) words="--explain --help" ;;
     help:help) words="alone run check live help" ;;
     help:*) ;;
     *) words="alone run check live help --help --version" ;;
   esac
+  COMPREPLY=()
+  # Of the commands that read a scenario, a word that is no option is a file, which bash completes itself.
+  case $command:$before:$now in
+    alone:--*:* | run:--*:* | *:*:-*) ;;
+    alone:* | run:* | check:*) return ;;
+  esac
   mapfile -t COMPREPLY < <(compgen -W "$words" -- "$now")
 }
-# A scenario is read from standard input, so file names stand behind `<`, where bash completes them itself.
-complete -F _dnlab dnlab
+complete -o default -F _dnlab dnlab
