@@ -1,9 +1,10 @@
-// The page: a text is run at each change of it, in a worker; what came of it is shown, beside another setting if wanted.
+// The page: a text is run at each change of it, in a worker; what came of it is shown, next to an experiment that is kept.
 "use strict";
 const at = (name) => document.getElementById(name), coded = new TextEncoder(), plain = new TextDecoder();
 const MOST_SHOWN = 200_000, PAUSE = 120;
 const examples = JSON.parse(at("examples").textContent);
-let worker = null, module = null, turn = 0, waiting = 0, shown = null, kept = null;
+const NONE = "choose an example";
+let worker = null, module = null, turn = 0, waiting = 0, shown = null, kept = null, asked = "";
 
 // ---- runs
 
@@ -24,6 +25,7 @@ function run() {
   clearTimeout(waiting);
   const text = at("text").value, {sliders, wrong} = slidersOf(text);
   showSliders(sliders);
+  nameText(text);
   keepLink(text);
   if (!at("stop").disabled) stop();
   if (wrong.length) {
@@ -34,8 +36,8 @@ function run() {
   if (!worker) start();
   at("stop").disabled = false;
   say("running ..");
-  const whole = filled(text, sliders);
-  worker.postMessage({turn: ++turn, module, text: coded.encode(whole), traced: coded.encode(tracing(whole))});
+  asked = filled(text, sliders);
+  worker.postMessage({turn: ++turn, module, text: coded.encode(asked), traced: coded.encode(tracing(asked))});
 }
 function answered(data) {
   at("stop").disabled = true;
@@ -46,7 +48,7 @@ function answered(data) {
     return;
   }
   if (data.turn !== turn) return;
-  shown = {...data, text: at("text").value, experiments: data.found.status ? [] : readReport(plain.decode(data.drawn))};
+  shown = {...data, experiments: data.found.status ? [] : readReport(plain.decode(data.drawn), asked)};
   at("version").textContent = `dnlab ${data.version}`;
   show();
   document.body.dataset.turn = data.turn;
@@ -59,7 +61,7 @@ function show() {
   const {found, said, spent} = shown;
   at("said").textContent = firstLine(found) + plain.decode(said);
   at("report").textContent = plain.decode(found.bytes.subarray(0, MOST_SHOWN)) + (found.bytes.length > MOST_SHOWN ? "\n.. and more: download it" : "");
-  say(found.status ? `status ${found.status}: no report` : `status 0: ${found.bytes.length} bytes of report in ${spent.toFixed(1)} ms${shown.isLong ? ", too long to be drawn" : ""}`);
+  say(found.status ? "no report: the scenario has a fault, see below it" : `ran in ${spent.toFixed(1)} ms${shown.isLong ? "; the report is too long to be drawn" : ""}`);
   const names = shown.experiments.map((one) => one.name), chosen = at("experiment").value;
   at("experiment").replaceChildren(...names.map((name) => new Option(name, name)));
   if (names.includes(chosen)) at("experiment").value = chosen;
@@ -70,19 +72,26 @@ function chosenOf(experiments) {
   return experiments.find((one) => one.name === at("experiment").value) || experiments[0];
 }
 function pictures() {
-  const sides = [kept && ["kept", chosenOf(kept.experiments)], shown && ["now", chosenOf(shown.experiments)]].filter((it) => it && it[1]);
-  const panels = sides.map(([, one]) => panelsOf(one)), until = Math.max(1, ...sides.map(([, one]) => one.last));
-  const titles = [...new Set(panels.flat().map((panel) => panel.title))];
+  const sides = [kept && ["kept", kept], shown && ["now", chosenOf(shown.experiments)]].filter((it) => it && it[1]);
+  const until = Math.max(1, ...sides.map(([, one]) => one.last)), [begin, end] = span && span[1] <= until ? span : [0, until];
   at("pictures").className = sides.length > 1 ? "two" : "one";
+  const panels = sides.map(([, one]) => panelsOf(one, begin, end, at("acks").checked)), wide = widthOf();
+  const titles = [...new Set(panels.flat().map((panel) => panel.title))];
+  drawn = [];
+  at("tip").hidden = true;
   at("pictures").innerHTML = sides.map(([side, one]) => `<p class="counters">${sides.length > 1 ? `<b>${side}</b>: ` : ""}${escaped(countersOf(one))}</p>`).join("")
     + titles.map((title) => panels.map((own) => {
-      const panel = own.find((it) => it.title === title), all = panels.flat().filter((it) => it.title === title);
-      return `<div>${panel ? svgOf(panel, until, greatest(all)) : ""}</div>`;
+      const panel = own.find((it) => it.title === title), most = greatest(panels.flat().filter((it) => it.title === title));
+      if (!panel) return "<div></div>";
+      const frame = {begin, end, until, most: 1.05 * most, wide};
+      return `<div data-place="${drawn.push({panel, frame}) - 1}">${svgOf(panel, frame)}</div>`;
     }).join("")).join("");
 }
+// The width of a picture (px): of a column of those that there are.
+const widthOf = () => Math.max(Math.floor(parseFloat(getComputedStyle(at("pictures")).gridTemplateColumns)) || at("pictures").clientWidth, 240);
 function countersOf(one) {
   const [made, delivered, held, ...drops] = one.counters || [];
-  return `${one.name}: ${made} packets made, ${delivered} delivered, ${drops.reduce((sum, it) => sum + it, 0)} dropped, ${held} under way at the end${one.isSpent ? "; its steps were spent" : ""}`;
+  return `${one.name}: ${made} packets made, ${delivered} delivered, ${drops.reduce((sum, it) => sum + it, 0)} dropped, ${held} in flight at the end${one.isSpent ? "; its steps ran out" : ""}`;
 }
 
 // ---- sliders
@@ -100,6 +109,10 @@ function showSliders(sliders) {
 function sliderOf({name, least, most, step, value}) {
   const label = document.createElement("label"), input = document.createElement("input"), output = document.createElement("output");
   Object.assign(input, {type: "range", min: least, max: most, step, value});
+  input.id = `slider-${name}`;
+  input.setAttribute("aria-label", name);
+  Object.assign(label, {htmlFor: input.id});
+  output.htmlFor = input.id;
   label.dataset.name = name;
   label.append(`${name} `, input, " ", output);
   input.addEventListener("input", () => {
@@ -123,16 +136,20 @@ async function unpacked(word) {
 }
 let linked = "";
 async function keepLink(text) {
-  const word = await packed(text);
+  const of = lesson ? `lesson=${lesson.name}` : "", word = lesson?.text === text ? "" : `s=${await packed(text)}`;
   if (text !== at("text").value) return;
-  linked = `#s=${word}`;
+  linked = `#${[of, word].filter(Boolean).join("&")}`;
   history.replaceState(null, "", linked);
 }
+// Takes lesson and text from the address; whether it has one of them.
 async function fromLink() {
-  const word = /^#s=([\w-]+)$/.exec(location.hash)?.[1];
-  if (!word || location.hash === linked) return false;
+  const [, name, word] = /^#(?:lesson=([\w-]+))?&?(?:s=([\w-]+))?$/.exec(location.hash) || [];
+  if ((!name && !word) || location.hash === linked) return false;
+  showLesson(name);
+  if (!word && !lesson) return false;
+  span = null;
   try {
-    at("text").value = await unpacked(word);
+    at("text").value = word ? await unpacked(word) : lesson.text;
     return true;
   } catch {
     say("the address holds no scenario");
@@ -156,14 +173,34 @@ function download(bytes, name) {
 }
 const scenario = () => filled(at("text").value, slidersOf(at("text").value).sliders);
 
+// ---- examples
+
+function listExamples() {
+  at("example").append(new Option(NONE, ""));
+  for (const [topic, texts] of Object.entries(examples)) {
+    const group = Object.assign(document.createElement("optgroup"), {label: topic});
+    group.append(...Object.entries(texts).map(([name, text]) => new Option(name, text)));
+    at("example").append(group);
+  }
+}
+// The list says whose text it is, if it is one of its own.
+const nameText = (text) => { at("example").value = [...at("example").options].some((it) => it.value === text) ? text : ""; };
+function showText(text) {
+  at("text").value = text;
+  span = null;
+  run();
+}
+
 // ---- the page
 
 function listen() {
   at("text").addEventListener("input", () => { clearTimeout(waiting); waiting = setTimeout(run, PAUSE); });
-  at("example").addEventListener("change", () => { at("text").value = examples[at("example").value]; run(); });
-  at("experiment").addEventListener("change", pictures);
+  at("example").addEventListener("change", () => { if (at("example").value) { showLesson(null); showText(at("example").value); } });
+  at("again").addEventListener("click", () => showText(lesson.text));
+  at("acks").addEventListener("change", pictures);
+  at("experiment").addEventListener("change", () => { span = null; pictures(); });
   at("stop").addEventListener("click", () => stop("stopped"));
-  at("keep").addEventListener("click", () => { kept = shown && !shown.found.status ? shown : kept; at("drop").disabled = !kept; pictures(); });
+  at("keep").addEventListener("click", () => { kept = chosenOf(shown?.experiments || []) || kept; at("drop").disabled = !kept; pictures(); });
   at("drop").addEventListener("click", () => { kept = null; at("drop").disabled = true; pictures(); });
   at("copy-link").addEventListener("click", () => copy(location.href, "link"));
   at("copy-scenario").addEventListener("click", () => copy(scenario(), "scenario"));
@@ -171,6 +208,7 @@ function listen() {
   at("save-scenario").addEventListener("click", () => download(scenario(), "scenario.txt"));
   at("save-report").addEventListener("click", () => download(shown ? shown.found.bytes : "", "report.txt"));
   addEventListener("hashchange", async () => { if (await fromLink()) run(); });
+  addEventListener("resize", pictures);
   addEventListener("keydown", (event) => {
     if (event.key === "Escape" && !at("stop").disabled) stop("stopped");
     if (event.key === "Enter" && event.ctrlKey) run();
@@ -179,9 +217,11 @@ function listen() {
 async function begin() {
   const text = atob(at("module").textContent.trim());
   module = await WebAssembly.compile(Uint8Array.from(text, (sign) => sign.charCodeAt(0)));
-  for (const name of Object.keys(examples)) at("example").append(new Option(name, name));
+  listExamples();
+  listLessons();
   listen();
-  if (!(await fromLink())) at("text").value = Object.values(examples)[0];
+  listenToPictures();
+  if (!(await fromLink())) at("text").value = Object.values(Object.values(examples)[0])[0];
   run();
 }
 begin().catch((fault) => { say(`this browser can't run it: ${fault}`); document.body.dataset.failed = String(fault); });

@@ -21,7 +21,7 @@ async function opened(address) {
 }
 // How long a call may take (ms). A browser may lose one, if its page goes while it is asked: none is waited for without end.
 const PATIENCE = 60000;
-// Calls by number; what comes without one is told to `heard`. A call fails if the browser goes, or is silent for too long.
+// Calls by number; messages without one go to `heard`. A call fails if the browser goes, or is silent for too long.
 function callsOf(socket, heard) {
   const waiting = new Map();
   let next = 0, isGone = false;
@@ -41,7 +41,7 @@ function callsOf(socket, heard) {
 const isOutside = (url) => !/^(file|blob|data|about|chrome|resource|moz-extension):/.test(url);
 
 async function chromium(program, profile, faults) {
-  const words = [program, "--headless", "--no-sandbox", "--disable-gpu", "--window-size=1400,1300", "--remote-debugging-port=0", `--user-data-dir=${profile}`, "about:blank"];
+  const words = [program, "--headless", "--no-sandbox", "--disable-gpu", "--hide-scrollbars", "--window-size=1400,1300", "--remote-debugging-port=0", `--user-data-dir=${profile}`, "about:blank"];
   const socket = await begun(words, profile, async () => {
     const [port] = fs.readFileSync(path.join(profile, "DevToolsActivePort"), "utf8").split("\n");
     return (await (await fetch(`http://127.0.0.1:${port}/json`)).json()).find((it) => it.type === "page").webSocketDebuggerUrl;
@@ -98,5 +98,5 @@ async function firefox(program, profile, faults) {
   };
 }
 
-// Begins a browser, whose profile is a folder of its own; `faults` is told what pages do wrong.
+// Begins a browser, whose profile is a folder of its own; `faults` receives the errors of pages.
 export const begin = (kind, program, profile, faults) => (kind === "firefox" ? firefox : chromium)(program, profile, faults);

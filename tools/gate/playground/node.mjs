@@ -5,7 +5,7 @@ import vm from "node:vm";
 
 const [module, root] = process.argv.slice(2);
 const files = ["python/dnlab/plot/page.shared.js", ...["engine", "scenario", "report"].map((name) => `playground/${name}.js`)];
-const names = "{Engine, firstLine, slidersOf, filled, moved, tracing, readReport, panelsOf, NO_MEMORY}";
+const names = "{Engine, firstLine, slidersOf, filled, moved, tracing, readReport, panelsOf}";
 const page = new vm.Script(files.map((file) => fs.readFileSync(path.join(root, file), "utf8")).join("\n") + `\n;(${names})`).runInThisContext();
 const asked = JSON.parse(fs.readFileSync(0, "utf8")), compiled = await WebAssembly.compile(fs.readFileSync(module));
 const made = async () => new page.Engine(await WebAssembly.instantiate(compiled, {}));
@@ -39,6 +39,10 @@ const blocks = asked.blocks.map((sizes) => {
 });
 const sliders = asked.sliders.map((text) => { const found = page.slidersOf(text); return {...found, filled: page.filled(text, found.sliders)}; });
 const moved = page.moved(asked.sliders[0], page.slidersOf(asked.sliders[0]).sliders[0], 7);
-const traced = engine.alone(new TextEncoder().encode(page.tracing(plain.decode(bytesOf(asked.drawn)))));
-const panels = page.readReport(plain.decode(traced.bytes)).map((one) => ({name: one.name, counters: one.counters, panels: page.panelsOf(one)}));
+// What is drawn of texts: all of them, and of spans of time (ns).
+function drawn({text, begin, end, acks}) {
+  const words = plain.decode(bytesOf(text)), traced = engine.alone(new TextEncoder().encode(page.tracing(words)));
+  return page.readReport(plain.decode(traced.bytes), words).map((one) => ({name: one.name, counters: one.counters, last: one.last, panels: page.panelsOf(one, begin, end, acks)}));
+}
+const panels = asked.drawn.map(drawn);
 process.stdout.write(JSON.stringify({runs, grown, blocks, sliders, moved, panels, version: engine.version()}));

@@ -47,18 +47,50 @@ for (const {name, text} of asked.peers) {
 told("moves sliders");
 await typed(asked.slider);
 answer.sliders = await value('at("sliders").textContent');
-await value('at("keep").click()');
 const moving = await value('(() => { const it = at("sliders").querySelector("input"); it.value = it.min; it.dispatchEvent(new Event("input")); return turn; })()');
 await until(`+document.body.dataset.turn === ${moving}`);
 answer.moved = await value('at("text").value');
-answer.sides = await value('at("pictures").querySelectorAll(".counters").length');
-answer.svgs = await value('[...at("pictures").querySelectorAll("svg")].map((it) => it.getAttribute("aria-label"))');
-await keep("playground");
 await until('location.hash.startsWith("#s=")');
 await sleep(200);
 const link = await value("location.href");
-const left = await value("turn");
+told("keeps an experiment");
+await typed(asked.two);
+const chosen = (name) => `at("experiment").value = "${name}"; at("experiment").dispatchEvent(new Event("change"));`;
+await value(`(() => { ${chosen("deep")} at("keep").click(); ${chosen("codel")} })()`);
+answer.kept = await value('[...at("pictures").querySelectorAll(".counters")].map((it) => it.textContent.split(": ").slice(0, 2).join(": "))');
+answer.svgs = await value('[...at("pictures").querySelectorAll("svg[role=img]")].map((it) => it.getAttribute("aria-label"))');
+// The letters as they are shown: of pictures also by their scale.
+answer.letters = await value('Math.min(...[...document.querySelectorAll("body *")].filter((it) => it.getClientRects().length && it.textContent.trim())'
+  + '.map((it) => parseFloat(getComputedStyle(it).fontSize) * (it.ownerSVGElement ? it.ownerSVGElement.getScreenCTM().a : 1)))');
+await value("scrollTo(0, 0)");
+await keep("playground");
+await value('at("drop").click()');
+told("zooms");
+await typed(asked.four);
+// A pointer over the first picture, at a share of its width.
+const pointed = (kind, share) => `(() => { const svg = at("pictures").querySelector("svg[role=img]"), box = svg.getBoundingClientRect(), wide = drawn[0].frame.wide;
+  svg.dispatchEvent(new PointerEvent("pointer${kind}", {bubbles: true, button: 0, clientX: box.left + LEFT + ${share} * (wide - LEFT - RIGHT), clientY: box.top + 60})); })()`;
+await value(pointed("move", 11.2 / 42.4));
+answer.tip = await value('at("tip").textContent.split("\\n")');
+await value('document.querySelector("[data-move=\\"+\\"]").click()');
+answer.zoom = [await value("[...span]")];
+await value('at("pictures").dispatchEvent(new KeyboardEvent("keydown", {key: "0"}))');
+answer.zoom.push(await value("span"));
+await value(pointed("down", 0.25));
+await value(pointed("up", 0.5));
+answer.dragged = await value("[...span]");
+answer.topics = await value('[...document.querySelectorAll("optgroup")].map((it) => it.label)');
+await typed(asked.unended);
+answer.unended = [await textOf("said"), (await textOf("report")).trim().split("\n").at(-1)];
+told("opens a lesson");
+const before = await value("turn");
+await value('location.hash = "#lesson=queue"');
+await until(`+document.body.dataset.turn > ${before}`);
+answer.lesson = [await textOf("lesson-title"), await value("location.hash"), await value('at("unfold").open'),
+  await value('/\\d+ ms after it was sent/.exec(at("answer").textContent)[0].split(" after")[0]'), await value('at("sliders").children.length')];
+await keep("lesson");
 told("has the engine trap");
+const left = await value("turn");
 await value('worker.postMessage({turn: ++turn, module, text: null, traced: null})');
 await until(`+document.body.dataset.turn > ${left}`);
 answer.trapped = [await textOf("state"), await value("worker === null")];
