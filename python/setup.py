@@ -26,7 +26,7 @@ def has_program() -> bool:
         return True
     found = shutil.which(os.environ.get("DNLAB") or "dnlab")
     # The script that pip makes for this package is no program.
-    return found is not None and b"dnlab.programs" not in Path(found).read_bytes()[:4096]
+    return found is not None and b"dnlab.cli.program" not in Path(found).read_bytes()[:4096]
 
 
 class Carrying(Distribution):  # type: ignore[misc]  # setuptools has no types here

@@ -1,4 +1,4 @@
-"""Reports of dnlab, for those who script.
+"""Reads, runs and analyses reports of dnlab from Python.
 
     import dnlab
     r = dnlab.run(text, workers=4)            # or dnlab.read("report.txt", "scenario.txt")
@@ -7,36 +7,36 @@
     r["q50-s1"].windows(), .queues(), .drops(), .commands(), .counters, .ended
     r.summary(percentiles=(50, 95, 99))       # a row for each sender, pipe and experiment, with seed and settings
     dnlab.sweep("link.tmpl", queue=[10, 50], seed=range(30)).table()   # a template's means, with their intervals
-    with dnlab.live() as session:             # a program of one's own on a link (dnlab.session.sessions, dnlab.sim, dnlab.senders)
+    with dnlab.live() as session:             # your own program on a link (dnlab.session.sessions, dnlab.sim, dnlab.senders)
         link = session.experiment("mine", seed=1)
 
-Moments and times are whole nanoseconds (int64), sizes bytes, rates bits per second; nothing is rounded on the way.
-`read` and `run` need numpy and pandas, `sweep` scipy and jinja2 too, pictures matplotlib (Debian: apt-get install
+Times are whole nanoseconds (int64), sizes are bytes, rates are bits per second; nothing is rounded on the way.
+`read` and `run` need numpy and pandas, `sweep` also scipy and jinja2, pictures matplotlib (Debian: apt-get install
 python3-numpy python3-pandas python3-scipy python3-jinja2 python3-matplotlib). `live`, `dnlab.io.scenario` and
-`dnlab.io.splitting` need Python alone.
+`dnlab.io.splitting` need only Python.
 """
 import importlib.util
 from typing import TYPE_CHECKING, Any
 
-from dnlab.errors import Failed, Faulty, Refused
+from dnlab.errors import InputError, ParseError, ProgramError
 
 if TYPE_CHECKING:
     from dnlab.analysis.figures import interval, jain
     from dnlab.analysis.reports import Report, read
     from dnlab.analysis.results import Experiment, intervals
     from dnlab.sweeps.runs import run
-    from dnlab.session.events import CommandRefused, Event, NotTaken, Over, Packet
+    from dnlab.session.events import CommandRefusedError, Event, ExperimentEndedError, LineRejectedError, Packet
     from dnlab.session.links import Link
     from dnlab.session.sessions import Session, live
     from dnlab.sweeps.sweeping import Sweep, sweep
 
 __version__ = "0.2.0"
-__all__ = ["CommandRefused", "Event", "Experiment", "Failed", "Faulty", "Link", "NotTaken", "Over", "Packet", "Refused",
-           "Report", "Session", "Sweep", "interval", "intervals", "jain", "live", "read", "run", "sweep"]
+__all__ = ["CommandRefusedError", "Event", "Experiment", "ExperimentEndedError", "InputError", "LineRejectedError", "Link", "Packet",
+           "ParseError", "ProgramError", "Report", "Session", "Sweep", "interval", "intervals", "jain", "live", "read", "run", "sweep"]
 _PLACES = {"Experiment": "analysis.results", "Report": "analysis.reports", "intervals": "analysis.results",
            "read": "analysis.reports", "run": "sweeps.runs", "interval": "analysis.figures", "jain": "analysis.figures",
-           "Sweep": "sweeps.sweeping", "sweep": "sweeps.sweeping", "CommandRefused": "session.events",
-           "Event": "session.events", "NotTaken": "session.events", "Over": "session.events", "Packet": "session.events",
+           "Sweep": "sweeps.sweeping", "sweep": "sweeps.sweeping", "CommandRefusedError": "session.events",
+           "Event": "session.events", "LineRejectedError": "session.events", "ExperimentEndedError": "session.events", "Packet": "session.events",
            "Link": "session.links", "Session": "session.sessions", "live": "session.sessions"}
 _MODULES = ("hosts", "sim")
 _NEEDS: dict[str, tuple[str, ...]] = {"analysis.results": ("numpy", "pandas"), "analysis.reports": ("numpy", "pandas"),
@@ -45,7 +45,7 @@ _NEEDS: dict[str, tuple[str, ...]] = {"analysis.results": ("numpy", "pandas"), "
 
 
 def __getattr__(name: str) -> Any:
-    """Loads what is asked for, so that what needs no numpy works without it."""
+    """Imports a name on first use, so that parts that don't need numpy work without it."""
     if name in _MODULES:
         return importlib.import_module(f"dnlab.{name}")
     if name not in _PLACES:

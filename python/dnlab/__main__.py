@@ -8,12 +8,12 @@ from types import ModuleType
 from typing import Optional, Sequence
 
 if not __package__:
-    # Called by the file's name: the package stands above.
+    # Called by file name: the package is in the parent folder.
     sys.path[0] = str(Path(__file__).resolve().parent.parent)
 
 from dnlab import __version__  # noqa: E402  (the path is set first)
 
-# What the machine lacks; `dnlab.errors` has it, which numpy's want must not keep from being said.
+# The status for something missing on this machine. Equal to `dnlab.errors.MACHINE`, which a missing numpy must not hide.
 MACHINE = 3
 COMMANDS = ("summary", "plot", "spread", "sweep", "compare", "expect", "view", "pcap", "from-ipfw", "to-ipfw", "to-tc", "replay", "rate-trace", "hosts")
 NEEDS = {"summary": ("numpy",), "plot": ("numpy", "matplotlib"), "spread": ("numpy",),
@@ -24,7 +24,7 @@ NEEDS = {"summary": ("numpy",), "plot": ("numpy", "matplotlib"), "spread": ("num
          "replay": ("dpkt",),
          "rate-trace": (),
          "hosts": ("yaml",)}
-# What pip calls a module, if it has another name.
+# pip's names of packages that differ from the module's name.
 PIP = {"yaml": "pyyaml"}
 HELP = """Tools for reports of dnlab, in Python.
 
@@ -32,14 +32,16 @@ HELP = """Tools for reports of dnlab, in Python.
 
   summary REPORT [SCENARIO ..]   prints a table, or rows for other programs
   plot REPORT [SCENARIO ..]      draws windows, queues, one-way delays and drops
-  spread SCENARIO ..             runs scenarios in parts, by ssh or by Slurm too
+  spread SCENARIO ..             runs scenarios in parts, also with ssh or Slurm
   sweep TEMPLATE --set ..        runs a template with each setting and seed
-  compare A B [SCENARIO ..]      says where two reports part, with their metrics
+  compare A B [SCENARIO ..]      finds where two reports diverge, and compares
+                                 their metrics
   expect REPORT [SCENARIO ..] BOUND ..
-                                 says whether a report keeps to bounds
+                                 checks a report against bounds
   view REPORT [SCENARIO ..]      makes a page to look at runs in a browser
-  pcap REPORT [SCENARIO ..]      writes packets as Wireshark reads them
-  from-ipfw FILE                 makes a scenario of a configuration of ipfw(8)
+  pcap REPORT [SCENARIO ..]      writes packets as a capture for Wireshark
+  from-ipfw FILE                 translates a configuration of ipfw(8) into a
+                                 scenario
   to-ipfw SCENARIO               writes its pipes and rules for ipfw(8)
   to-tc SCENARIO --dev ETH1      writes its pipes and rules for tc(8)
   replay FILE .. --link WORDS    sends the packets of a capture through a link
@@ -53,14 +55,14 @@ Example:
   python3 -m dnlab summary report.txt scenario.txt
   python3 -m dnlab plot report.txt scenario.txt --out picture.svg
 
-Exit status: that of the command; 1 a bound that fails or runs that differ, and
-nothing else; 2 wrong usage or a faulty input; 3 what this machine lacks (a
-package, room to write), or ended from outside.
+Exit status: that of the command; 1 only for a bound that fails or runs that
+differ; 2 wrong usage or a faulty input; 3 something is missing on this machine
+(a package, disk space), or a signal ended a process.
 """
 
 
 def missing(modules: Sequence[str]) -> Optional[str]:
-    """The first of some modules that isn't there."""
+    """Returns the first of the modules that is missing, or None."""
     for module in modules:
         try:
             importlib.import_module(module)
@@ -70,26 +72,26 @@ def missing(modules: Sequence[str]) -> Optional[str]:
 
 
 def said_of(command: str, module: str) -> str:
-    """What is said of a module that isn't there: which Python lacks it, and how it is had."""
+    """Returns the message for a missing module: which Python lacks it, and how to install it."""
     from dnlab.programs import called
 
     said = (f"{called(command)}: {module} is missing in {sys.executable} (pip install {PIP.get(module, module)}; Debian, for /usr/bin/python3: "
             f"apt-get install python3-{module}")
     if os.path.dirname(sys.executable) == "/usr/bin":
         return f"{said})"
-    # Here, since --help and --version need none of it.
+    # Imported here, because --help and --version don't need it.
     from dnlab.cli.words import as_installed
 
     return f"{said}, then {as_installed(f'PATH=/usr/bin:$PATH tools/{command}')} ..)"
 
 
 def module_of(command: str) -> ModuleType:
-    """The module of a command: that of from-ipfw is `dnlab.cli.from_ipfw`."""
+    """Returns the module of a command; for from-ipfw, `dnlab.cli.from_ipfw`."""
     return importlib.import_module(f"dnlab.cli.{command.replace('-', '_')}")
 
 
 def main(words: Optional[Sequence[str]] = None) -> int:
-    """Runs a command by its words, the command first; gives the status."""
+    """Runs a command and returns its exit status. The first of `words` is the command's name."""
     from dnlab.cli.streams import guarded
 
     with guarded():
@@ -98,18 +100,18 @@ def main(words: Optional[Sequence[str]] = None) -> int:
             with suppress(OSError) if status == MACHINE else nullcontext():
                 sys.stdout.flush()
             if status == MACHINE:
-                # It has said what is lacking, so Python's own flush needn't.
+                # The command has reported what is missing, so Python's own flush must not.
                 write_no_more()
             return status
         except BrokenPipeError:
-            # Who read the output has left.
+            # The reader of standard output has gone.
             said = ""
         except OSError as fault:
             from dnlab.errors import cause_of
 
             said = cause_of(fault)
         except MemoryError:
-            said = "there isn't memory enough"
+            said = "out of memory"
         write_no_more()
         if said:
             from dnlab.programs import say
@@ -119,7 +121,7 @@ def main(words: Optional[Sequence[str]] = None) -> int:
 
 
 def begun(words: Sequence[str]) -> int:
-    """Runs a command; gives its status."""
+    """Runs a command without handling errors of the output; returns its exit status."""
     if list(words[:1]) in (["--help"], ["-h"]):
         print(HELP, end="")
         return 0
@@ -132,7 +134,7 @@ def begun(words: Sequence[str]) -> int:
     from dnlab.processes import ending
 
     ending.watch(words[0])
-    # Help needs none of these, and ends by itself.
+    # --help needs none of these modules, and exits by itself.
     lacking = missing(NEEDS[words[0]]) if list(words[1:2]) not in (["--help"], ["-h"]) else None
     if lacking is not None:
         print(said_of(words[0], lacking), file=sys.stderr)
@@ -141,7 +143,7 @@ def begun(words: Sequence[str]) -> int:
 
 
 def write_no_more() -> None:
-    """Nothing more goes to standard output, by Python's own flush neither."""
+    """Discards all further output to standard output, also that of Python's own flush."""
     os.dup2(os.open(os.devnull, os.O_WRONLY), sys.stdout.fileno())
 
 

@@ -1,10 +1,10 @@
-"""What the package refuses, and how it says so."""
+"""The exceptions of the package, and the exit statuses and messages that commands derive from them."""
 
 
-class Refused(Exception):
-    """A text is not what it should be: its line (counted from 1) and the cause.
+class ParseError(Exception):
+    """A malformed input: the line (counted from 1) and the cause.
 
-    >>> str(Refused(3, "no line of a report"))
+    >>> str(ParseError(3, "no line of a report"))
     'line 3: no line of a report'
     """
 
@@ -14,35 +14,35 @@ class Refused(Exception):
         self.cause = cause
 
     def __reduce__(self) -> tuple[type, tuple[int, str]]:
-        """So that it passes from one process to another whole."""
-        return Refused, (self.line, self.cause)
+        """Makes pickling between processes keep line and cause."""
+        return ParseError, (self.line, self.cause)
 
 
-class Faulty(Exception):
+class InputError(Exception):
     """An input that can't be used: the file, the line if there is one, and the cause."""
 
 
-class Lacking(Faulty):
-    """What this machine lacks: a package, room on a disk, a folder that can be written to."""
+class ResourceError(InputError):
+    """Something that is missing on this machine: a package, disk space, a writable folder."""
 
 
-# What a command's status says: 1 is kept for bounds that fail and runs that differ.
+# Exit statuses of commands: 1 is reserved for bounds that fail and runs that differ.
 DIFFERS, INPUT, MACHINE = 1, 2, 3
 
 
 def status_of(fault: Exception) -> int:
-    """The status of a fault: 3 of what the machine or the program lacks, else 2.
+    """Returns the exit status for an exception: 3 if the machine or the program lacks something, else 2.
 
-    >>> status_of(Faulty("report.txt: line 3: ..")), status_of(Lacking("numpy is missing"))
+    >>> status_of(InputError("report.txt: line 3: ..")), status_of(ResourceError("numpy is missing"))
     (2, 3)
     """
-    return MACHINE if isinstance(fault, (Lacking, OSError, MemoryError)) else INPUT
+    return MACHINE if isinstance(fault, (ResourceError, OSError, MemoryError)) else INPUT
 
 
 def cause_of(fault: Exception) -> str:
-    """Returns what a command says of a fault: of the machine's the file, or standard output, and the reason.
+    """Returns the message for an exception; for an `OSError` the file, or standard output, and the reason.
 
-    >>> cause_of(OSError(28, "No space left on device")), cause_of(Faulty("a.txt: line 3: .."))
+    >>> cause_of(OSError(28, "No space left on device")), cause_of(InputError("a.txt: line 3: .."))
     ('writing to standard output: No space left on device', 'a.txt: line 3: ..')
     """
     if isinstance(fault, OSError) and fault.strerror:
@@ -50,8 +50,8 @@ def cause_of(fault: Exception) -> str:
     return str(fault)
 
 
-class Failed(Exception):
-    """The program `dnlab` ended with a status that isn't 0: `status` and its standard error."""
+class ProgramError(Exception):
+    """The program `dnlab` ended with a status other than 0. Has `status`, and `said`, its standard error."""
 
     def __init__(self, status: int, said: str) -> None:
         super().__init__(f"dnlab ended with status {status}: {said}")
@@ -59,5 +59,5 @@ class Failed(Exception):
         self.said = said
 
     def __reduce__(self) -> tuple[type, tuple[int, str]]:
-        """So that it passes from one process to another whole."""
-        return Failed, (self.status, self.said)
+        """Makes pickling between processes keep status and text."""
+        return ProgramError, (self.status, self.said)

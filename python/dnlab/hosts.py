@@ -1,17 +1,19 @@
-"""Programs on a session's link: hosts that are called when a packet comes to them, timers, and generators."""
+"""Your programs on a session's link: hosts that are called when a packet arrives, timers, and generators."""
 import heapq
 from typing import Callable, Generator, Iterable, Union
 
 from dnlab.session.events import LATEST, Address, Event
 from dnlab.session.links import Link
 
-# A program that yields the moment (ns) until which it waits, and is sent the events since.
+# A generator that yields the time (ns) until which it waits, and is sent the events since then.
 Waiting = Generator[int, list[Event], None]
 
 
 class Loop:
-    """Hosts and timers over a link. A host is called with each packet that is delivered to its address, a timer at its
-    moment; packets of a moment come before timers of the same one."""
+    """Hosts and timers on a link.
+
+    A host is called for each packet that is delivered to its address, a timer at its time. Packets come before timers of the
+    same time."""
 
     def __init__(self, link: Link) -> None:
         self.link = link
@@ -21,21 +23,23 @@ class Loop:
 
     @property
     def now(self) -> int:
-        """The least moment (ns) at which something can be done."""
+        """Returns the earliest time (ns) at which something can be done."""
         return self.link.now
 
     def host(self, address: Address, receive: Callable[[Event], None]) -> None:
-        """Whoever has this address is called with each delivery to it."""
+        """Calls `receive` for each delivery to an address."""
         self._hosts[address] = receive
 
     def at(self, moment: int, call: Callable[[], None]) -> None:
-        """The call is made at a moment (ns), now if that is past."""
+        """Schedules a call at a time (ns), or now if that is past."""
         self._count += 1
         heapq.heappush(self._timers, (moment, self._count, call))
 
     def run(self, until: int = LATEST, hold: int = 1) -> None:
-        """Time goes to `until` (ns); hosts and timers are called on the way. It ends earlier if the experiment is over,
-        or if no timer is left and nothing is due on the link. `hold` is that of `Link.until_mine`."""
+        """Advances time to `until` (ns), calling hosts and timers.
+
+        Stops earlier if the experiment ends, or if no timer is left and nothing is due on the link. `hold` is that of
+        `Link.until_mine`."""
         while not self.link.is_over and self.now < until:
             while self._timers and self._timers[0][0] <= self.now:
                 heapq.heappop(self._timers)[2]()
@@ -51,7 +55,7 @@ class Loop:
 
 
 class _Player:
-    """A program that has begun."""
+    """A generator that has started."""
 
     def __init__(self, program: Waiting) -> None:
         self.program = program
@@ -66,8 +70,10 @@ class _Player:
 
 
 def play(link: Link, programs: Iterable[Waiting], until: int = LATEST) -> None:
-    """Each program is a generator: it yields the moment (ns) until which it waits, and is sent the events since, of all
-    packets. So it goes on at that moment or after the first event; it ends by returning. Time goes to `until` at most."""
+    """Runs generators until they end, or until time `until` (ns).
+
+    A generator yields the time (ns) until which it waits, and is sent the events of all packets since then. It continues at
+    that time or after the first event, and ends by returning."""
     players = [_Player(program) for program in programs]
     for player in players:
         player.step(None)

@@ -1,18 +1,18 @@
-"""An event loop for asyncio in simulated time: programs that use its datagrams run over a link of dnlab, unchanged.
+"""An asyncio event loop in simulated time. Programs that use datagrams run unchanged over a link.
 
     async def main():
         loop = asyncio.get_running_loop()
         with sim.host("10.0.1.1"):
             await loop.create_datagram_endpoint(Server, local_addr=("0.0.0.0", 53))
-        await asyncio.sleep(3600)                      # costs no real time
+        await asyncio.sleep(3600)                      # takes no real time
 
     with dnlab.live() as session:
         link = session.experiment("loop", seed=1)
         link.command("add 100 allow ip from any to any")
         dnlab.sim.run(main(), link=link)
 
-Nothing waits for real time and no socket is opened, so two runs have one transcript, where the program's own chances have
-seeds. Streams, subprocesses and signals of the loop are refused; what is handed to an executor is done at once.
+Nothing waits for real time and no socket is opened, so two runs have the same transcript if the program seeds its own random
+numbers. Streams, subprocesses and signals are refused; work for an executor is done at once.
 """
 import asyncio
 import errno
@@ -26,11 +26,11 @@ from dnlab.session.datagrams import Network, fault_of, here, host
 from dnlab.session.events import LATEST, Address, Event
 from dnlab.session.links import Link
 
-__all__ = ["Deadlock", "Loop", "host", "run"]
+__all__ = ["DeadlockError", "Loop", "host", "run"]
 _Result = TypeVar("_Result")
-# What the machine's clock says at the link's moment 0: the beginning of 2026, in seconds since 1970.
+# The wall clock at the link's time 0: the start of 2026, in seconds since 1970.
 EPOCH = 1_767_225_600
-# So many turns of the loop without time passing are no program's intent.
+# This many turns of the loop without time passing must be a mistake.
 _MOST_TURNS = 1_000_000
 _REFUSED = ("create_connection", "create_server", "create_unix_connection", "create_unix_server", "connect_accepted_socket",
             "connect_read_pipe", "connect_write_pipe", "subprocess_shell", "subprocess_exec", "add_reader", "remove_reader",
@@ -39,12 +39,12 @@ _REFUSED = ("create_connection", "create_server", "create_unix_connection", "cre
             "remove_signal_handler")
 
 
-class Deadlock(Exception):
-    """Nothing will happen any more, and something still waits: the words say what for."""
+class DeadlockError(Exception):
+    """Nothing can happen any more, but tasks still wait. The text lists what each waits for."""
 
 
 def _waits(task: "asyncio.Task[Any]") -> str:
-    """Where a task waits."""
+    """Returns where a task waits."""
     inner: Any = task.get_coro()
     while True:
         further = getattr(inner, "cr_await", None) or getattr(inner, "ag_await", None) or getattr(inner, "gi_yieldfrom", None)
@@ -57,47 +57,47 @@ def _waits(task: "asyncio.Task[Any]") -> str:
 
 
 class _Selector:
-    """What asyncio's loop asks in place of the operating system: time passes on the link, to the first delivery."""
+    """The selector of the loop. Instead of waiting for the operating system, it advances the link's time to the first delivery."""
 
     def __init__(self, loop: "Loop") -> None:
         self._loop = loop
         self._turns = 0
 
     def select(self, timeout: Optional[float]) -> list[Event]:
-        """The deliveries and drops within a time (s); None is for ever."""
+        """Returns the deliveries and drops within a time (s); None means forever."""
         if timeout is not None and timeout <= 0:
             self._turns += 1
             if self._turns > _MOST_TURNS:
-                raise Deadlock(f"{_MOST_TURNS} turns of the loop, and no time passes (a loop round asyncio.sleep(0)?): "
+                raise DeadlockError(f"{_MOST_TURNS} turns of the loop, and no time passes (a loop round asyncio.sleep(0)?): "
                                + self._loop.waiting())
             return []
         self._turns = 0
         link = self._loop.link
         if timeout is None and link.next_due() is None or link.now >= LATEST:
-            raise Deadlock(f"nothing is due at {link.now} ns, and no timer is set: {self._loop.waiting()}")
-        # A timer's moment lies less than half a nanosecond from a whole one: seconds up to 10^6 have 53 bits.
+            raise DeadlockError(f"nothing is due at {link.now} ns, and no timer is set: {self._loop.waiting()}")
+        # A timer's time differs from a whole nanosecond by less than half of one: floats have 53 bits, and seconds go up to 10^6.
         until = LATEST if timeout is None else link.now + max(1, round(timeout * 1e9))
         return link.until_mine(min(until, LATEST), self._loop.hold)
 
 
 class Loop(asyncio.BaseEventLoop):
-    """The loop. `link` is the link and `hold` that of its `until_mine` (ns)."""
+    """The event loop. `link` is the link, `hold` (ns) that of its `until_mine`."""
 
     def __init__(self, link: Link, hold: int = 1, names: Optional[Mapping[str, str]] = None) -> None:
         super().__init__()
         self.link, self.hold = link, hold
         self._names = {"localhost": "127.0.0.1", **(names or {})}
         self._network = Network(link)
-        # asyncio's loop takes a timer that is due within this (s).
+        # asyncio runs a timer that is due within this time (s).
         self._clock_resolution = 1e-9
         self._selector = _Selector(self)
 
     def time(self) -> float:
-        """The link's time in seconds; its nanoseconds are `link.now`."""
+        """Returns the link's time in seconds; `link.now` is in nanoseconds."""
         return self.link.now / 1e9
 
     def waiting(self) -> str:
-        """What waits, for a message."""
+        """Returns what waits, for a message."""
         return "; ".join(sorted(map(_waits, asyncio.all_tasks(self)))) or "no task is left"
 
     def _process_events(self, events: list[Event]) -> None:
@@ -105,10 +105,10 @@ class Loop(asyncio.BaseEventLoop):
             self._network.deliver(event)
 
     def _write_to_self(self) -> None:
-        """Wakes a loop that waits for real time, which this one never does."""
+        """Does nothing: it would wake a loop that waits for real time, which this one never does."""
 
     def run_in_executor(self, executor: Any, func: Callable[..., Any], *args: Any) -> "asyncio.Future[Any]":
-        """Does it at once, and takes no simulated time."""
+        """Runs a function at once; this takes no simulated time."""
         future = self.create_future()
         try:
             future.set_result(func(*args))
@@ -117,13 +117,13 @@ class Loop(asyncio.BaseEventLoop):
         return future
 
     def address_of(self, name: Any) -> str:
-        """The IPv4 address of a name or address; that of the host if it names none. `OSError` if there is none."""
+        """Returns the IPv4 address of a name or address, or the current host's for an empty one. Raises `OSError` if unknown."""
         said = str(name or "0.0.0.0")
         said = self._names.get(said, said)
         try:
             found = ipaddress.ip_address(said)
         except ValueError:
-            raise socket.gaierror(socket.EAI_NONAME, f"{said} is no address, nor one of the names that were given") from None
+            raise socket.gaierror(socket.EAI_NONAME, f"{said} is neither an address nor one of the given names") from None
         if found.version != 4:
             raise fault_of(errno.EAFNOSUPPORT)
         return here() if found.is_unspecified or found.is_loopback else said
@@ -138,8 +138,8 @@ class Loop(asyncio.BaseEventLoop):
 
     async def create_datagram_endpoint(self, protocol_factory: Callable[[], Any], local_addr: Any = None,
                                        remote_addr: Any = None, *, family: int = 0, sock: Any = None, **_: Any) -> tuple[Any, Any]:
-        """An endpoint at an address of the link; without one at that of `host`, at a port that is free. `OSError` as an
-        operating system has it."""
+        """Creates an endpoint at an address of the link; without one, at a free port of the current `host`. Raises `OSError` as an
+        operating system does."""
         if sock is not None:
             raise ValueError("a real socket can't be used in simulated time")
         if family not in (0, socket.AF_INET):
@@ -155,7 +155,7 @@ class Loop(asyncio.BaseEventLoop):
 
 def _refusal(name: str) -> Callable[..., NoReturn]:
     def refused(*_: Any, **__: Any) -> NoReturn:
-        raise NotImplementedError(f"{name} isn't there in simulated time: only datagrams, timers and tasks are")
+        raise NotImplementedError(f"{name} is not available in simulated time: only datagrams, timers and tasks are")
     return refused
 
 
@@ -165,8 +165,8 @@ for _name in _REFUSED:
 
 @contextmanager
 def clocks(link: Link) -> Iterator[None]:
-    """Within the block `time.time`, `time.monotonic` and `time.perf_counter` say the link's time, also as `_ns`. What a
-    program took by `from time import ..` before stays the machine's."""
+    """Makes `time.time`, `time.monotonic` and `time.perf_counter` (also `_ns`) return the link's time within the block. Functions that
+    a program imported earlier (`from time import ..`) keep the machine's time."""
     kept = {name: getattr(time, name) for word in ("time", "monotonic", "perf_counter") for name in (word, word + "_ns")}
     for name in kept:
         begin = EPOCH * 10**9 if name.startswith("time") else 0
@@ -183,15 +183,14 @@ def clocks(link: Link) -> Iterator[None]:
 
 def run(main: Coroutine[Any, Any, _Result], *, link: Link, hold: int = 1, names: Optional[Mapping[str, str]] = None,
         has_clocks: bool = True) -> _Result:
-    """Runs a program to its end, and gives its result, as `asyncio.run`.
+    """Runs a coroutine to its end and returns its result, like `asyncio.run`.
 
     link        the link of a session, with its rules and pipes; it isn't ended
-    hold        for so long (ns) deliveries are gathered, as by a network card
+    hold        how long (ns) to collect deliveries, as a network card does
     names       the addresses of names: {"server": "10.0.1.1"}
-    has_clocks  whether the clocks of the module `time` say the link's time meanwhile
+    has_clocks  whether the clocks of the module `time` return the link's time meanwhile
 
-    `Deadlock` if all that is left waits for ever, `Over` if the experiment's steps are spent.
-    """
+    Raises `DeadlockError` if everything left waits forever, and `ExperimentEndedError` if the experiment's steps are spent."""
     with asyncio.Runner(loop_factory=lambda: Loop(link, hold, names)) as runner:
         if not has_clocks:
             return runner.run(main)

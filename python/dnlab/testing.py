@@ -1,4 +1,4 @@
-"""A fixture of pytest, `expect`: bounds on what a report tells, in the words of `dnlab-expect`. In `conftest.py`:
+"""A pytest fixture, `expect`, that checks a report against bounds in the form of `dnlab-expect`. In `conftest.py`:
 
     pytest_plugins = ["dnlab.testing"]
 
@@ -10,7 +10,7 @@ and in a test:
         expect(report, Path("bounds.txt"))
         expect(report, "all: drops == 0", allow="refused")
 
-Refused commands, and an experiment whose steps were spent, fail as well, unless `allow` names them.
+Refused commands, and an experiment whose steps are spent, also fail, unless `allow` names them.
 """
 from pathlib import Path
 from typing import Callable, Mapping, Optional, Sequence, Union
@@ -22,29 +22,29 @@ from dnlab.analysis.naming import with_names
 from dnlab.analysis.reports import Report
 from dnlab.analysis.spans import span_of
 from dnlab.analysis.summing import summed
-from dnlab.errors import Faulty
+from dnlab.errors import InputError
 
 
 def expecting(report: Report, *bounds: Union[str, Path], allow: Union[str, Sequence[str]] = (), begin: int = 0,
               end: Optional[int] = None, names: Optional[Mapping[str, str]] = None) -> None:
-    """Fails if a bound doesn't hold, if commands were refused and if steps were spent, with all bounds that were
-    looked at; `dnlab.Faulty` for what is no bound, and if there is nothing to judge.
+    """Fails unless all bounds hold, no command was refused and no steps were spent. The failure lists all bounds.
 
-    bounds  each one in words, or a file of them (`dnlab.analysis.bounds` has the form)
-    allow   `refused`, `spent`, or both: what doesn't fail
-    begin, end  only what happened from the moment `begin` on and before `end`, ns
-    names   of injected packets' sources, as in `dnlab.read`
-    """
+    bounds  each a text, or a file of them (`dnlab.analysis.bounds` has the form)
+    allow   `refused`, `spent`, or both: what is not a failure
+    begin, end  ignore what happened before `begin` and from `end` on, ns
+    names   names for sources of injected packets, as in `dnlab.read`
+
+    Raises `dnlab.InputError` for an invalid bound, and if there is nothing to judge."""
     allowed = allowed_of(allow if isinstance(allow, str) else ",".join(allow)) if allow else []
     found = []
     for number, one in enumerate(bounds, 1):
         found += bounds_in(one, one.read_text()) if isinstance(one, Path) else [bound_of(one, f"bound {number}")]
     if not found:
-        raise Faulty("no bound was given, so nothing is judged")
+        raise InputError("no bound was given, so nothing is judged")
     runs = list(summed(report.given, with_names(report.plans, names or {}), percentiles=percentiles_for(found),
                        span=span_of(begin, end)))
     if not runs:
-        raise Faulty(f"{report.given.report}: it has no experiment, so no bound can hold")
+        raise InputError(f"{report.given.report}: it has no experiment, so no bound can hold")
     failed = failing([(one.name, note) for one in runs for note in one.notes], allowed)
     judged = list(judge(found, [row for one in runs for row in one.rows], allow=allowed))
     if failed or not all(one.holds for one in judged):
@@ -53,5 +53,5 @@ def expecting(report: Report, *bounds: Union[str, Path], allow: Union[str, Seque
 
 @pytest.fixture
 def expect() -> Callable[..., None]:
-    """`expect(report, bound, .., allow="refused")`: fails if a bound doesn't hold or something wasn't done."""
+    """Returns `expect(report, bound, .., allow="refused")`, which fails like `expecting`."""
     return expecting

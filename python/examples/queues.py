@@ -3,7 +3,7 @@
 
     python3 python/examples/queues.py [SEEDS] > queues.txt
 
-One bottleneck of 10 Mbit/s with 20 ms each way, eight queues, and so many seeds of each (30): 240 experiments of five
+One bottleneck of 10 Mbit/s with 20 ms each way, eight queues, and 30 seeds of each: 240 experiments of five
 seconds. Four Reno flows begin at moments that the seed draws, and one packet in a thousand is lost; a train sends 100
 bytes each 20 ms, as a call does.
 

@@ -46,7 +46,7 @@ def test_runs_that_are_the_same_count_once(tmp_path: Path, program: str) -> None
 def test_small_habits(tmp_path: Path, program: str) -> None:
     scenario = ROOT / "cookbook/bufferbloat/scenario.txt"
     report = dnlab.run(str(scenario), dnlab=program)
-    with pytest.raises(KeyError, match="nope: there are deep, codel"):
+    with pytest.raises(KeyError, match="nope: there is no such experiment, only deep, codel"):
         report["nope"]
     shown = str(report["codel"])
     assert len(shown.splitlines()) <= 5 and "train 2" in shown and len(shown) < 500

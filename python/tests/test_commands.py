@@ -59,6 +59,15 @@ def test_summary_percentiles_and_rows() -> None:
     assert (rows[0]["seed"], rows[0]["ended"]) == ("0", "end")
 
 
+def test_some_columns() -> None:
+    words = ("summary", REPORT, SCENARIO, "--of", "train 1", "--columns", "p50,codel")
+    assert tool(*words, "--csv")[1] == "experiment,sender,p50,codel\ncodel-one-drop,train 1,120000001,1\n"
+    assert [line.split() for line in tool(*words)[1].splitlines()] == [
+        ["experiment", "sender", "p50", "ms", "codel"], ["codel-one-drop", "train", "1", "120.000", "1"]]
+    status, out, err = tool(*words, "--losses")
+    assert status == 2 and not out and "--losses" in err
+
+
 def test_other_tables() -> None:
     status, out, _ = tool("summary", REPORT, SCENARIO, "--every", "100ms", "--csv")
     assert status == 0 and out.startswith("experiment,sender,begin,end,packets,bytes,rate,useful,goodput,seed,varied,ended\n")
@@ -74,7 +83,7 @@ def test_other_tables() -> None:
 @pytest.mark.parametrize("name", ["median", "least", "completion", "again", "held", "nothing"])
 def test_a_column_has_one_name(name: str) -> None:
     status, out, err = tool("summary", REPORT, SCENARIO, "--by", "sender", "--columns", name)
-    assert (status, out) == (2, "") and f"no column {name}: experiment, sender, packets, delivered, in_flight, " in err
+    assert (status, out) == (2, "") and f"there is no column {name}; the columns are experiment, sender, packets, delivered, in_flight, " in err
 
 
 def test_the_printed_table_has_the_names_of_columns() -> None:
@@ -90,11 +99,11 @@ def test_the_printed_table_has_the_names_of_columns() -> None:
 def test_a_metric_has_one_name(name: str, tmp_path: Path) -> None:
     for words in (("expect", REPORT, SCENARIO, f"train 1: {name} >= 0"), ("compare", REPORT, REPORT, SCENARIO, "--tolerance", f"{name}=0")):
         status, out, err = tool(*words)
-        assert (status, out) == (2, "") and f"there is no metric '{name}': packets, delivered, in_flight, " in err
+        assert (status, out) == (2, "") and f"there is no metric '{name}'; the metrics are packets, delivered, in_flight, " in err
     template = tmp_path / "one.tmpl"
     template.write_text(SCENARIO.read_text().replace("experiment codel-one-drop", "experiment {{ name }}"))
     status, out, err = tool("sweep", template, "--of", "train 1", "--stat", name)
-    assert (status, out) == (2, "") and f"no stat '{name}': packets, delivered, in_flight, " in err
+    assert (status, out) == (2, "") and f"there is no statistic '{name}'; use one of packets, delivered, in_flight, " in err
 
 
 def test_times_for_people_are_ms() -> None:

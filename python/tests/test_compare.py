@@ -15,7 +15,7 @@ from dnlab.analysis.bounds import bound_of, bounds_in
 from dnlab.analysis.metrics import metric_of
 from dnlab.analysis.parting import parting
 from dnlab.analysis.view import View
-from dnlab.errors import Faulty
+from dnlab.errors import InputError
 from dnlab.io import scenario
 from dnlab.io.report import read
 from dnlab.units import amount_of, shown
@@ -96,15 +96,15 @@ def test_where_they_part(two: list[Path]) -> None:
     a, plan, b, other = two
     status, out, _ = tool("compare", a, b, plan, other, "--lines", "1")
     lines = out.split("\n")
-    assert lines[:6] == ["a: they part at 1000000 ns",
+    assert lines[:6] == ["a: they diverge at 1000000 ns",
                          "  only in A: line 2: @0 pipe 1 config bw 8Mbit/s delay 10",
                          "  only in B: line 2: @0 pipe 1 config bw 4Mbit/s delay 10",
-                         "  last equal: none, they part at the first",
+                         "  last equal: none, they diverge at the first line",
                          "  A: line 5: 1000000 ns finish train 9 packet 0 at 1.0",
                          "  B: line 5: 2000000 ns finish train 9 packet 0 at 1.0"]
     # Of five packets one has left the queue of A by 1 ms, and is in the delay line.
     assert [line.split() for line in lines[6:8]] == [
-        ["packets", "A", "before", "A", "behind", "B", "before", "B", "behind"], ["at", "1.0", "5+0", "4+1", "5+0", "5+0"]]
+        ["packets", "A", "before", "A", "after", "B", "before", "B", "after"], ["at", "1.0", "5+0", "4+1", "5+0", "5+0"]]
     assert json.loads(tool("compare", a, b, plan, other, "--json")[1])["partings"] == [
         {"experiment": "a", "moment": 10**6, "a": "line 5: 1000000 ns finish train 9 packet 0 at 1.0",
          "b": "line 5: 2000000 ns finish train 9 packet 0 at 1.0"}]
@@ -168,8 +168,8 @@ def test_what_compare_refuses(two: list[Path]) -> None:
     for status, said, words in (
             (2, "there is no metric 'delay.95'", (a, b, "--tolerance", "delay.95=5%")), (2, "usage", (a,)),
             (2, "its unit is missing: ns, us", (a, b, "--tolerance", "delay.p95=5")), (2, "two scenarios", (a, b, plan, plan, plan)),
-            (2, "it has no experiment x: it has a", (a, b, plan, other, "--experiment", "x")),
-            (2, "it has no experiment, so", (a, os.devnull)), (2, "no row is like train 8", (a, b, "--of", "train 8")),
+            (2, "it has no experiment x; its experiments are a", (a, b, plan, other, "--experiment", "x")),
+            (2, "it has no experiment, so", (a, os.devnull)), (2, "no row matches train 8", (a, b, "--of", "train 8")),
             (2, "none.txt", (a, "none.txt")), (2, "line 1", (a, plan)), (2, "standard input", ("-", "-"))):
         got = tool("compare", *words)
         assert got[0] == status and said in got[2] and not got[1], words
@@ -196,17 +196,17 @@ def test_bounds_that_hold_and_fail(two: list[Path], tmp_path: Path) -> None:
     status, out, _ = tool("expect", a, plan, "--bounds", tmp_path / "bounds", "--first")
     assert status == 1 and out.count("\n") == 2 and "line 5" not in out
     status, out, _ = tool("expect", a, "plain: delay.p95 < 1s")
-    assert status == 1 and "it can't be told of a/plain: give the scenario" in out
+    assert status == 1 and "it is unknown for a/plain: give the scenario" in out
 
 
 @pytest.mark.parametrize("text, said", [
-    ("train 9: delay.p95 < 50", "its unit is missing: ns, us, ms, s"), ("train 9: delay.p95 < 50kg", "'kg' is no unit here"),
-    ("train 9: delay.q95 < 50ms", "there is no metric 'delay.q95': packets, delivered"), ("train 9 delay.p95 < 50ms", "the colon"),
-    ("train 9: delay.p95 50ms", "a sign"), ("train 9: delay.p95 => 50ms", "'=>' is no sign"), (": drops < 1", "WHO"),
-    ("all: drops < many", "'many' is no amount, as 3"), ("all: delay.p0 < 1ms", "no metric 'delay.p0'"),
-    ("all: delay.p100.5 < 1ms", "no metric"), ("all: loss < 5", "%"), ("all: rate < 5Mbps", "'Mbps' is no unit here: bit/s, kbit/s")])
+    ("train 9: delay.p95 < 50", "its unit is missing: ns, us, ms, s"), ("train 9: delay.p95 < 50kg", "'kg' is not a unit here"),
+    ("train 9: delay.q95 < 50ms", "there is no metric 'delay.q95'; the metrics are packets, delivered"), ("train 9 delay.p95 < 50ms", "the colon"),
+    ("train 9: delay.p95 50ms", "a sign"), ("train 9: delay.p95 => 50ms", "'=>' is not a sign"), (": drops < 1", "WHO"),
+    ("all: drops < many", "'many' is not an amount such as 3"), ("all: delay.p0 < 1ms", "no metric 'delay.p0'"),
+    ("all: delay.p100.5 < 1ms", "no metric"), ("all: loss < 5", "%"), ("all: rate < 5Mbps", "'Mbps' is not a unit here: bit/s, kbit/s")])
 def test_what_is_no_bound(text: str, said: str) -> None:
-    with pytest.raises(Faulty, match="line 2: ") as faulty:
+    with pytest.raises(InputError, match="line 2: ") as faulty:
         bounds_in("bounds", f"# first\n{text}\n")
     assert said in str(faulty.value)
 
@@ -214,8 +214,8 @@ def test_what_is_no_bound(text: str, said: str) -> None:
 def test_statuses_of_expect(two: list[Path], tmp_path: Path) -> None:
     a, plan, *_ = two
     for status, said, words in (
-            (2, "no row 'train 8': there are train 9, pipe 1.0, all", (a, plan, "train 8: drops < 1")),
-            (2, "no experiment 'b': there are a", (a, plan, "b/train 9: drops < 1")), (2, "no bound", (a, plan)),
+            (2, "no row 'train 8'; there are train 9, pipe 1.0, all", (a, plan, "train 8: drops < 1")),
+            (2, "no experiment 'b'; there are a", (a, plan, "b/train 9: drops < 1")), (2, "no bound", (a, plan)),
             (2, "a sign", (a, plan, "train 9: drops 1")), (2, "none", (tmp_path / "none", "all: drops < 1")),
             (2, "line 1", (plan, "all: drops < 1")), (2, "no experiment", (os.devnull, "all: drops < 1")),
             (2, "it has no bound", (a, "--bounds", os.devnull))):

@@ -1,29 +1,13 @@
-"""What the pages show is what comes out: the ten lines of docs/howto/sweep_settings.md and the notebook docs/howto/queues.ipynb."""
-import os
-import re
-import subprocess
-import sys
-
+"""What the notebook docs/howto/queues.ipynb shows is what comes out."""
 import pytest
 from conftest import ROOT
 
 pytest.importorskip("pandas", reason="pandas is missing (Debian: python3-pandas)")
-WORDS = {"PYTHONPATH": str(ROOT / "python"), "PYTHONDONTWRITEBYTECODE": "1"}
 
 
 def plain(text: str) -> str:
     """A text without spaces at the ends of lines."""
     return "\n".join(line.rstrip() for line in text.strip().split("\n"))
-
-
-def test_the_ten_lines(program: str) -> None:
-    page = (ROOT / "docs" / "howto" / "sweep_settings.md").read_text()
-    code, shown = re.findall(r"```(?:python)?\n(.*?)```", page, re.S)[:2]
-    assert len([line for line in code.split("\n") if line.strip()]) == 9
-    done = subprocess.run([sys.executable, "-c", code], cwd=ROOT, capture_output=True, text=True, check=False,
-                          env={**os.environ, **WORDS, "DNLAB": program})
-    assert done.returncode == 0, done.stderr
-    assert plain(done.stdout) == plain(shown)
 
 
 def told(cell) -> list[str]:

@@ -122,7 +122,7 @@ def judge_line(place: Place, way: tuple[signal.Signals, str], moment: float, sta
     if moment < BEGINNING:
         return
     assert err.count("\n") == 1 and err.startswith("sweep: "), err
-    found = re.search(rf"(\d+) of {EXPERIMENTS} experiments are kept in link.tmpl.kept; the same words go on\n$", err)
+    found = re.search(rf"(\d+) of {EXPERIMENTS} experiments are kept in link.tmpl.kept; the same command continues\n$", err)
     if found:
         assert int(found[1]) <= place.kept() <= EXPERIMENTS
     else:

@@ -1,4 +1,4 @@
-"""tools/to-ipfw and tools/to-tc: what a machine is told, read again by other programs: sh with a stand-in for ipfw, and tc itself."""
+"""tools/to-ipfw and tools/to-tc: the exported commands, read again by other programs: sh with a stand-in for ipfw, and tc itself."""
 import shutil
 import subprocess
 from pathlib import Path
@@ -77,14 +77,14 @@ def test_ipfw_directions(ends: str, behind: list[str], wanted: str, tmp_path: Pa
     if wanted:
         assert status == 0 and f"\nipfw -q add 5 pipe 1 ip {ends} {wanted}\n" in script
     else:
-        assert (status, script) == (2, "") and "line 3" in told and "both its ends lie beyond em0" in told
+        assert (status, script) == (2, "") and "line 3" in told and "both its ends are behind em0" in told
 
 
 def test_ipfw_says_what_it_removes(tmp_path: Path) -> None:
     """Before anything is done the script's comments say what it does to the machine's own rules."""
     _, script, _ = tool("to-ipfw", text_file(tmp_path, SCENARIO), "--host")
     head = script[:script.index("\nkldload")]
-    assert "removes all rules and pipes" in head and "`65534 deny ip from any to any`" in head and "come in" in head
+    assert "removes all existing rules and pipes" in head and "`65534 deny ip from any to any`" in head and "incoming packets" in head
     assert all(line.startswith("#") for line in head.splitlines())
 
 

@@ -307,7 +307,7 @@ def test_time_passes_in_a_script() -> None:
 
 def test_wrong_input(tmp_path: Path) -> None:
     for words, text, wanted in ((["-"], b"", "no line of ipfw"), (["gone.sh"], b"", "gone.sh"), (["-", "--if", "em1"], b"", "--if"),
-                                (["-", "--name", "A"], b"add 1 allow ip from any to any\n", "isn't a scenario")):
+                                (["-", "--name", "A"], b"add 1 allow ip from any to any\n", "not be a valid scenario")):
         status, said, told = tool("from-ipfw", *words, text=text)
         assert (status, said) == (2, "") and wanted in told, told
 

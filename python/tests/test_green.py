@@ -124,16 +124,16 @@ def test_the_fixture_fails_too(files: Callable[..., list[Path]], tmp_path: Path)
 def test_a_tolerance_that_judges_nothing(files: Callable[..., list[Path]]) -> None:
     (first, plan), (second, other) = files(CALL), files(SLOW.replace("experiment b", "experiment a"), "slow")
     for words, status, said in (
-            (["delay.p95=5%"], 2, "no row has it, so nothing is judged: give the scenario"), (["goodput=5%"], 2, "no row has it"),
-            (["*=1000%"], 0, "no row tells bytes, useful, first, time, rate, goodput"), (["delay.*=1s"], 2, "no row has it"), (["packets=0"], 0, "")):
+            (["delay.p95=5%"], 2, "no row has this metric, so nothing is judged: give the scenario"), (["goodput=5%"], 2, "no row has this metric"),
+            (["*=1000%"], 0, "no row has bytes, useful, first, time, rate, goodput"), (["delay.*=1s"], 2, "no row has this metric"), (["packets=0"], 0, "")):
         got = tool("compare", first, second, *(word for one in words for word in ("--tolerance", one)))
         assert got[0] == status and said in got[2], (words, got)
     for words, status, said in (
             (["--tolerance", "delay.p95=5%"], 1, ""), (["--tolerance", "delay.p95=100s"], 0, ""),
             (["--tolerance", "fct=5%"], 2, "only a flow has a completion"),
-            (["--tolerance", "retransmissions=5", "--of", "train *"], 2, "only a flow sends again"),
-            (["--tolerance", "jain=5%"], 2, "no line tells it"), (["--tolerance", "utilisation=5%"], 1, ""),
-            (["--tolerance", "delay.p95=5%", "--of", "train 8"], 2, "no row is like train 8")):
+            (["--tolerance", "retransmissions=5", "--of", "train *"], 2, "only a flow retransmits"),
+            (["--tolerance", "jain=5%"], 2, "no line has it"), (["--tolerance", "utilisation=5%"], 1, ""),
+            (["--tolerance", "delay.p95=5%", "--of", "train 8"], 2, "no row matches train 8")):
         got = tool("compare", first, second, plan, other, *words)
         assert got[0] == status and said in got[2], (words, got)
 
@@ -143,7 +143,7 @@ def test_what_both_lack_is_not_within(files: Callable[..., list[Path]]) -> None:
     report, plan = files(FLOWS, "flows")
     status, out, _ = tool("compare", report, report, plan, "--tolerance", "fct=5%")
     row = next(line for line in out.split("\n") if " flow 2 " in line)
-    assert status == 1 and "can't be told: it hadn't ended when the experiment did, at 0.1s" in row
+    assert status == 1 and "can't be told: it had not finished when the experiment ended, at 0.1s" in row
     assert tool("compare", report, report, plan, "--tolerance", "fct=5%", "--of", "flow 1")[0] == 0
     assert tool("compare", report, report, plan, "--tolerance", "fct=5%", "--of", "flow 2")[0] == 2
 
@@ -177,19 +177,19 @@ def test_programs_that_are_not_dnlab(tmp_path: Path, files: Callable[..., list[P
     for name, said in (("silent", "wrote no report of experiment a"), ("other", "wrote no report of experiment a"),
                        ("chatty", "wrote no report (is it dnlab?)")):
         (tmp_path / name).chmod(0o755)
-        with pytest.raises(dnlab.Failed) as failed:
+        with pytest.raises(dnlab.ProgramError) as failed:
             dnlab.run(CALL, dnlab=str(tmp_path / name), out=tmp_path / "out")
         assert said in failed.value.said and not list(tmp_path.glob("out*")), name
-    with pytest.raises(dnlab.Failed, match="is it dnlab"):
+    with pytest.raises(dnlab.ProgramError, match="is it dnlab"):
         dnlab.run(CALL, dnlab="/bin/true")
-    with pytest.raises(dnlab.Failed):
+    with pytest.raises(dnlab.ProgramError):
         dnlab.run(CALL, dnlab="/bin/cat")
 
 
 def test_a_fault_is_explained(program: str) -> None:
     import dnlab
 
-    with pytest.raises(dnlab.Failed) as failed:
+    with pytest.raises(dnlab.ProgramError) as failed:
         dnlab.run(CALL.replace("8Mbit/s", "8Mbps"), dnlab=program)
     assert failed.value.status == 1 and failed.value.said.startswith("line 2: badword") and "10Mbit/s" in failed.value.said
 
@@ -243,11 +243,11 @@ def test_patterns_name_flows(files: Callable[..., list[Path]]) -> None:
     status, out, _ = tool("expect", *texts, "--allow", "unsent", "flow *: goodput > 1kbit/s", "flow * acks: delivered > 0", "flow *: loss < 1%")
     assert status == 0 and out.count("the nearest of 2 rows") == 3
     status, out, _ = tool("expect", *texts, "--allow", "unsent", "flow *: fct < 10s")
-    assert status == 1 and "it can't be told of f/flow 2: it hadn't ended when the experiment did, at 0.1s" in out
+    assert status == 1 and "it is unknown for f/flow 2: it had not finished when the experiment ended, at 0.1s" in out
     assert tool("expect", *texts, "--allow", "unsent", "flow 1: fct < 10s")[0] == 0
     for bound, said in (("train 1: drops < 1", "no row 'train 1'"), ("pipe 1.0: utilisation < 101%", ""),
-                        ("pipe 2.0: utilisation < 50%", "the pipe has no rate"), ("all: delay.p95 < 1s", "name `there` or `back`"),
-                        ("pipe 1.0: loss < 1%", "under `trace 1`"), ("flow 1 acks: goodput > 1bit/s", "rows of this kind")):
+                        ("pipe 2.0: utilisation < 50%", "the pipe has no rate"), ("all: delay.p95 < 1s", "use `there` or `back`"),
+                        ("pipe 1.0: loss < 1%", "without `trace 1`"), ("flow 1 acks: goodput > 1bit/s", "rows of this kind")):
         status, out, err = tool("expect", *texts, "--allow", "unsent", bound)
         assert said in out + err and status == (0 if not said else 2 if "row '" in said else 1), (bound, out, err)
     rows = tool("summary", *texts, "--of", "flow *", "--csv")[1].split("\n")[1:-1]
@@ -257,14 +257,14 @@ def test_patterns_name_flows(files: Callable[..., list[Path]]) -> None:
 def test_bounds_that_say_nothing(files: Callable[..., list[Path]]) -> None:
     """A bound that holds whatever happens fails, with the reason, unless that is allowed."""
     call = files(CALL)
-    for bound, said in (("train 9: loss >= 0%", "each loss keeps to it"), ("train 9: loss <= 100%", "each loss"),
-                        ("train 9: drops >= 0", "each drops"), ("train 9: delay.p95 > 0ms", "")):
+    for bound, said in (("train 9: loss >= 0%", "any value of loss satisfies it"), ("train 9: loss <= 100%", "any value of loss"),
+                        ("train 9: drops >= 0", "any value of drops"), ("train 9: delay.p95 > 0ms", "")):
         status, out, _ = tool("expect", *call, bound)
         assert (status, said in out) == (1 if said else 0, True) and ("vacuous" in out) == bool(said), out
         assert tool("expect", *call, bound, "--allow", "vacuous")[0] == 0
     one = files("experiment a seed 0 budget 99\n@0 add 1 allow ip from any to any\n@0 flow 1 10.0.0.1 1 10.0.0.2 2 smss 100 segments 3\n@9 end\n"
                 .replace("@9 end", "@9000000000 end"), "one")
-    assert "one flow alone" in tool("expect", *one, "there: jain > 0.9")[1]
+    assert "a single flow" in tool("expect", *one, "there: jain > 0.9")[1]
     denied = files("experiment a seed 0 budget 99\n@0 add 1 deny ip from any to any\n"
                    "@0 train 1 udp 10.0.0.1 1 10.0.0.2 2 100 count 3 gap 10\n@9000 end\n", "denied")
     status, out, _ = tool("expect", *denied, "all: drops.full == 0")
@@ -310,7 +310,7 @@ def test_run_and_judge_at_once(files: Callable[..., list[Path]], tmp_path: Path)
 def test_a_bound_on_delay_that_losses_make_easy(files: Callable[..., list[Path]]) -> None:
     texts = files(CALL.replace("delay 10", "delay 10 queue 2"))
     status, out, _ = tool("expect", *texts, "train 9: delay.p95 < 50ms")
-    assert status == 0 and "2 of the 5 packets of a/train 9 were dropped, which have no delay: add a bound as 'train 9: loss" in out
+    assert status == 0 and "2 of the 5 packets of a/train 9 were dropped and have no delay: add a bound such as 'train 9: loss" in out
     status, out, _ = tool("expect", *texts, "train 9: delay.p95 < 50ms", "train 9: loss < 50%")
     assert status == 0 and "have no delay" not in out
     assert "have no delay" not in tool("expect", *texts, "train 9: packets == 5", "train 1: delay.p95 < 50ms")[1]
@@ -383,7 +383,7 @@ def test_stored_summaries(files: Callable[..., list[Path]], tmp_path: Path) -> N
     base = tmp_path / "base.json"
     base.write_text(tool("summary", first, plan, "--json", "--percentiles", "50,95")[1])
     same = tool("compare", base, first, plan)
-    assert same[0] == 0 and "a: rows are compared, since a summary has no lines" in same[1]
+    assert same[0] == 0 and "a: only rows are compared, since a summary has no lines" in same[1]
     assert tool("compare", first, base, plan)[0] == 0 and tool("compare", base, base)[0] == 0
     assert tool("compare", base, second, other)[0] == 1
     # Of train 9 the 95th percentile is 15 ms, and 20 ms at half the rate: a third more.
@@ -397,7 +397,7 @@ def test_stored_summaries(files: Callable[..., list[Path]], tmp_path: Path) -> N
                  tool("summary", first, plan, "--json", "--every", "10ms")[1]):
         (tmp_path / "bad.json").write_text(text)
         status, out, err = tool("compare", tmp_path / "bad.json", first, plan)
-        assert status == 2 and "it is no whole summary" in err and not out, text[:40]
+        assert status == 2 and "it is not a complete summary" in err and not out, text[:40]
 
 
 def test_what_is_in_no_queue_is_said_where_it_counts(files: Callable[..., list[Path]], tmp_path: Path) -> None:
@@ -446,5 +446,5 @@ def test_a_typed_text_may_lack_its_last_line_feed(program: str, tmp_path: Path) 
     assert (tmp_path / "1").read_bytes() == (tmp_path / "2").read_bytes() and len(list(first)) == len(list(second)) > 0
     (tmp_path / "cut.txt").write_text(typed)
     for text in (tmp_path / "cut.txt", typed.encode()):
-        with pytest.raises(dnlab.Failed, match="cut"):
+        with pytest.raises(dnlab.ProgramError, match="cut"):
             dnlab.run(text, dnlab=program)

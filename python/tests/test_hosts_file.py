@@ -10,7 +10,7 @@ from conftest import tool  # noqa: E402  (yaml is looked for first)
 from dnlab.emulation.experiment import Ending, Experiment  # noqa: E402
 from dnlab.emulation.hosts_file import experiment_of  # noqa: E402
 from dnlab.emulation.network_check import check  # noqa: E402
-from dnlab.errors import Faulty  # noqa: E402
+from dnlab.errors import InputError  # noqa: E402
 from wrong_hosts_files import BASE, GENERAL, HOSTS, LINES, NETWORK, PROCESSES, WHOLE, WRONG  # noqa: E402
 
 
@@ -27,7 +27,7 @@ def judged(text: bytes) -> Experiment:
 
 
 def refusal_of(text: bytes) -> str:
-    with pytest.raises(Faulty) as fault:
+    with pytest.raises(InputError) as fault:
         judged(text)
     return str(fault.value)
 

@@ -133,7 +133,7 @@ def test_tables_by_hand(many: int, tmp_path: Path, alone: Callable[[bytes], byte
 def test_another_moment_is_refused(many: int, tmp_path: Path, alone: Callable[[bytes], bytes]) -> None:
     (tmp_path / "report.txt").write_bytes(alone(SCENARIO.encode()))
     (tmp_path / "scenario.txt").write_text(SCENARIO.replace("@30000000 inject", "@30000001 inject"))
-    with pytest.raises(dnlab.Faulty, match="command 6 at 30000000, where line 8 of the scenario has 30000001"):
+    with pytest.raises(dnlab.InputError, match="command 6 at 30000000, where line 8 of the scenario has 30000001"):
         dnlab.read(tmp_path / "report.txt", tmp_path / "scenario.txt")["one"]
 
 

@@ -15,7 +15,7 @@ from conftest import ROOT, tool
 from hypothesis import given
 from hypothesis import strategies as st
 
-from dnlab.errors import Refused
+from dnlab.errors import ParseError
 from dnlab.io.shell_words import words_of
 
 STAND_IN = 'shown() { for word do printf "%s\\037" "$word"; done; printf "\\036"; }\nipfw() { shown ipfw "$@"; }\nsleep() { shown sleep "$@"; }\n'
@@ -54,7 +54,7 @@ def test_words_as_sh_cuts_them(pieces: list[str]) -> None:
     text = f"x='1  2'; ipfw k{''.join(pieces)}\n"
     try:
         mine = words_of(text)
-    except Refused:
+    except ParseError:
         return
     assert mine == [tuple(piece for word in words for piece in word.split()) for words in by_shell(text)]
 
@@ -65,7 +65,7 @@ def test_words_as_sh_cuts_them(pieces: list[str]) -> None:
     ("ipfw ${x%y}\n", 1), ("[ -f /etc/passwd ] && ipfw flush\n", 1), ("for i in 1; do\n\n  foo $i\ndone\n", 3), ("trap 'ipfw flush' EXIT\n", 1),
 ])
 def test_what_isnt_understood(text: str, line: int) -> None:
-    with pytest.raises(Refused) as refused:
+    with pytest.raises(ParseError) as refused:
         words_of(text)
     assert refused.value.line == line
 
@@ -139,4 +139,4 @@ def test_the_line_is_said(tmp_path: Path) -> None:
     script = tmp_path / "script.sh"
     script.write_text("#!/bin/sh\nipfw flush\ncurl http://localhost/rules\n")
     status, said, told = tool("from-ipfw", script)
-    assert (status, said) == (2, "") and "line 3: `curl` isn't run" in told and "`ipfw list`" in told
+    assert (status, said) == (2, "") and "line 3: `curl` isn't executed" in told and "`ipfw list`" in told

@@ -8,7 +8,7 @@ from conftest import QUICK, text_of, view_of
 from dnlab.analysis.makings import makings_of
 from dnlab.analysis.packets import OUTCOMES, nowhere as lost_in
 from dnlab.analysis.view import View
-from dnlab.errors import Refused
+from dnlab.errors import ParseError
 from dnlab.io import report, scenario
 from dnlab.io.lines import DATA, INSTANCE, LISTINGS, pipe_code, pipe_name
 
@@ -17,12 +17,12 @@ JOINS = [
     ("report", "11200000 deliver 0 data 1 0", "11200000 deliver 0 data 1 1460", 10, "isn't this scenario's"),
     ("report", "21200000 deliver 3 ack 1 1460", "21200000 deliver 3 plain", 17, "doesn't follow its delivery"),
     ("report", "100000000 ok 5", "100000001 ok 5", 27, "at 100000001"),
-    ("report", "22400000 finish 6 1.0", "22400000 finish 7 1.0", 20, "before it is made"),
+    ("report", "22400000 finish 6 1.0", "22400000 finish 7 1.0", 20, "before it is created"),
     # The fifth segment is sent with the fourth, as packet 7, which the report calls an acknowledgement.
     ("scenario", "segments 4", "segments 5", 25, "isn't this scenario's"),
     ("scenario", "smss 1460", "smss 1000", 12, "isn't this scenario's"),
-    ("scenario", "segments 4", "segment 4", 6, "no line of a scenario"),
-    ("scenario", "@0 add 100", "@0 ad 100", 4, "no line of a scenario"),
+    ("scenario", "segments 4", "segment 4", 6, "not a line of a scenario"),
+    ("scenario", "@0 add 100", "@0 ad 100", 4, "not a line of a scenario"),
     # A packet more, of which no line tells: only the counters do.
     ("scenario", "@100000000 end", "@99999999 inject udp 10.0.0.1 1 10.0.1.1 2 100\n@100000000 end", 27, "command 5"),
     ("scenario", "@100000000 end", "@100000000 show\n@100000000 end", 28, "ends before command 6"),
@@ -35,7 +35,7 @@ def test_pairs_that_dont_belong_together(which: str, old: str, new: str, line: i
              "scenario": text_of("reno_four_segments", "scenario.txt").decode()}
     assert old in texts[which]
     texts[which] = texts[which].replace(old, new, 1)
-    with pytest.raises(Refused) as refused:
+    with pytest.raises(ParseError) as refused:
         makings_of(next(report.read(texts["report"].encode())), scenario.read(texts["scenario"].encode())["r"])
     assert refused.value.line == line and word in refused.value.cause
 
@@ -49,9 +49,9 @@ def test_a_packet_that_no_line_names() -> None:
     plan = scenario.read(text)["t"]
     assert len(makings_of(next(report.read(told)), plan)) == 2
     shorter = told.replace(b"60000000 finish 1 1.0\n", b"").replace(b"counters 2 1 1", b"counters 1 1 0")
-    with pytest.raises(Refused) as refused:
+    with pytest.raises(ParseError) as refused:
         makings_of(next(report.read(shorter)), plan)
-    assert refused.value.line == 1 and "1 packets were made, where the scenario tells of 2" in refused.value.cause
+    assert refused.value.line == 1 and "1 packets were created, but the scenario creates 2" in refused.value.cause
 
 
 def test_makings_by_hand() -> None:
@@ -76,7 +76,7 @@ def visits(view: View, packet: int) -> list[tuple[str, int, int, int]]:
 def test_visits_by_hand() -> None:
     wanted = [("1.0", 0, 0, 10**7), ("2.0", 10**7, 10**7, 15 * 10**6)]
     assert visits(view_of("two_pipes_in_turn"), 0) == wanted
-    # A traced report tells the same without its scenario.
+    # A traced report gives the same tables without its scenario.
     traced = view_of("traced_two_pipes", joined=False)
     assert visits(traced, 0) == wanted
     assert traced.packets.delay.tolist() == [15 * 10**6 + 1]

@@ -30,14 +30,14 @@ echo progress 100 done
 """
 CALL = """import pathlib, sys
 from dnlab.emulation import kernel_cache
-from dnlab.errors import Lacking
+from dnlab.errors import ResourceError
 from dnlab.processes import ending
 kernel_cache.BUILD = pathlib.Path(sys.argv[1])
 kernel_cache._library = lambda prefix: (prefix, sys.argv[2] == "proved")
 ending.watch("hosts")
 try:
     print(kernel_cache.kernel().folder)
-except Lacking as lacking:
+except ResourceError as lacking:
     print(f"hosts: {lacking}", file=sys.stderr)
     sys.exit(3)
 """

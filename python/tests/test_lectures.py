@@ -143,8 +143,8 @@ def test_a_flow_changes_every_panel(tmp_path: Path) -> None:
     found = read_back(page, SELECT % ("flow", "flow 2"))["panels"]
     assert all(name.startswith("flow 2: ") for name in found["sequence"])
     assert all(name.endswith(" 2") for name in found["window"]) and "cwnd 2" in found["window"]
-    assert set(found["delay"]) == {"flow 2", "flow 2 acks"}
-    assert {"flow 2", "flow 2 acks", "rate of pipe 1"} <= set(found["rate"]) and not {"flow 1", "flow 1 acks"} & set(found["rate"])
+    assert set(found["delay"]) == {"flow 2"}
+    assert {"flow 2", "rate of pipe 1"} <= set(found["rate"]) and not {"flow 1", "flow 1 acks", "flow 2 acks"} & set(found["rate"])
 
 
 @browsing

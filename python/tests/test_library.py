@@ -20,12 +20,12 @@ ONE = EXAMPLES / "one_packet"
 
 def test_a_library_that_is_not_there(monkeypatch: pytest.MonkeyPatch, tmp_path: Path) -> None:
     monkeypatch.setenv("LIBDNLAB", str(tmp_path / "none.so"))
-    with pytest.raises(dnlab.Failed) as failed:
+    with pytest.raises(dnlab.ProgramError) as failed:
         library.version()
     assert failed.value.status == 2 and "LIBDNLAB" in failed.value.said
     monkeypatch.delenv("LIBDNLAB")
     monkeypatch.setattr("dnlab.library.places._PLACES", (tmp_path / "none.so",))
-    with pytest.raises(dnlab.Failed) as failed:
+    with pytest.raises(dnlab.ProgramError) as failed:
         dnlab.run(FAULTY, engine="library")
     assert failed.value.status == 3 and "tools/library" in failed.value.said
 
@@ -33,7 +33,7 @@ def test_a_library_that_is_not_there(monkeypatch: pytest.MonkeyPatch, tmp_path: 
 def test_a_file_that_is_no_library(monkeypatch: pytest.MonkeyPatch, tmp_path: Path) -> None:
     (tmp_path / "it.so").write_text("no library")
     monkeypatch.setenv("LIBDNLAB", str(tmp_path / "it.so"))
-    with pytest.raises(dnlab.Failed) as failed:
+    with pytest.raises(dnlab.ProgramError) as failed:
         library.check(b"")
     assert failed.value.status == 3 and "can't be used" in failed.value.said
 
@@ -65,7 +65,7 @@ def test_a_run_by_the_library(tmp_path: Path) -> None:
 def test_a_fault_is_said_as_by_the_program() -> None:
     said = []
     for engine in "process", "library":
-        with pytest.raises(dnlab.Failed) as failed:
+        with pytest.raises(dnlab.ProgramError) as failed:
             dnlab.run(FAULTY, engine=engine)
         said.append((failed.value.status, failed.value.said))
     assert said[0] == said[1] and said[0][1].startswith("line 2: badword\n")
@@ -80,11 +80,25 @@ def test_a_report_longer_than_the_first_room() -> None:
 
 
 @there
+def test_a_limit_of_steps() -> None:
+    # Two experiments, which may take 7 and 10^6 steps: the second may have any number of steps that its text leaves out.
+    text = b"experiment a seed 0 budget 1 steps 7\n@0 end\nexperiment b seed 0 budget 1\n@0 end\n"
+    assert library.alone(text, max_steps=1_000_007) == library.alone(text)
+    for most, number in (1_000_006, 2), (7, 2), (6, 1), (0, 1):
+        with pytest.raises(dnlab.ProgramError) as failed:
+            library.alone(text, max_steps=most)
+        assert failed.value.status == 3
+        assert failed.value.said == f"steps: experiment {number} of the text exceeds max_steps; max_steps=1000007 lets all run"
+    with pytest.raises(library.FaultIn):
+        library.alone(b"experiment\n", max_steps=0)
+
+
+@there
 def test_more_experiments_than_the_library_takes_at_once() -> None:
     text = "".join(f"experiment e{k} seed 0 budget 1\n@{k} end\n" for k in range(300))
     report = dnlab.run(text, engine="library")
     assert list(report) == [f"e{k}" for k in range(300)]
-    with pytest.raises(dnlab.Failed) as failed:
+    with pytest.raises(dnlab.ProgramError) as failed:
         dnlab.run(text + "@5 end\n", engine="library")
     assert failed.value.said.startswith("line 601: afterend")
 
@@ -107,7 +121,7 @@ def test_lines_of_a_session() -> None:
         with pytest.raises(library.FaultIn, match="line 5: noend"):
             talk.close()
     assert talk.has_ended
-    with pytest.raises(dnlab.Failed, match="closed"):
+    with pytest.raises(dnlab.ProgramError, match="closed"):
         talk.take(b"")
     with pytest.raises(ZeroDivisionError), library.Talk() as talk:
         print(1 // 0)
@@ -139,14 +153,14 @@ def test_a_session_here_is_one_there(program: str) -> None:
                 for _ in range(4):
                     link.send(("10.0.0.1", 1), ("10.0.0.2", 2), 1000)
                 events += [(it.moment, it.cause, it.number) for it in link.until(10**8)]
-            with pytest.raises(dnlab.NotTaken) as fault:
+            with pytest.raises(dnlab.LineRejectedError) as fault:
                 links[0].command("pipe 2 config bw 10Mbps")
-            with pytest.raises(dnlab.CommandRefused) as refused:
+            with pytest.raises(dnlab.CommandRefusedError) as refused:
                 links[1].command("delete 7")
             for link in links:
                 link.end()
             kept.append((events, str(fault.value), str(refused.value), session.transcript(), session.report()))
-        with pytest.raises(dnlab.Failed, match="closed"):
+        with pytest.raises(dnlab.ProgramError, match="closed"):
             session.experiment("c")
     assert kept[0] == kept[1] and "10Mbit/s" in kept[0][1]
 
@@ -158,7 +172,7 @@ def test_a_session_here_that_was_interrupted(monkeypatch: pytest.MonkeyPatch) ->
         with monkeypatch.context() as patch, pytest.raises(KeyboardInterrupt):
             patch.setattr(link, "answered", lambda *_: (_ for _ in ()).throw(KeyboardInterrupt))
             link.until(5)
-        with pytest.raises(dnlab.Failed, match="interrupted"):
+        with pytest.raises(dnlab.ProgramError, match="interrupted"):
             link.until(6)
         session._talk.kill()
     assert session._talk.has_ended

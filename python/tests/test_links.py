@@ -4,7 +4,7 @@ from typing import Callable
 import pytest
 
 from dnlab.analysis.view import View
-from dnlab.errors import Refused
+from dnlab.errors import ParseError
 from dnlab.io import scenario
 from dnlab.io.report import read
 
@@ -46,34 +46,34 @@ def joined(alone: Alone, ran: str, given: str) -> View:
 
 # What ran, what is changed in it, and of the refusal the line of the report and its words.
 OTHERS = [
-    (TRAIN, "delay 10", "delay 11", 10, "packet 0 leaves its pipe at 11000000, where the scenario has 12000000 (line 2: delay 11"),
-    (TRAIN, " delay 10", "", 10, "leaves its pipe at 11000000, where the scenario has 1000001 (line 2: delay 0"),
-    (TRAIN, "8Mbit/s", "9Mbit/s", 5, "finishes at 1000000, where the scenario has 888889 (line 2: bw 9Mbit/s; line 4: train 9, 1000"),
-    (TRAIN, "8Mbit/s", "8Kbit/s", 5, "where the scenario has 1000000000 (line 2: bw 8Kbit/s"),
-    (TRAIN, "bw 8Mbit/s ", "", 5, "where the scenario has 0 (line 2: bw 0"),
-    (TRAIN, "2 1000 count", "2 1010 count", 5, "where the scenario has 1010000 (line 2: bw 8Mbit/s; line 4: train 9, 1010 bytes)"),
-    (TRAIN, "delay 10", "delay 10 queue 3", 9, "packet 4 was taken at 0, when 3 packets waited"),
-    (TRAIN, "delay 10", "delay 10 queue 3KBytes", 9, "packet 4 was taken at 0, when 3 packets waited"),
-    (FOUR, "queue 3", "queue 4", 5, "packet 4 is dropped as `full` at 0, where no queue of the scenario is full then (line 2)"),
+    (TRAIN, "delay 10", "delay 11", 10, "packet 0 leaves its pipe at 11000000, but the scenario has 12000000 (line 2: delay 11"),
+    (TRAIN, " delay 10", "", 10, "leaves its pipe at 11000000, but the scenario has 1000001 (line 2: delay 0"),
+    (TRAIN, "8Mbit/s", "9Mbit/s", 5, "finishes at 1000000, but the scenario has 888889 (line 2: bw 9Mbit/s; line 4: train 9, 1000"),
+    (TRAIN, "8Mbit/s", "8Kbit/s", 5, "but the scenario has 1000000000 (line 2: bw 8Kbit/s"),
+    (TRAIN, "bw 8Mbit/s ", "", 5, "but the scenario has 0 (line 2: bw 0"),
+    (TRAIN, "2 1000 count", "2 1010 count", 5, "but the scenario has 1010000 (line 2: bw 8Mbit/s; line 4: train 9, 1010 bytes)"),
+    (TRAIN, "delay 10", "delay 10 queue 3", 9, "packet 4 was accepted at 0, when 3 packets waited"),
+    (TRAIN, "delay 10", "delay 10 queue 3KBytes", 9, "packet 4 was accepted at 0, when 3 packets waited"),
+    (FOUR, "queue 3", "queue 4", 5, "packet 4 is dropped as `full` at 0, but no queue of the scenario is full then (line 2)"),
     (FOUR, "queue 3", "queue 4KBytes", 5, "packet 4 is dropped as `full` at 0"),
     # 101 packets are taken and 49 dropped, in lines 5 to 53; 13 finish before the first is delivered. Behind 91 finishes
     # and 79 deliveries stands the finish of packet 91, at 92 * 1.6 ms.
-    (THIN, "delay 20", "delay 21", 67, "where the scenario has 22600000 (line 2: delay 21; it finished at 1600000)"),
+    (THIN, "delay 20", "delay 21", 67, "but the scenario has 22600000 (line 2: delay 21; it finished at 1600000)"),
     (THIN, "queue 100", "queue 90", 224, "when 90 packets waited"),
-    (THIN, "2 200 count", "2 210 count", 54, "packet 0 finishes at 1600000, where the scenario has 1680000"),
-    (TRAIN.replace("delay 10", "delay 10 plr 1"), " plr 1", "", 5, "packet 0 is dropped as `lost`, where no pipe of the scenario"),
-    (THIN.replace("queue 100", "queue 200 codel"), " codel", "", 0, "is dropped as `codel`, where no pipe of the scenario has CoDel"),
-    (CHANGED, "4Mbit/s", "2Mbit/s", 8, "packet 2 finishes at 4000000, where the scenario has 6000000 (line 5: bw 2Mbit/s"),
-    (CHANGED, "delay 20", "delay 30", 12, "packet 1 leaves its pipe at 22000000, where the scenario has 32000000 (line 5: delay 30"),
-    (TWO, "delay 5", "delay 6", 15, "leaves its pipe at 18000000, where the scenario has 19000000 (line 4: delay 6"),
-    (TWO, "4Mbit/s", "2Mbit/s", 13, "packet 0 finishes at 13000000, where the scenario has 15000000 (line 4: bw 2Mbit/s"),
+    (THIN, "2 200 count", "2 210 count", 54, "packet 0 finishes at 1600000, but the scenario has 1680000"),
+    (TRAIN.replace("delay 10", "delay 10 plr 1"), " plr 1", "", 5, "packet 0 is dropped as `lost`, but no pipe of the scenario"),
+    (THIN.replace("queue 100", "queue 200 codel"), " codel", "", 0, "is dropped as `codel`, but no pipe of the scenario has CoDel"),
+    (CHANGED, "4Mbit/s", "2Mbit/s", 8, "packet 2 finishes at 4000000, but the scenario has 6000000 (line 5: bw 2Mbit/s"),
+    (CHANGED, "delay 20", "delay 30", 12, "packet 1 leaves its pipe at 22000000, but the scenario has 32000000 (line 5: delay 30"),
+    (TWO, "delay 5", "delay 6", 15, "leaves its pipe at 18000000, but the scenario has 19000000 (line 4: delay 6"),
+    (TWO, "4Mbit/s", "2Mbit/s", 13, "packet 0 finishes at 13000000, but the scenario has 15000000 (line 4: bw 2Mbit/s"),
 ]
 
 
 @pytest.mark.parametrize("ran,old,new,line,said", OTHERS, ids=lambda word: str(word)[:30].replace("\n", " "))
 def test_another_scenario(alone: Alone, ran: str, old: str, new: str, line: int, said: str) -> None:
     assert old in ran
-    with pytest.raises(Refused) as refused:
+    with pytest.raises(ParseError) as refused:
         joined(alone, ran, ran.replace(old, new, 1))
     assert said in refused.value.cause and "isn't this scenario's" in refused.value.cause
     # Line 0: some line, of a drop by CoDel, whose moment isn't worked out here.
@@ -97,7 +97,7 @@ def test_what_no_line_shows(alone: Alone) -> None:
 def test_a_packet_that_stays(alone: Alone) -> None:
     """By the scenario it had left long before the end."""
     text = TRAIN.replace("delay 10", "delay 200")
-    with pytest.raises(Refused, match="line 5: packet 0 stays under way to the end, where the scenario has 51000000"):
+    with pytest.raises(ParseError, match="line 5: packet 0 stays in flight to the end, but the scenario has 51000000"):
         joined(alone, text, text.replace("delay 200", "delay 50"))
 
 
@@ -107,7 +107,7 @@ def test_rounding_of_a_busy_period(alone: Alone) -> None:
     view = joined(alone, text, text)
     assert view.visits.finish.tolist() == [1142858, 2285715, 3428572]
     told = alone(text.encode()).replace(b"3428572 finish", b"3428573 finish")
-    with pytest.raises(Refused, match="line 7: packet 2 finishes at 3428573, where the scenario has 3428572"):
+    with pytest.raises(ParseError, match="line 7: packet 2 finishes at 3428573, but the scenario has 3428572"):
         View(next(read(told)), scenario.read(text.encode())["a"])
 
 

@@ -1,4 +1,4 @@
-"""live.h: both compilers take it without a warning, and what a small program in C is told was worked out by hand."""
+"""live.h: both compilers accept it without a warning, and a small program in C gets the replies that were worked out by hand."""
 import os
 import shutil
 import subprocess

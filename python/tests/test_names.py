@@ -61,7 +61,7 @@ def test_sweeps_have_them(program: str) -> None:
 
 @pytest.mark.parametrize("word", ["delay.median", "completion", "again", "held", "delay.least"])
 def test_a_metric_has_one_name(word: str) -> None:
-    with pytest.raises(ValueError, match=f"^there is no metric '{word}': packets, "):
+    with pytest.raises(ValueError, match=f"^there is no metric '{word}'; the metrics are packets, "):
         metric_of(word)
 
 

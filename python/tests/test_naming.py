@@ -1,4 +1,4 @@
-"""Names for who injects packets: rows of their own, by delays that are worked out by hand; and what is refused."""
+"""Names for the sources of injected packets: rows of their own, with delays worked out by hand, and what is refused."""
 import json
 import pickle
 from pathlib import Path
@@ -27,7 +27,7 @@ LINK = """@0 pipe 1 config bw 8Mbit/s delay 10 queue 2
 """
 SCENARIO = f"experiment one seed 1 budget 20\n{LINK}"
 MINE = {"10.0.0.1:1000": "mine"}
-SOURCES = "there are 10.0.0.1:1000, 10.0.0.1:2000, 10.0.0.2:53"
+SOURCES = "the sources are 10.0.0.1:1000, 10.0.0.1:2000, 10.0.0.2:53"
 
 
 @pytest.fixture
@@ -54,7 +54,7 @@ def test_rows_of_a_name(files: tuple[Path, Path]) -> None:
     # 4000 bits in 11.5 ms, and 8000 bits in 11 ms, both rounded down.
     assert row_of(rows, "injected") == [1, 1, 0, 500, 11_500_000, 11_500_000, 347_826]
     assert row_of(rows, "other") == [1, 1, 0, 1000, 11 * MS, 11 * MS, 727_272]
-    # What of injected packets was new only their program knows.
+    # Only the program that injects packets knows which of their bytes are new.
     assert rows.goodput.isna().tolist() == [True, True, True, False, True, True]
     # The train has the address and the port of `mine`, and its own row.
     assert row_of(rows, "train 1")[:2] == [1, 1]
@@ -119,9 +119,9 @@ def test_a_session(program: str, tmp_path: Path) -> None:
 def test_another_scenario_is_still_refused(files: tuple[Path, Path]) -> None:
     """With 600 bytes in line 5 the second packet would be served up to 1.6 ms, and not 1.5."""
     files[1].write_text(SCENARIO.replace("2000 500", "2000 600"))
-    with pytest.raises(dnlab.Faulty, match="line 5: injected, 600 bytes"):
+    with pytest.raises(dnlab.InputError, match="line 5: injected, 600 bytes"):
         dnlab.read(*files, names=MINE).summary()
-    with pytest.raises(dnlab.Faulty, match="line 5: mine, 600 bytes"):
+    with pytest.raises(dnlab.InputError, match="line 5: mine, 600 bytes"):
         dnlab.read(*files, names={"10.0.0.1:2000": "mine"}).summary()
 
 
@@ -161,7 +161,7 @@ def test_the_others_refuse_it_too(files: tuple[Path, Path], name: str, more: lis
     status, out, said = tool(name, *files, "--name", "10.0.0.9=mine", *more)
     assert (status, out) == (2, "") and SOURCES in said
     status, _, said = tool(name, files[0], "--name", "10.0.0.1=mine", *more)
-    assert status == 2 and "the scenario alone has which packets were injected" in said
+    assert status == 2 and "only the scenario says which packets were injected" in said
 
 
 def test_of_several_experiments(tmp_path: Path, alone: Alone) -> None:
@@ -176,16 +176,16 @@ def test_of_several_experiments(tmp_path: Path, alone: Alone) -> None:
     assert [line.split(",")[:3] for line in out.splitlines()[1:]] == [
         ["one", "mine", "3"], ["one", "injected", "2"], ["two", "injected", "5"]]
     status, _, said = tool("summary", *words, "--experiment", "two")
-    assert status == 2 and "there are 10.0.0.1:3000, 10.0.0.1:2000, 10.0.0.2:53" in said
+    assert status == 2 and "the sources are 10.0.0.1:3000, 10.0.0.1:2000, 10.0.0.2:53" in said
 
 
 def test_no_packet_is_injected(tmp_path: Path, program: str) -> None:
     text = "experiment none seed 1 budget 20\n@0 train 1 udp 10.0.0.1 1 10.0.0.2 1 100 count 1 gap 0\n@1 end\n"
-    with pytest.raises(dnlab.Faulty, match="the scenario injects none"):
+    with pytest.raises(dnlab.InputError, match="the scenario injects none"):
         dnlab.run(text, dnlab=program, names={"10.0.0.1": "mine"}, out=tmp_path / "report.txt")
     # It was refused before the run.
     assert not list(tmp_path.iterdir())
-    with pytest.raises(dnlab.Failed, match="line 2: badword"):
+    with pytest.raises(dnlab.ProgramError, match="line 2: badword"):
         dnlab.run(text.replace("train", "trains"), dnlab=program, names={"10.0.0.1": "mine"})
 
 

@@ -9,7 +9,7 @@ import dnlab
 from dnlab.io.origin import beside, check_beside, file_checksum, read_beside, scenario_checksum
 from dnlab.io.scenario import read
 
-# Nothing that a line of the report shows tells 100 bytes from 200: the pipe has no rate.
+# No line of the report distinguishes 100 bytes from 200, because the pipe has no rate.
 TEXT = """experiment a seed 0 budget 100
 @0 pipe 1 config delay 10
 @0 add 100 pipe 1 ip from any to any
@@ -23,7 +23,7 @@ OTHER = TEXT.replace("2 100 count", "2 200 count")
 
 @pytest.fixture
 def stored(program: str, tmp_path: Path) -> tuple[Path, Path, Path]:
-    """A report that was stored by a run, its scenario, and another that no line of it tells from that."""
+    """Returns a report stored by a run, its scenario, and another scenario that gives the same report."""
     for name, text in (("s.txt", TEXT), ("o.txt", OTHER)):
         (tmp_path / name).write_text(text)
     dnlab.run(tmp_path / "s.txt", out=tmp_path / "r.txt", dnlab=program)
@@ -49,12 +49,12 @@ def test_another_scenario_is_refused(stored: tuple[Path, Path, Path], tmp_path: 
                         ("view", ["--out", tmp_path / "p.html"]), ("pcap", ["--experiment", "a"])):
         status, out, err = tool(name, report, other, *words)
         assert status == 2 and not out and len(err.splitlines()) == 1, (name, err)
-        assert "isn't the scenario that" in err and "r.txt.json" in err, name
+        assert "is not the scenario of" in err and "r.txt.json" in err, name
     assert tool("compare", report, report, other)[0] == 2 and tool("compare", report, report, plan)[0] == 0
     assert tool("summary", report, plan)[0] == 0 and tool("summary", report)[0] == 0
-    with pytest.raises(dnlab.Faulty, match="isn't the scenario that"):
+    with pytest.raises(dnlab.InputError, match="is not the scenario of"):
         dnlab.read(report, other)
-    # Where nothing is kept beside it, no line tells the sizes apart.
+    # Without the file beside it, no line distinguishes the sizes.
     beside(report).unlink()
     assert tool("summary", report, other)[0] == 0 and dnlab.read(report, plan).origin is None
 
@@ -73,7 +73,7 @@ def test_a_report_that_was_changed(stored: tuple[Path, Path, Path]) -> None:
     for words in ([report, plan], [report]):
         status, out, err = tool("summary", *words)
         assert status == 2 and not out and "another checksum" in err and "remove that file" in err
-    with pytest.raises(dnlab.Faulty, match="another checksum"):
+    with pytest.raises(dnlab.InputError, match="another checksum"):
         dnlab.read(report)
 
 
@@ -86,10 +86,10 @@ def test_files_that_are_something_else(stored: tuple[Path, Path, Path]) -> None:
         assert tool("summary", report, plan)[0] == 0
     beside(report).write_text('{"dnlab report": 1, "scenario": 5}')
     status, _, err = tool("summary", report, plan)
-    assert status == 2 and "it doesn't tell what made" in err and len(err.splitlines()) == 1
+    assert status == 2 and "it is not a valid record of what made" in err and len(err.splitlines()) == 1
 
 
 def test_a_run_that_fails_leaves_nothing(program: str, tmp_path: Path) -> None:
-    with pytest.raises(dnlab.Failed):
+    with pytest.raises(dnlab.ProgramError):
         dnlab.run(TEXT.replace("train 9", "trian 9"), out=tmp_path / "r", dnlab=program)
     assert not list(tmp_path.iterdir())

@@ -1,4 +1,4 @@
-"""Scenarios that are packed by gzip, and what tells of a report that was run from one."""
+"""Scenarios compressed by gzip, and the record of a report that was made from one."""
 import gzip
 import hashlib
 import json
@@ -56,7 +56,7 @@ def test_spread_says_what_made_its_report(tmp_path: Path, program: str) -> None:
     # Another delay makes another scenario, though the report's lines would be refused later too.
     plain.write_bytes(plain.read_bytes().replace(b"delay 10", b"delay 11"))
     status, _, err = tool("expect", report, plain, BOUND)
-    assert status == 2 and "it isn't the scenario that" in err
+    assert status == 2 and "it is not the scenario of" in err
 
 
 def test_spread_keeps_the_scenario_that_run_keeps(tmp_path: Path, program: str) -> None:
@@ -83,4 +83,4 @@ def test_a_bomb(tmp_path: Path, is_file: bool) -> None:
     assert status == 2 and "line 2: a line of more than" in told and not out
     assert time.monotonic() - begin < 20
     status, _, told = tool("spread", bomb)
-    assert status == 2 and "unpacked it has more than" in told
+    assert status == 2 and "decompressed it has more than" in told

@@ -52,7 +52,8 @@ def run(words: list[str], folder: Path, program: str) -> str:
 @pytest.fixture
 def folder(tmp_path: Path, program: str) -> Path:
     """An empty folder in which the commands of the pages find the program and the tools."""
-    (tmp_path / "dnlab").symlink_to(program)
+    # It starts the program, which DNLAB names.
+    (tmp_path / "dnlab").symlink_to(ROOT / "dnlab")
     for name in LINKED:
         (tmp_path / name).symlink_to(ROOT / name)
     return tmp_path
@@ -99,14 +100,14 @@ def text_of(name: str) -> str:
     ("queue.txt", ("queue 3", "queue 2"), "6000000 drop 3 plain full\n"),
     ("queue.txt", ("queue 3", "queue 2"), "10000000 drop 5 plain full\n"),
 ])
-def test_answers_of_the_tutorial(name: str, change: tuple[str, str], wanted: str, folder: Path) -> None:
+def test_answers_of_the_tutorial(name: str, change: tuple[str, str], wanted: str, folder: Path, program: str) -> None:
     (folder / name).write_text(text_of(name).replace(*change))
-    assert f"\n{wanted}" in run(["bash", "-c", f"./dnlab alone < {name}"], folder, str(folder / "dnlab"))
+    assert f"\n{wanted}" in run(["bash", "-c", f"./dnlab alone < {name}"], folder, program)
 
 
-def test_the_answer_without_a_way_back(folder: Path) -> None:
+def test_the_answer_without_a_way_back(folder: Path, program: str) -> None:
     (folder / "flow.txt").write_text(re.sub(r"@0 add 200 .*\n", "", text_of("flow.txt")))
-    assert "deny its acknowledgements" in run(["bash", "-c", "./dnlab check --explain < flow.txt"], folder, str(folder / "dnlab"))
+    assert "deny its acknowledgements" in run(["bash", "-c", "./dnlab check --explain < flow.txt"], folder, program)
 
 
 def test_the_answer_of_another_target(folder: Path, program: str) -> None:

@@ -139,7 +139,7 @@ def test_what_pcap_refuses(alone: Alone, tmp_path: Path) -> None:
         (tmp_path / name).write_bytes(alone(text.encode()))
     for name, said, words in (("late", "2 of its 5 packets were made without `trace 1`", ()), ("none", "5 of its 5 packets", ()),
                               ("two", "several experiments", ()), ("empty", "made no packet", ()),
-                              ("good", "there are flow 1", ("--of", "flow 2")), ("good", "no experiment", ("--experiment", "x"))):
+                              ("good", "the senders are flow 1", ("--of", "flow 2")), ("good", "no experiment", ("--experiment", "x"))):
         status, _, err = tool("pcap", tmp_path / name, "--out", tmp_path / "x.pcap", *words)
         assert status == 2 and said in err, name
     assert "`@0 trace 1` the first command" in tool("pcap", tmp_path / "none")[2]

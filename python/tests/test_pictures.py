@@ -81,7 +81,7 @@ def test_without_the_scenario() -> None:
 
 
 def test_a_traced_report_alone() -> None:
-    """It tells all but the window that a flow begins with."""
+    """The picture has everything but a flow's initial window."""
     axes = pictures.figure_of([view_of("traced_flow", joined=False)], ["window", "queue", "sojourn"]).axes
     assert lines_on(axes[0])["cwnd 1"][0][0] > 0 and axes[2].get_lines()
 

@@ -47,7 +47,7 @@ def test_a_program_that_fails(rate: str, said: str, mine: str) -> None:
 
 
 @pytest.mark.parametrize("words, said", [
-    ((), "one of TEMPLATE and --run COMMAND is needed"), (("a.yaml", "--run", "true"), "--run COMMAND takes no TEMPLATE"),
+    ((), "give TEMPLATE or --run COMMAND"), (("a.yaml", "--run", "true"), "--run COMMAND replaces TEMPLATE: leave one out"),
     (("a.yaml", "--on", "slurm"), "don't go with programs"), (("--run", "true", "--kept", "k"), "don't go with programs"),
     (("--run", "true", "--set", "x=1"), "there is no {{ x }} in it")])
 def test_wrong_words(words: tuple[str, ...], said: str) -> None:

@@ -47,7 +47,7 @@ def test_help_needs_no_package(name: str) -> None:
     help_there, help_bare, version, other = (
         subprocess.run(words, capture_output=True, text=True, check=False)
         for words in ([sys.executable, *bare[2:], "--help"], [*bare, "--help"], [*bare, "--version"], [*bare, "none.txt"]))
-    assert help_there.returncode == 0 and help_there.stdout.startswith(f"usage: {name} ")
+    assert help_there.returncode == 0 and help_there.stdout.startswith(f"usage: tools/{name} ")
     assert (help_bare.returncode, help_bare.stdout, help_bare.stderr) == (0, help_there.stdout, "")
     assert (version.returncode, version.stdout) == (0, f"dnlab-{name} {dnlab.__version__}\n")
     if NEEDS[name]:
@@ -60,7 +60,7 @@ def test_a_named_program_comes_first(tmp_path: Path, monkeypatch: pytest.MonkeyP
     assert programs.program(str(named)) == str(named)
     assert programs.program() == str(other)
     monkeypatch.setenv("DNLAB", str(tmp_path / "none"))
-    with pytest.raises(dnlab.Failed, match="none is no program") as failed:
+    with pytest.raises(dnlab.ProgramError, match="none is no program") as failed:
         programs.program()
     assert failed.value.status == 2
 
@@ -74,7 +74,7 @@ def test_the_repository_asks_its_script(tmp_path: Path, monkeypatch: pytest.Monk
     monkeypatch.setenv("DNLAB", str(tmp_path / "dnlab"))
     assert programs.program() == "/some/program"
     script(tmp_path / "dnlab", "exit 3")
-    with pytest.raises(dnlab.Failed, match="could make none") as failed:
+    with pytest.raises(dnlab.ProgramError, match="could not build one") as failed:
         programs.program()
     assert failed.value.status == 3
 
@@ -87,13 +87,13 @@ def test_an_installed_package_has_its_own(tmp_path: Path) -> None:
     assert asked(place, "programs", "program", PATH=f"{on_path.parent}:{os.environ['PATH']}").stdout == f"{on_path}\n"
     carried = script(place / "dnlab" / "bin" / "dnlab", 'echo "carried $0: $*"; cat; exit 4')
     assert asked(place, "programs", "program", PATH=str(on_path.parent)).stdout == f"{carried}\n"
-    started = asked(place, "programs", "start", "run", "--x")
+    started = asked(place, "cli.program", "start", "run", "--x")
     assert (started.stdout, started.returncode) == (f"carried {carried}: run --x\n", 4)
 
 
 def test_a_package_by_tools_install_has_the_program_of_its_prefix(tmp_path: Path) -> None:
     place = copied(tmp_path / "prefix" / "share" / "dnlab" / "python")
-    beside = script(tmp_path / "prefix" / "bin" / "dnlab", "echo beside")
+    beside = script(tmp_path / "prefix" / "libexec" / "dnlab" / "dnlab", "echo beside")
     on_path = script(tmp_path / "path" / "dnlab", "echo path")
     assert asked(place, "programs", "program", PATH=f"{on_path.parent}:{os.environ['PATH']}").stdout == f"{beside}\n"
 
@@ -133,7 +133,7 @@ def test_another_python_is_told_how_to_take_debians(monkeypatch: pytest.MonkeyPa
 
 
 def test_help_names_the_installed_commands(tmp_path: Path) -> None:
-    text = "usage: plot [-h] REPORT\n\nExample: ./dnlab alone < s.txt | tools/plot - s.txt"
+    text = "usage: tools/plot [-h] REPORT\n\nExample: ./dnlab alone < s.txt | tools/plot - s.txt"
     assert renamed(text) == "usage: dnlab-plot [-h] REPORT\n\nExample: dnlab alone < s.txt | dnlab-plot - s.txt"
     place = copied(tmp_path / "lib")
     for command in COMMANDS:

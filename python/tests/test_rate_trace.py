@@ -84,7 +84,7 @@ def test_an_outage_that_comes_to_an_idle_link(tmp_path: Path, alone: Run) -> Non
 
 
 def test_what_a_low_rate_would_do(tmp_path: Path, alone: Run) -> None:
-    """1 kbit/s in place of the outage: the packet in service takes 12 s, long behind it. That is told."""
+    """1 kbit/s in place of the outage: the packet in service takes 12 s, long after its end, which the tool says."""
     trace, scenario = files(tmp_path, OUTAGE.replace("1,0\n", "1,1000\n"))
     status, text, told = tool("rate-trace", trace, "--scenario", scenario)
     assert status == 0 and "1 rates are so low" in told and "--lowest" in told

@@ -66,4 +66,4 @@ def test_the_python_page() -> None:
     done = subprocess.run([sys.executable, TOOL, "--check"], capture_output=True, text=True, check=False)
     assert (done.returncode, done.stderr, done.stdout) == (0, "", "1 passed, 0 failed\n")
     page = (ROOT / "docs/reference/python.md").read_text()
-    assert "## dnlab.run\n" in page and "- `workers`: how many threads run its experiments, 1 to 16\n" in page
+    assert "## dnlab.run\n" in page and "- `workers`: the number of threads that run its experiments, 1 to 16\n" in page

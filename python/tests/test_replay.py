@@ -31,7 +31,7 @@ def ip(protocol: int, inner: bytes, length: int, source: int = 1) -> bytes:
 
 
 def udp(length: int, source: int = 1) -> bytes:
-    """A packet of UDP, of so many bytes with the header of IP; of its payload nothing was kept."""
+    """Returns a UDP packet of this size, with the IP header, whose payload was not captured."""
     return ip(17, struct.pack(">HHHH", 1000, 2000, length - 20, 0), length, source)
 
 
@@ -168,7 +168,7 @@ def test_a_capture_and_a_table(tmp_path: Path) -> None:
 
 
 @pytest.mark.parametrize("names, wanted", [
-    (["out.txt"], ".pcap"), (["out.pcapng"], ".csv"), (["out.pcap", "out"], ".csv"), (["out.csv", "out.csv"], "twice")])
+    (["out.txt"], ".pcap"), (["out.pcapng"], ".csv"), (["out.pcap", "out"], ".csv"), (["out.csv", "out.csv"], "with different names")])
 def test_other_endings_are_refused(names: list[str], wanted: str, tmp_path: Path) -> None:
     came = pcap(tmp_path / "in.pcap", [(0, udp(1000))])
     words = [word for name in names for word in ("--out", str(tmp_path / name))]
@@ -227,7 +227,7 @@ def test_a_link_of_ones_own(tmp_path: Path) -> None:
 
 @pytest.mark.parametrize("text, wanted", [
     ("moment,size\n5,x\n", "line 2"), ("moment,size\n5,40\n1.5,40\n", "line 3"), ("size\n40\n", "line 1"), ("", "line 1"),
-    ("moment,size\n", "no packet"), ("moment,size,colour\n1,40,red\n", "colour"), ("moment,size,source\n1,40,10.0.0.300\n", "line 2"),
+    ("moment,size\n", "no TCP or UDP packet"), ("moment,size,colour\n1,40,red\n", "colour"), ("moment,size,source\n1,40,10.0.0.300\n", "line 2"),
     ("moment,size\n1,40\n1,40,7,8\n", "line 3"), ("moment,size\n1,1501\n", "--large")])
 def test_wrong_tables(text: str, wanted: str, tmp_path: Path) -> None:
     came = tmp_path / "in.csv"
@@ -245,7 +245,7 @@ def test_wrong_captures(tmp_path: Path) -> None:
     (tmp_path / "cut4.pcap").write_bytes(pcapng(tmp_path / "in.pcapng", [(0, udp(1000))]).read_bytes()[:-5])
     (tmp_path / "link.pcap").write_bytes(whole[:20] + struct.pack("<I", 147) + whole[24:])
     (tmp_path / "bytes").write_bytes(b"\xff\xfe\0\1")
-    for name, wanted in (("cut.pcap", "cut off"), ("cut2.pcap", "cut off"), ("cut3.pcap", "cut off"), ("cut4.pcap", "cut off"), ("link.pcap", "147"), ("bytes", "no capture"), ("gone", "gone")):
+    for name, wanted in (("cut.pcap", "cut off"), ("cut2.pcap", "cut off"), ("cut3.pcap", "cut off"), ("cut4.pcap", "cut off"), ("link.pcap", "147"), ("bytes", "neither a capture"), ("gone", "gone")):
         status, said, told = tool("replay", tmp_path / name, *LINK, "--out", tmp_path / "out.pcap")
         assert (status, said) == (2, "") and wanted in told and "Traceback" not in told, (name, told)
         assert not (tmp_path / "out.pcap").exists()

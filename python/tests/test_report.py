@@ -9,7 +9,7 @@ from hypothesis import given, settings
 from hypothesis import strategies as some
 
 from dnlab.analysis.makings import makings_of
-from dnlab.errors import Refused
+from dnlab.errors import ParseError
 from dnlab.io import pieces, report, scenario
 from dnlab.io.digits import Text
 from dnlab.io.drops import CAUSES
@@ -35,43 +35,43 @@ counters 1 1 0 0 0 0 0 0 0 0 0
 # What is changed in the text above, and the line and a word of the cause that must be told.
 FAULTS = [
     ("experiment a", "experiment A", 1, "experiment NAME"),
-    ("0 ok 1", "0 okay 1", 3, "no line of a report"),
-    ("0 ok 1", "00 ok 1", 3, "no line of a report"),
-    ("0 ok 1", "0  ok 1", 3, "no line of a report"),
+    ("0 ok 1", "0 okay 1", 3, "not a line of a report"),
+    ("0 ok 1", "00 ok 1", 3, "not a line of a report"),
+    ("0 ok 1", "0  ok 1", 3, "not a line of a report"),
     ("0 ok 1", "0 ok 2", 3, "command 2"),
-    ("0 ok 1", "0 refused 1 14", 3, "no line of a report"),
+    ("0 ok 1", "0 refused 1 14", 3, "not a line of a report"),
     ("bw 0 delay", "bw 0 delays", 4, "listing"),
     ("0 ok 1\n", "0 ok 1\n0 finish 0 1.0\n", 5, "listing"),
-    ("9 deliver", "7 deliver", 6, "moment 7 after 8"),
-    ("9 deliver 0 plain", "9 drop 0 plain gone", 6, "no line of a report"),
+    ("9 deliver", "7 deliver", 6, "time 7 after 8"),
+    ("9 deliver 0 plain", "9 drop 0 plain gone", 6, "not a line of a report"),
     ("9 deliver 0 plain\n", "9 deliver 0 plain\n9 deliver 0 plain\n", 7, "before"),
     ("9 deliver 0 plain", "9 drop 0 plain full", 8, "1 delivered"),
     ("10 spent\n", "10 spent\n10 ok 2\n", 8, "after `spent`"),
     ("8 finish 0", "8 finish 1", 5, "packet 1"),
     ("counters 1 1", "counters 2 1", 8, "add up"),
     ("counters 1 1 0 0", "counters 2 1 0 1", 8, "drops `denied`"),
-    ("0 0 0\n", "0 0 0", 8, "end of line"),
+    ("0 0 0\n", "0 0 0", 8, "line feed"),
     ("counters 1 1 0 0 0 0 0 0 0 0 0\n", "", 8, "without the counters"),
     ("0 0 0\n", "0 0 0\nexperiment a\n", 9, "second experiment"),
     ("finish", "fin\u00ecsh", 5, "byte"),
     # What the reader in columns could overlook.
-    ("counters 1", "counters " + "1" * 5000, 8, "no line of a report"),
-    ("0 ok 1", "0\tok 1", 3, "no line of a report"),
-    ("0 ok 1", "0 ok 1 ", 3, "no line of a report"),
-    ("0 ok 1", " 0 ok 1", 3, "no line of a report"),
-    ("8 finish 0 1.0", "8 finish 0 01.0", 5, "no line of a report"),
-    ("8 finish 0 1.0", "8 finish 0 1.256", 5, "no line of a report"),
-    ("8 finish 0 1.0", "8 finish 0 65536.0", 5, "no line of a report"),
-    ("9 deliver 0 plain", "9 deliver 0 plain 1 2", 6, "no line of a report"),
-    ("9 deliver 0 plain", "9 deliver 0 data", 6, "no line of a report"),
-    ("9 deliver 0 plain", "9 deliver 0 data 1 01", 6, "no line of a report"),
-    ("9 deliver 0 plain", "9 drop 0 plain noinstanc_", 6, "no line of a report"),
-    ("9 deliver 0 plain", "9 deliver 4294967296 plain", 6, "no line of a report"),
-    ("9 deliver 0 plain", "9 deliver 99999999 plain", 6, "makes 10000000 at most"),
-    ("9 deliver 0 plain", "99999999999999999 deliver 0 plain", 6, "no line of a report"),
+    ("counters 1", "counters " + "1" * 5000, 8, "not a line of a report"),
+    ("0 ok 1", "0\tok 1", 3, "not a line of a report"),
+    ("0 ok 1", "0 ok 1 ", 3, "not a line of a report"),
+    ("0 ok 1", " 0 ok 1", 3, "not a line of a report"),
+    ("8 finish 0 1.0", "8 finish 0 01.0", 5, "not a line of a report"),
+    ("8 finish 0 1.0", "8 finish 0 1.256", 5, "not a line of a report"),
+    ("8 finish 0 1.0", "8 finish 0 65536.0", 5, "not a line of a report"),
+    ("9 deliver 0 plain", "9 deliver 0 plain 1 2", 6, "not a line of a report"),
+    ("9 deliver 0 plain", "9 deliver 0 data", 6, "not a line of a report"),
+    ("9 deliver 0 plain", "9 deliver 0 data 1 01", 6, "not a line of a report"),
+    ("9 deliver 0 plain", "9 drop 0 plain noinstanc_", 6, "not a line of a report"),
+    ("9 deliver 0 plain", "9 deliver 4294967296 plain", 6, "not a line of a report"),
+    ("9 deliver 0 plain", "9 deliver 99999999 plain", 6, "has at most 10000000"),
+    ("9 deliver 0 plain", "99999999999999999 deliver 0 plain", 6, "not a line of a report"),
     ("0 0 0\n", "0 0 0\nmore\n", 9, "experiment NAME"),
     ("9 deliver 0 plain\n", "9 deliver 0 plain\n9 make 0 plain udp 1.2.3.4 5 6.7.8.9 10 40\n", 7, "before"),
-    ("8 finish 0 1.0\n", "8 finish 0 1.0\n8 make 0 plain udp 1.2.3.4 5 6.7.8.9 10 40\n", 6, "behind"),
+    ("8 finish 0 1.0\n", "8 finish 0 1.0\n8 make 0 plain udp 1.2.3.4 5 6.7.8.9 10 40\n", 6, "is created after another line that names it"),
 ]
 
 
@@ -79,7 +79,7 @@ def refused(text: bytes) -> tuple[object, str]:
     """Line and cause of what is refused."""
     try:
         list(report.read(text))
-    except Refused as fault:
+    except ParseError as fault:
         return fault.line, fault.cause
     return None, "nothing was refused"
 
@@ -212,4 +212,4 @@ def test_blocks_of_any_size(size: int, monkeypatch: pytest.MonkeyPatch) -> None:
 def test_what_is_not_asked_for_stays_unread() -> None:
     text = GOOD + GOOD.replace("experiment a", "experiment b").replace("9 deliver", "7 deliver")
     assert [one.name for one in report.read(text.encode(), ["a"])] == ["a"]
-    assert refused(text.encode()) == (14, "moment 7 after 8")
+    assert refused(text.encode()) == (14, "time 7 after 8")

@@ -75,7 +75,7 @@ def test_read() -> None:
 
 
 def test_a_scenario_of_another_report() -> None:
-    with pytest.raises(dnlab.Faulty, match="it has no experiment"):
+    with pytest.raises(dnlab.InputError, match="it has no experiment"):
         dnlab.read(FOUR / "expected.txt", EXAMPLES / "one_packet" / "scenario.txt")
     report = dnlab.read(EXAMPLES / "loss_none" / "expected.txt", EXAMPLES / "loss_none" / "scenario.txt")
     assert report[next(iter(report))].packets() is not None
@@ -87,10 +87,10 @@ def test_run(program: str, tmp_path: Path, monkeypatch: pytest.MonkeyPatch) -> N
     report = dnlab.run(text, workers=4)
     assert Path(report.given.report).read_bytes() == (FOUR / "expected.txt").read_bytes()
     assert dnlab.run(FOUR / "scenario.txt", out=tmp_path / "report").given.report == str(tmp_path / "report")
-    with pytest.raises(dnlab.Failed, match="line 2: badword") as failed:
+    with pytest.raises(dnlab.ProgramError, match="line 2: badword") as failed:
         dnlab.run("experiment a seed 1 budget 1\n@0 nothing\n@0 end\n", out=tmp_path / "none")
     assert failed.value.status == 1 and not (tmp_path / "none").exists()
-    with pytest.raises(dnlab.Failed, match="is no program"):
+    with pytest.raises(dnlab.ProgramError, match="is no program"):
         dnlab.run(text, dnlab="/nowhere/dnlab")
 
 
@@ -98,7 +98,7 @@ def test_run_more_than_the_program_takes(program: str, monkeypatch: pytest.Monke
     monkeypatch.setenv("DNLAB", program)
     text = "".join(f"# a\nexperiment e{number} seed 0 budget 10\n@0 show\n@9 end\n" for number in range(600))
     assert len(dnlab.run(text)) == 600
-    with pytest.raises(dnlab.Failed, match="line 2003: badword"):
+    with pytest.raises(dnlab.ProgramError, match="line 2003: badword"):
         dnlab.run(text.replace("experiment e500 seed 0 budget 10\n@0 show", "experiment e500 seed 0 budget 10\n@0 sho"))
 
 

@@ -7,7 +7,7 @@ import pytest
 from conftest import EXAMPLES
 
 import dnlab
-from dnlab.errors import Refused
+from dnlab.errors import ParseError
 from dnlab.io import scenario
 from dnlab.io.scenario import Judged
 from dnlab.io.scenario_parts import Sends
@@ -46,7 +46,7 @@ FAULTS = [(b"@9 end\n", b"", 9, "noend"), (b"budget 7", b"budget 0", 1, "outofra
 def test_faults(old: bytes, new: bytes, line: int, cause: str) -> None:
     text = TEXT.replace(old, new)
     assert text != TEXT and Judged(text).fault == (line, cause)
-    with pytest.raises(Refused) as refused:
+    with pytest.raises(ParseError) as refused:
         scenario.read(text)
     assert refused.value.line == line and refused.value.cause.startswith(cause)
 

@@ -58,8 +58,8 @@ def test_pairs_by_hand() -> None:
     assert (found.low, found.high) == pytest.approx((2 - 2.484, 2 + 2.484), abs=1e-3)
 
 
-@pytest.mark.parametrize("words, said", [(("--pairs", "bw"), "no setting"), (("--pairs", "delay=7"), "no value of it"),
-                                         (("--pairs", "count"), "it has one value")])
+@pytest.mark.parametrize("words, said", [(("--pairs", "bw"), "no such setting"), (("--pairs", "delay=7"), "no such value"),
+                                         (("--pairs", "count"), "it has only one value")])
 def test_what_can_be_no_pair_is_said_before_anything_runs(template: Path, words: tuple[str, ...], said: str) -> None:
     status, out, err = tool("sweep", template, "--set", "delay=5,20", "--set", "count=1", "--of", "all", "--stat", "lost", *words)
     assert (status, out) == (2, "") and said in err and not Path(f"{template}.kept").exists()
@@ -68,7 +68,7 @@ def test_what_can_be_no_pair_is_said_before_anything_runs(template: Path, words:
 def test_pairs_are_printed(template: Path) -> None:
     out = tool("sweep", template, "--set", "delay=5,20", "--seeds", "1-3", "--of", "train 1", "--stat", "delay.p50",
                "--pairs", "delay")[1]
-    assert out.splitlines()[-1].split("  ")[0] == "20 less 5" and out.splitlines()[-1].endswith("15 ± 0")
+    assert out.splitlines()[-1].split("  ")[0] == "20 - 5" and out.splitlines()[-1].endswith("15 ± 0")
 
 
 def test_names_of_columns_are_no_settings(template: Path) -> None:
@@ -76,7 +76,7 @@ def test_names_of_columns_are_no_settings(template: Path) -> None:
     for name in ("value", "base", "min", "sender", "n"):
         status, out, err = tool("sweep", template, "--set", f"{name}=1,2")
         assert (status, out) == (2, "") and f"no setting can be called {name}: the tables" in err and f"call it {name}_ " in err
-        with pytest.raises(dnlab.Faulty, match="no setting can be called"):
+        with pytest.raises(dnlab.InputError, match="no setting can be called"):
             dnlab.sweep(ONE + "# {{ " + name + " }}\n", settings={name: [1, 2], "delay": 5})
 
 
@@ -107,14 +107,14 @@ def test_needed_is_said_and_a_column(template: Path) -> None:
                             "delay.p50,lost", "--within", "1%", "--csv", "-")
     rows = list(csv.DictReader(io.StringIO(out)))
     assert status == 0 and int(rows[0]["needed"]) > 3 and rows[1]["needed"] == "2"
-    assert f"--within 0.01: 1 of 2 means need more than the 3 seeds here; the most, {rows[0]['needed']}, delay.p50" in err
+    assert f"--within 0.01: 1 of 2 means need more than the 3 seeds of this sweep; the most, {rows[0]['needed']}, delay.p50" in err
     assert tool("sweep", template, "--set", "delay=5", "--within", "0%")[0] == 2
 
 
 # ---- long form, marks
 
 def test_long_form(template: Path, tmp_path: Path) -> None:
-    """A row for each experiment, of whom and stat: 2 settings, 3 seeds, 2 stats."""
+    """A row for each experiment, sender and statistic: 2 settings, 3 seeds, 2 statistics."""
     status, _, err = tool("sweep", template, "--set", "delay=5,20", "--seeds", "1-3", "--of", "train 1", "--stat",
                           "delivered,fct", "--long", tmp_path / "long.csv")
     rows = list(csv.DictReader(open(tmp_path / "long.csv")))
@@ -166,9 +166,9 @@ def test_rows_and_columns(program: str) -> None:
     assert figure._suptitle.get_text() == "Train 1 by link delay"
     assert [axes.get_title("left") for axes in figure.axes] == ["Link rate: 1Mbit/s", "Link rate: 2Mbit/s"] * 2
     assert [axes.get_ylabel()[:5] for axes in figure.axes] == ["Packe"] * 2 + ["95th "] * 2
-    for wrong, said in (({"rows": "nothing"}, "no setting"), ({"rows": "bw", "columns": "bw"}, "another setting"),
+    for wrong, said in (({"rows": "nothing"}, "no such setting"), ({"rows": "bw", "columns": "bw"}, "another setting"),
                         ({"log": ["z"]}, "--log z")):
-        with pytest.raises(dnlab.Faulty, match=said):
+        with pytest.raises(dnlab.InputError, match=said):
             made.plot(**wrong)
 
 

@@ -48,7 +48,7 @@ def test_reno_is_the_link_s_own_flow(program: str, seed: int, queue: int, plr: s
     theirs = [pair for pair in zip(windows.cwnd.tolist(), windows.ssthresh.tolist())]
     theirs = [one for one, before in zip(theirs, [None, *theirs]) if one != before]
     ours = [(cwnd, min(ssthresh, S)) for _, cwnd, ssthresh in flow.history]
-    # The end is told apart: the link's own has no line once all is acknowledged.
+    # The ends differ: the link's own has no line once all is acknowledged.
     assert ours[:len(theirs) - 1] == theirs[:-1] and len(theirs) > 40
 
 
@@ -84,7 +84,7 @@ def begun(window: Any, segments: int = 40, limit: Optional[int] = None) -> tuple
 
 
 def ack(fake: Fake, flow: Flow, upto: int, times: int = 1) -> list[int]:
-    """Acknowledgements of the first so many segments come; what goes out."""
+    """Acknowledges the first segments, and returns what is sent."""
     for _ in range(times):
         fake.now += MS
         flow.acknowledged(upto * 1000)
@@ -245,7 +245,7 @@ def test_it_runs_again_by_alone(program: str, alone: Callable[[bytes], bytes], t
 
 
 def test_steps_that_are_spent_are_told(program: str) -> None:
-    with pytest.raises(dnlab.Faulty, match="its steps are spent"):
+    with pytest.raises(dnlab.InputError, match="its steps were spent"):
         on_link(program, lambda network: network.flow(10**6), steps=100)
 
 

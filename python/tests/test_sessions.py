@@ -1,4 +1,4 @@
-"""Sessions by Python: what is told of packets, worked out by hand; what goes wrong; and how a session ends."""
+"""Sessions in Python: replies about packets, worked out by hand; errors; and how a session ends."""
 import io
 import os
 import signal
@@ -117,15 +117,15 @@ def test_only_mine(session: dnlab.Session) -> None:
 
 
 def test_faults_have_their_cause_and_line(session: dnlab.Session, link: dnlab.Link) -> None:
-    with pytest.raises(dnlab.NotTaken, match="10Mbit/s") as not_taken:
+    with pytest.raises(dnlab.LineRejectedError, match="10Mbit/s") as not_taken:
         link.command("pipe 2 config bw 10Mbps")
     assert (not_taken.value.cause, not_taken.value.line) == ("badword", "@0 pipe 2 config bw 10Mbps")
-    with pytest.raises(dnlab.CommandRefused) as refused:
+    with pytest.raises(dnlab.CommandRefusedError) as refused:
         link.command("delete 7")
     assert (refused.value.code, refused.value.line) == (13, "@0 delete 7")
-    with pytest.raises(dnlab.NotTaken, match="samename"):
+    with pytest.raises(dnlab.LineRejectedError, match="samename"):
         session.experiment("by-hand")
-    with pytest.raises(dnlab.NotTaken, match="badword"):
+    with pytest.raises(dnlab.LineRejectedError, match="badword"):
         session.experiment("By hand")
     link.until(5)
     for call in (lambda: link.until(4), lambda: link.send(CLIENT, SERVER, 40, at=4), lambda: link.until(10**15 + 1),
@@ -135,7 +135,7 @@ def test_faults_have_their_cause_and_line(session: dnlab.Session, link: dnlab.Li
         with pytest.raises(ValueError):
             call()
     link.end()
-    with pytest.raises(dnlab.Over):
+    with pytest.raises(dnlab.ExperimentEndedError):
         link.until(10)
     # What was refused stands in the transcript, what was not taken doesn't.
     assert "@0 delete 7\n" in link.transcript() and "Mbps" not in link.transcript()
@@ -148,7 +148,7 @@ def test_spent_steps(session: dnlab.Session, alone: Alone) -> None:
     # The third step is the delivery at 1 ns.
     assert [it.moment for it in link.until_mine()] == [1]
     assert link.is_over and link.now == 2
-    with pytest.raises(dnlab.Over):
+    with pytest.raises(dnlab.ExperimentEndedError):
         link.send(CLIENT, SERVER, 40)
     link.end()
     assert alone(link.transcript().encode()) == link.report()
@@ -239,15 +239,15 @@ def test_generators(link: dnlab.Link) -> None:
 
 
 def test_no_program_and_one_that_dies(program: str, tmp_path: Path) -> None:
-    with pytest.raises(dnlab.Failed, match="is no program"):
+    with pytest.raises(dnlab.ProgramError, match="is no program"):
         dnlab.live(str(tmp_path / "none"))
-    with pytest.raises(dnlab.Failed, match="ended") as failed, dnlab.live("/bin/false") as session:
+    with pytest.raises(dnlab.ProgramError, match="ended") as failed, dnlab.live("/bin/false") as session:
         session.experiment("a")
     assert failed.value.status == 1
     old = tmp_path / "old"
     old.write_text("#!/bin/sh\necho 'dnlab: no such command' >&2\nexit 2\n")
     old.chmod(0o755)
-    with pytest.raises(dnlab.Failed, match="no such command") as failed, dnlab.live(str(old)) as session:
+    with pytest.raises(dnlab.ProgramError, match="no such command") as failed, dnlab.live(str(old)) as session:
         session.experiment("a")
     assert failed.value.status == 2
 
@@ -256,9 +256,9 @@ def test_a_killed_program_is_said(program: str) -> None:
     with dnlab.live(program) as session:
         link = session.experiment("a")
         os.kill(session._talk._process.pid, signal.SIGKILL)
-        with pytest.raises(dnlab.Failed, match="SIGKILL"):
+        with pytest.raises(dnlab.ProgramError, match="SIGKILL"):
             link.until(5)
-        with pytest.raises(dnlab.Failed, match="SIGKILL"):
+        with pytest.raises(dnlab.ProgramError, match="SIGKILL"):
             link.until(6)
 
 
@@ -269,7 +269,7 @@ def test_a_session_ends_with_its_block(program: str) -> None:
     assert session._talk._process.returncode is not None
     with dnlab.live(program) as session:
         link = session.experiment("a")
-    with pytest.raises(dnlab.Failed, match="closed"):
+    with pytest.raises(dnlab.ProgramError, match="closed"):
         link.until(5)
 
 

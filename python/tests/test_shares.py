@@ -14,7 +14,7 @@ from hypothesis import strategies as some
 from dnlab.analysis.panels import MORE
 from dnlab.analysis.series import Panel, Series, Span, fewest, panel_of, within
 from dnlab.analysis.shares import overlaid
-from dnlab.errors import Faulty
+from dnlab.errors import InputError
 
 MS = 10**6
 
@@ -57,7 +57,7 @@ def test_a_span_of_time() -> None:
     assert drawn("window", Span(12 * MS, 33 * MS))["cwnd 1"] == [(12, 4380), (21.2, 5840), (22.4, 7300), (23.6, 8760), (33, 8760)]
     assert drawn("delivered", Span(12 * MS, 14 * MS))["flow 1"] == [(12, 1500), (12.4, 3000), (13.6, 4500), (14, 4500)]
     panel = panel_of(view_of("reno_four_segments"), "sojourn", Span(50 * MS))
-    assert not panel.series and panel.words == "nothing in this time"
+    assert not panel.series and panel.words == "no events in this time range"
 
 
 @given(some.lists(some.tuples(some.integers(0, 5), some.integers(0, 9)), min_size=1, max_size=12), some.integers(0, 40),
@@ -107,7 +107,7 @@ def test_overlaid() -> None:
     assert len(made[0].series) == 8 and "10 lines" in notes[0][1].text
     boxes = [[Panel("T", "ms", [line("flow 1", 7, "box")])]]
     assert len(overlaid([str(number) for number in range(60)], boxes * 60)[0][0].series) == 60
-    with pytest.raises(Faulty, match="61 boxes"):
+    with pytest.raises(InputError, match="61 boxes"):
         overlaid([str(number) for number in range(61)], boxes * 61)
 
 
@@ -133,7 +133,7 @@ def test_senders_are_chosen(tmp_path: Path) -> None:
     drawn = (tmp_path / "x.svg").read_text()
     assert ">flow 1<" in drawn and "acks" not in drawn
     status, _, err = tool("plot", report, scenario, "--of", "train *", *words)
-    assert status == 0 and "--of 'train *': it has flow 1, flow 1 acks" in err
+    assert status == 0 and "--of 'train *': no sender matches; the senders are flow 1, flow 1 acks" in err
 
 
 def report_of(count: int) -> bytes:

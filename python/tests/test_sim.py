@@ -26,7 +26,7 @@ def link(program: str) -> Iterator[dnlab.Link]:
 
 
 class Told(asyncio.DatagramProtocol):
-    """Keeps what it is told, with the link's time (ns)."""
+    """Keeps the messages that it receives, with the link's time (ns)."""
 
     def __init__(self, link: dnlab.Link, answers: bool = False) -> None:
         self.link, self.answers = link, answers
@@ -114,7 +114,7 @@ def test_what_an_operating_system_refuses(link: dnlab.Link) -> None:
             await endpoint(link, (CLIENT, 49152))
             with pytest.raises(NotImplementedError, match="only datagrams"):
                 await asyncio.open_connection(SERVER, 80)
-            with pytest.raises(OSError, match="no address, nor one of the names"):
+            with pytest.raises(OSError, match="neither an address nor one of the given names"):
                 await endpoint(link, remote=("example.org", 53))
             told = await endpoint(link)
             told.transport.sendto(b"", ("example.org", 53))
@@ -149,14 +149,14 @@ def test_deadlocks_are_said(link: dnlab.Link) -> None:
     async def waits() -> None:
         await asyncio.get_running_loop().create_future()
 
-    with pytest.raises(sim.Deadlock, match=r"nothing is due at 0 ns.*waits in test_deadlocks_are_said.<locals>.waits \(.*test_sim.py:\d+\)"):
+    with pytest.raises(sim.DeadlockError, match=r"nothing is due at 0 ns.*waits in test_deadlocks_are_said.<locals>.waits \(.*test_sim.py:\d+\)"):
         sim.run(waits(), link=link)
 
     async def spins() -> None:
         while True:
             await asyncio.sleep(0)
 
-    with pytest.raises(sim.Deadlock, match="no time passes"):
+    with pytest.raises(sim.DeadlockError, match="no time passes"):
         sim.run(spins(), link=link)
     assert asyncio.run(asyncio.sleep(0, "asyncio itself goes on")) and time.time() < 1e10
 
@@ -166,7 +166,7 @@ def test_spent_steps_are_said(program: str) -> None:
         link = session.experiment("few", steps=2)
         link.command("add 100 allow ip from any to any")
         link.send((CLIENT, 1), (SERVER, 2), 40)
-        with pytest.raises(dnlab.Over):
+        with pytest.raises(dnlab.ExperimentEndedError):
             sim.run(asyncio.sleep(5), link=link)
         link.end()
 

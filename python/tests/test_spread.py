@@ -265,7 +265,7 @@ def test_a_changed_moment_is_seen(tmp_path: Path, program: str, fake: Path) -> N
         f"printf '%s' \"$text\" | {program} alone | sed 's/^6 deliver 0 plain/4 deliver 0 plain/'; exit 0\n")
     out, err, status = spread("--parts", 3, program=fake)
     assert status == 3 and not out
-    assert err.startswith(b"spread: part 2 of 3 failed (experiments bad to bad): its report isn't its text's: experiment bad:"
+    assert err.startswith(b"spread: part 2 of 3 failed (experiments bad to bad): its report does not match its scenario: experiment bad:"
                           b" line 4 of its report: ")
 
 
@@ -332,7 +332,7 @@ def test_what_is_missing(tmp_path: Path, program: str) -> None:
     few.mkdir()
     (few / "python3").symlink_to(sys.executable)
     for way, said in (({"program": tmp_path / "none"}, b"none is no program"),
-                      ({"program": program, "PATH": str(few)}, b"parallel isn't there")):
+                      ({"program": program, "PATH": str(few)}, b"parallel is missing")):
         out, err, status = spread("--ssh", "alpha", **way)
         assert status == 2 and not out and said in err
     out, err, status = ended([SPREAD, str(tmp_path / "none")], b"", env={**os.environ, "DNLAB": program})
@@ -391,5 +391,5 @@ def test_a_worker_without_end(tmp_path: Path) -> None:
     scenario.write_text("experiment a seed 1 budget 1 steps 1000\n@0 end\n")
     status, out, told = tool("spread", scenario, "--parts", "1", "--out", tmp_path / "r.txt", "--work", tmp_path / "w", DNLAB=str(worker))
     assert (status, out) == (3, "") and "SIGXFSZ" in told and not (tmp_path / "r.txt").exists(), told
-    with pytest.raises(dnlab.Failed, match="SIGXFSZ .it wrote more than its text can give."):
+    with pytest.raises(dnlab.ProgramError, match="SIGXFSZ .it wrote more than its scenario can produce."):
         dnlab.run(scenario.read_text(), dnlab=str(worker))

@@ -96,10 +96,10 @@ def test_summary_and_expect_take_it(tmp_path: Path) -> None:
 
 
 @pytest.mark.parametrize("words, said", [
-    (("--from", "5ms", "--to", "5ms"), "the second moment comes after the first"),
+    (("--from", "5ms", "--to", "5ms"), "the second time must be later than the first"),
     (("--from", "13ms"), "experiment train: it ended at 12500000 ns"),
-    (("--from", "1ms", "--every", "1ms"), "--from and --to go with the rows of the summary"),
-    (("--from", "soon"), "'soon' is no time")])
+    (("--from", "1ms", "--every", "1ms"), "--from and --to go with the summary"),
+    (("--from", "soon"), "'soon' is not a time")])
 def test_what_can_be_no_part(tmp_path: Path, words: tuple[str, ...], said: str) -> None:
     status, out, err = tool("summary", *files(tmp_path, TRAIN), *words)
     assert (status, out) == (2, "") and said in err
@@ -161,8 +161,8 @@ def test_what_a_function_answers_is_never_kept(tmp_path: Path, program: str) -> 
 def test_what_is_said_where_it_ends_early() -> None:
     """What functions answer isn't kept, so nothing is said of going on."""
     assert far(dnlab.sweep(TEMPLATE, queue=[2], of="all", stat="lost"), "k") == (
-        "0 of 1 experiments are kept in k; the same words go on")
-    assert "isn't kept, so the same words begin anew" in far(dnlab.sweep(TEMPLATE, queue=[2], stat=made), "k")
+        "0 of 1 experiments are kept in k; the same command continues")
+    assert "are not kept, so the same command starts again" in far(dnlab.sweep(TEMPLATE, queue=[2], stat=made), "k")
 
 
 def test_a_function_of_a_file(tmp_path: Path) -> None:
@@ -177,7 +177,7 @@ def test_a_function_of_a_file(tmp_path: Path) -> None:
     assert status == 2 and "never" in err
 
 
-@pytest.mark.parametrize("body, said", [("return 'x'", "'x' is no number"), ("return run.nothing", "AttributeError")])
+@pytest.mark.parametrize("body, said", [("return 'x'", "'x' is not a number"), ("return run.nothing", "AttributeError")])
 def test_a_function_that_fails_is_told(tmp_path: Path, body: str, said: str) -> None:
     (tmp_path / "t").write_text(TEMPLATE)
     (tmp_path / "mine.py").write_text(f"def mine(run):\n    {body}\n")
@@ -186,7 +186,7 @@ def test_a_function_that_fails_is_told(tmp_path: Path, body: str, said: str) -> 
 
 
 def test_stat_without_of_is_refused(tmp_path: Path) -> None:
-    with pytest.raises(dnlab.Faulty, match="say of whom"):
+    with pytest.raises(dnlab.InputError, match="stat needs of"):
         dnlab.sweep(TEMPLATE, queue=[2], stat="delay.p95")
 
 

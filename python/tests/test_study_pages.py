@@ -1,4 +1,4 @@
-"""The pages on studies and senders: each command runs, each program in Python puts out what is shown."""
+"""The pages on sweeps and senders: each command on the study runs, each program in Python prints what is shown."""
 import os
 import re
 import shlex
@@ -11,11 +11,11 @@ from conftest import ROOT
 
 for needed in ("jinja2", "scipy", "cloudpickle", "matplotlib"):
     pytest.importorskip(needed, reason=f"{needed} is missing (Debian: python3-{needed})")
-PAGES = {name: next((ROOT / "docs").rglob(name)) for name in ("studies.md", "closed_loop_senders.md")}
+PAGES = {name: next((ROOT / "docs").rglob(name)) for name in ("sweeps.md", "closed_loop_senders.md")}
 PROGRAMS = [(name, *found) for name, page in PAGES.items()
             for found in re.findall(r"```python\n(.*?)```\n\n((?:    [^\n]*\n)+)", page.read_text(), re.DOTALL)]
 COMMANDS = [(name, re.sub(r"\s*\\\n\s*", " ", found)) for name, page in PAGES.items()
-            for found in re.findall(r"^    (tools/(?:.*\\\n)*.*)$", page.read_text(), re.MULTILINE)]
+            for found in re.findall(r"^    (tools/sweep python/examples/study(?:.*\\\n)*.*)$", page.read_text(), re.MULTILINE)]
 
 
 def unindented(text: str) -> list[str]:
@@ -49,4 +49,4 @@ def test_commands(place: int, program: str, tmp_path: Path) -> None:
 
 
 def test_nothing_is_left_out() -> None:
-    assert (len(PROGRAMS), len(COMMANDS)) == (2, 2)
+    assert (len(PROGRAMS), len(COMMANDS)) == (3, 2)

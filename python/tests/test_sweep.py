@@ -140,7 +140,7 @@ def test_names() -> None:
 
 
 def test_more_experiments_than_can_be_listed() -> None:
-    with pytest.raises(dnlab.Faulty, match="1001000 experiments"):
+    with pytest.raises(dnlab.InputError, match="1001000 experiments"):
         cases_of({"a": range(1001)}, range(1000))
     assert len(cases_of({"a": range(10)}, range(1000))) == 10000
 
@@ -222,7 +222,7 @@ def test_wrong_usage(words: list[str], tmp_path: Path, program: str) -> None:
 def test_what_is_refused_says_what_there_is(tmp_path: Path, program: str) -> None:
     file = template(tmp_path)
     err = tool("sweep", file, "--set", "delay=1", "--of", "flows", DNLAB=program)[2]
-    assert err == "sweep: --of 'flows': the template has trains, train 1, pipe 1.0, there, back, all\n"
+    assert err == "sweep: --of 'flows': no such sender; the template has trains, train 1, pipe 1.0, there, back, all\n"
     assert "drops.codel" in tool("sweep", file, "--of", "all", "--stat", "speed", DNLAB=program)[2]
     assert "{{ bw }}" in tool("sweep", file, "--set", "delay=1", "--set", "bw=2", DNLAB=program)[2]
     assert "'delay' is undefined" in tool("sweep", file, DNLAB=program)[2]
@@ -235,7 +235,7 @@ def test_what_is_refused_says_what_there_is(tmp_path: Path, program: str) -> Non
 # ---- values
 
 def test_the_table_by_hand(tmp_path: Path, program: str) -> None:
-    """A packet of so many bytes is under way 8000 ns for each, and the delay; of the five seeds the mean and Student's
+    """A packet is in flight for 8000 ns per byte, and the delay; of the five seeds the mean and Student's
     interval, whose t is 2.776 for four degrees of freedom and 95 %, and 2.132 for 90 %."""
     file = template(tmp_path)
     made = dnlab.sweep(file, delay=[5, 20], seed=range(1, 6), of="train 1", stat="delay.p50,bytes", dnlab=program)
@@ -341,7 +341,7 @@ def test_marks_and_what_is_said(tmp_path: Path, program: str) -> None:
     assert status == 0 and {row["warnings"] for row in rows_of(out) if row["steps"] == "3"} == {"spent"}
     assert {row["warnings"] for row in rows_of(out) if row["steps"] == "100"} == {""}
     assert "2 of 4 experiments: their steps were spent" in err and "the seeds change nothing" in err
-    assert "rate of pipe 1.0, delay=5, steps=3: 0 of 2 experiments tell it (and 2 more like it)" in err
+    assert "rate of pipe 1.0 has no value in 2 of 2 experiments with delay=5, steps=3; 2 more means lack values" in err
     assert "seeds change nothing" not in tool("sweep", template(tmp_path), "--set", "delay=5", "--seeds", "1-2",
                                               DNLAB=program)[2]
 
@@ -388,7 +388,7 @@ def test_the_picture(program: str) -> None:
     segment = bars[2][0].get_segments()[0]
     assert segment[1][1] - segment[0][1] == pytest.approx(2 * half, rel=1e-6)
     many = dnlab.sweep(ONE + "# {{ other }}\n", delay=[5, 6], other=list(range(9)), of="train 1", stat="lost", dnlab=program)
-    with pytest.raises(dnlab.Faulty, match="9 lines"):
+    with pytest.raises(dnlab.InputError, match="9 lines"):
         many.plot()
 
 
@@ -458,7 +458,7 @@ def test_a_run_that_failed_goes_on(tmp_path: Path, counting: Path) -> None:
     words = [file, "--set", "delay=5", "--seeds", "1-24", "--workers", "1", "--csv", tmp_path / "x.csv"]
     status, out, err = tool("sweep", *words, DNLAB=str(counting))
     assert (status, out, err) == (3, "", "sweep: experiment delay5-s20 (delay=5, seed 20): memory; 23 of 24 experiments are"
-                                  f" kept in {file}.kept; the same words go on\n")
+                                  f" kept in {file}.kept; the same command continues\n")
     assert len(set(calls(tmp_path))) == 24 and not (tmp_path / "x.csv").exists()
     (tmp_path / "broken").unlink()
     status, out, err = tool("sweep", *words, DNLAB=str(counting))
@@ -489,11 +489,11 @@ def test_other_machines_by_a_stand_in(tmp_path: Path, counting: Path) -> None:
 
 
 def test_an_engine_that_is_not_there(tmp_path: Path, program: str, monkeypatch: pytest.MonkeyPatch) -> None:
-    """Whoever sweeps in Python gets the reason as `Faulty`, as for any other input that can't be used."""
+    """Whoever sweeps in Python gets the reason as `InputError`, as for any other input that can't be used."""
     text = template(tmp_path).read_text()
     monkeypatch.setenv("PATH", str(tmp_path))
-    for on, said in ("4/alpha", "parallel isn't there (Debian: parallel)"), ("slurm", "sbatch isn't there (Debian: slurm-client)"):
-        with pytest.raises(dnlab.Faulty, match=re.escape(f"--on {on}: {said}")):
+    for on, said in ("4/alpha", "parallel is missing (Debian: parallel)"), ("slurm", "sbatch is missing (Debian: slurm-client)"):
+        with pytest.raises(dnlab.InputError, match=re.escape(f"--on {on}: {said}")):
             dnlab.sweep(text, delay=5, of="train 1", stat="delay.p95", on=on, dnlab=program).run()
     assert How(ssh="4/alpha", program="/opt/{a}").fault() == "--program /opt/{a}: parallel would fill in its braces"
     assert How().fault() is None
@@ -515,7 +515,7 @@ def test_ended_from_outside(tmp_path: Path, program: str) -> None:
             going.wait(0.1)
     going.terminate()
     assert going.communicate(timeout=20)[1] == (
-        f"sweep: ended by SIGTERM: 0 of 1 experiments are kept in {file}.kept; the same words go on\n")
+        f"sweep: ended by SIGTERM: 0 of 1 experiments are kept in {file}.kept; the same command continues\n")
     assert going.returncode == -signal.SIGTERM and not list(tmp_path.glob("dnlab-room.*"))
     words = [Path(f"/proc/{one}/cmdline") for one in os.listdir("/proc") if one.isdigit()]
     assert not [one for one in words if one.exists() and one.read_bytes() == b"sleep\x0060\0"
@@ -538,7 +538,7 @@ def test_what_is_kept_is_judged(tmp_path: Path, program: str) -> None:
         status, out, err = tool("sweep", *words, DNLAB=program)
         run = 5 if "LIMIT" in change else 6
         assert (status, out) == (0, table) and f"{run} were run" in err
-        assert f"{run} answers in {file}.kept were damaged, and these experiments were run again" in err
+        assert f"{run} results in {file}.kept were damaged; these experiments were run again" in err
     whole = Path(f"{file}.kept").read_bytes()
     for damaged in (whole[:100], bytes(len(whole)), whole[:5000] + bytes(3000) + whole[8000:], b"x" * 9000):
         Path(f"{file}.kept").write_bytes(damaged)
@@ -577,17 +577,17 @@ def test_a_refused_command_ends_a_sweep(tmp_path: Path, program: str) -> None:
         assert "line 5: `pipe delete 9` (20: there is no pipe of this number)" in err and "--allow refused" in err
     status, out, err = tool("sweep", *words, "--allow", "refused", DNLAB=program)
     assert status == 0 and {row["delay"]: row["warnings"] for row in rows_of(out)} == {"5": "", "7": "refused"}
-    with pytest.raises(dnlab.Faulty, match="refused"):
+    with pytest.raises(dnlab.InputError, match="refused"):
         dnlab.sweep(file, delay=7, of="all", stat="lost", dnlab=program).table()
     assert dnlab.sweep(file, delay=7, of="all", stat="lost", dnlab=program, allow=["refused"]).table()["n"].tolist() == [1]
 
 
 BOMBS = [
-    ("{{ 'a' * 10**9 * 4 }}", "line 2: OverflowError"), ("{{ 'a' | center(4000000000) }}", "line 2: a text may want 536870912 bytes at most"),
+    ("{{ 'a' * 10**9 * 4 }}", "line 2: OverflowError"), ("{{ 'a' | center(4000000000) }}", "line 2: a text may use at most 536870912 bytes of memory"),
     ("{{ (10**(10**8)) % 7 }}", "line 2: OverflowError"), ("{{ rng.arrivals(1, 10**15) }}", "line 2: ValueError"),
     ("{{ '%999999999d' % 1 }}", "line 2: OverflowError"), ("{{ '%*d' % (999999999, 1) }}", "line 2: OverflowError"),
-    ("{% set x = [0] * 10**9 %}", "line 2: OverflowError"), ("{% set x = 7 ** 9000 %}", "line 2: OverflowError"), ("{% for i in range(10**10) %}{% endfor %}", "1000000 at most"),
-    ("{{ '1e99999999' | ms }}", "no time"), ("{{ '9' * 20000000 }}", "20000000 bytes"),
+    ("{% set x = [0] * 10**9 %}", "line 2: OverflowError"), ("{% set x = 7 ** 9000 %}", "line 2: OverflowError"), ("{% for i in range(10**10) %}{% endfor %}", "at most 1000000"),
+    ("{{ '1e99999999' | ms }}", "not a time"), ("{{ '9' * 20000000 }}", "20000000 bytes"),
     ("{% for i in range(10**6) %}{{ '#' * 60 }}\n{% endfor %}", "16777216 bytes"), ("{% include '.hidden' %}", "hidden"),
     ("{% include 'outside' %}", "outside"), ("{% include '../secret' %}", "outside"),
 ]
@@ -610,7 +610,7 @@ def test_a_template_without_end(monkeypatch: pytest.MonkeyPatch) -> None:
     monkeypatch.setattr("dnlab.sweeps.making.MOST_SECONDS", 1.0)
     text = "{% for i in range(10**6) %}{% for j in range(10**6) %}{% endfor %}{% endfor %}\n" + ONE
     made = dnlab.sweep(text, delay=5)
-    with pytest.raises(dnlab.Faulty, match=r"^template: line 1: its text takes more than 1 s to make$"):
+    with pytest.raises(dnlab.InputError, match=r"^template: line 1: rendering it takes more than 1 s$"):
         made.text(made.cases[0])
 
 
@@ -619,7 +619,7 @@ def test_a_setting_is_of_one_line(value: str, tmp_path: Path, program: str) -> N
     """A value can't bring a command of its own into the text."""
     status, out, err = tool("sweep", template(tmp_path), "--set", f"delay={value}", "--dry-run", DNLAB=program)
     assert status == 2 and not out and "one line" in err
-    with pytest.raises(dnlab.Faulty, match="one line"):
+    with pytest.raises(dnlab.InputError, match="one line"):
         dnlab.sweep(ONE, delay=[value, 5])
 
 

@@ -7,7 +7,7 @@ from conftest import tool
 
 curves = pytest.importorskip("dnlab.plot.curves", reason="matplotlib is missing (Debian: python3-matplotlib)")
 
-from dnlab.errors import Faulty  # noqa: E402
+from dnlab.errors import InputError  # noqa: E402
 from dnlab.plot import names  # noqa: E402
 from dnlab.plot.looks import Look, judge  # noqa: E402
 
@@ -74,9 +74,9 @@ def test_delay_against_goodput() -> None:
     assert [(text.get_text(), text.xy) for text in axes.texts] == [("10", (6, 30)), ("50", (9, 80)), ("CoDel", (8.5, 25))]
     # The numbers are joined, and the word isn't.
     assert lines(axes)[0] == [(6, 30), (9, 80)]
-    with pytest.raises(Faulty, match="two statistics are expected.* 1$"):
+    with pytest.raises(InputError, match="expected two statistics.* 1$"):
         judge(table(), ["queue"], [("train 9", "delay.p95")], Look(kind="tradeoff"))
-    with pytest.raises(Faulty, match="--rows and --columns"):
+    with pytest.raises(InputError, match="--rows and --columns"):
         judge(table(), ["queue"], [("train 9", "delay.p95")], Look(kind="tradeoff", rows="queue"))
 
 
@@ -124,8 +124,8 @@ def test_labels_of_settings() -> None:
 
 
 @pytest.mark.parametrize("words,said", [
-    (["--kind", "tradeoff"], "two statistics are expected"), (["--style", "no-such"], "--style no-such: no file and no style sheet"),
-    (["--font", "No Such Font"], "no such font"), (["--size", "16x9"], "WIDTHxHEIGHT"), (["--label", "x"], "NAME=TEXT is expected"),
+    (["--kind", "tradeoff"], "expected two statistics"), (["--style", "no-such"], "--style no-such: neither a file nor a matplotlib style sheet"),
+    (["--font", "No Such Font"], "no such font"), (["--size", "16x9"], "WIDTHxHEIGHT"), (["--label", "x"], "expected NAME=TEXT"),
     (["--kind", "pie"], "invalid choice: 'pie'"), (["--legend", "below"], "invalid choice: 'below'")])
 def test_wrong_words(words: list[str], said: str, tmp_path: Path) -> None:
     """They are refused before anything is run: there is no program."""

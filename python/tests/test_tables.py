@@ -15,7 +15,7 @@ from dnlab.analysis.summing import grouped
 from dnlab.analysis.tables import Tables
 from dnlab.analysis.view import View
 from dnlab.cli.layout import milliseconds, table
-from dnlab.errors import Faulty
+from dnlab.errors import InputError
 from dnlab.io import report, scenario
 
 
@@ -149,7 +149,7 @@ def test_windows() -> None:
         (0, 2000001, 1, 1000, 960), (2000001, 4000002, 1, 1000, 960), (4000002, 6000003, 0, 0, 0)]
     assert (rows[0]["rate"], rows[0]["goodput"]) == (1000 * 8 * 10**9 // 2000001, 960 * 8 * 10**9 // 2000001)
     assert rows[-1]["end"] == 10**9 and len(rows) == 500
-    with pytest.raises(Faulty, match="take a longer time"):
+    with pytest.raises(InputError, match="choose a longer interval"):
         windows(view, 1)
 
 
@@ -242,11 +242,11 @@ def test_what_varies() -> None:
 
 
 def test_what_varies_counts_defaults_and_not_words() -> None:
-    """A queue of 50 slots is the default, and 1000Kbit/s are 1Mbit/s: only what differs in value is told."""
+    """A queue of 50 slots is the default, and 1000Kbit/s are 1Mbit/s: only values that differ are listed."""
     text = "".join(f"experiment {name} seed 1 budget 9\n@0 pipe 1 config {words}\n@9 end\n" for name, words in
                    (("a", "bw 1Mbit/s"), ("b", "bw 1000Kbit/s queue 50"), ("c", "bw 1Mbit/s queue 9")))
     assert varied(scenario.read(text.encode())) == {"a": "pipe 1 queue 50", "b": "pipe 1 queue 50", "c": "pipe 1 queue 9"}
-    # A pipe that not all have: what was given is told, its defaults aren't.
+    # A pipe that some experiments lack: options that were given are listed, defaults are not.
     more = ("experiment a seed 1 budget 9\n@0 pipe 1 config\n@0 pipe 2 config delay 9\n@9 end\n"
             "experiment b seed 1 budget 9\n@0 pipe 1 config\n@9 end\n")
     assert varied(scenario.read(more.encode())) == {"a": "pipe 2 delay 9", "b": ""}

@@ -9,7 +9,7 @@ import pytest
 pytest.importorskip("jinja2", reason="jinja2 is missing (Debian: python3-jinja2)")
 
 from dnlab.chance import Chance  # noqa: E402  (what is wanted is asked for first)
-from dnlab.errors import Faulty  # noqa: E402
+from dnlab.errors import InputError  # noqa: E402
 from dnlab.io.scenario import read  # noqa: E402
 from dnlab.sweeps.templates import Template  # noqa: E402
 from dnlab.sweeps.traffic import Traffic  # noqa: E402
@@ -95,5 +95,5 @@ def test_it_hangs_on_the_seed_alone() -> None:
     ('traffic.every(1, 10000000, "show")', "more than")])
 def test_wrong_sources(source: str, wanted: str) -> None:
     """Told with the template's line."""
-    with pytest.raises(Faulty, match=f"line 2.*{wanted}"):
+    with pytest.raises(InputError, match=f"line 2.*{wanted}"):
         Template("experiment a seed 0 budget 1\n{{ " + source + " }}\n@0 end\n").made("a", 0, {})

@@ -62,6 +62,9 @@ async function read() {
 read();
 </script></body>"""
 
+# Has acknowledgements drawn too.
+ACKS = "const acks = document.getElementById('acks'); acks.click(); await new Promise((next) => setTimeout(next, 1000));"
+
 
 def browse(page: Path, *more: str, address: str = "") -> str:
     """What is in a page once it is read, as Chromium has it."""
@@ -132,7 +135,8 @@ def drops_of(report: str) -> list[tuple[float, int]]:
 def test_losses_and_rates(tmp_path: Path) -> None:
     """Beside the report's lines, and beside `summary --every`."""
     folder = COOKBOOK / "two_flows"
-    found = read_back(page_of(tmp_path, folder / "report.txt", folder / "scenario.txt"))
+    page = page_of(tmp_path, folder / "report.txt", folder / "scenario.txt")
+    found = read_back(page, ACKS)
     text = (folder / "report.txt").read_text()
     sequence = found["panels"]["sequence"]
     dropped = drops_of(text)
@@ -152,17 +156,22 @@ def test_losses_and_rates(tmp_path: Path) -> None:
             over = [y for (x, y), (after, _) in zip(line, line[1:]) if x < middle < after]
             assert middle > line[-1][0] or np.allclose(over, [rate], atol=0.004), (name, k)
         assert sum(wanted) > 0
+    # Acknowledgements are drawn on request alone.
+    plain = read_back(page)["panels"]
+    for panel in "delay", "rate":
+        assert [one for one in found["panels"][panel] if not one.endswith(" acks")] == [*plain[panel]]
+        assert {"flow 1 acks", "flow 2 acks"} <= {*found["panels"][panel]}
 
 
 @browsing
 @pytest.mark.parametrize("folder", sorted(path.parent for path in COOKBOOK.glob("*/scenario.txt")), ids=lambda path: str(path.name))
 def test_a_picture_of_each_of_the_cookbook(folder: Path, tmp_path: Path) -> None:
-    """Each is drawn, with a picture; what is in a panel is told apart without colour; packets are as many as counted."""
+    """Each is drawn, with a picture; the curves of a panel differ without colour too; packets are as many as counted."""
     page = page_of(tmp_path, folder / "report.txt", folder / "scenario.txt")
     browse(page, f"--screenshot={tmp_path / 'page.png'}")
     picture = (tmp_path / "page.png").read_bytes()
     assert picture.startswith(b"\x89PNG") and len(picture) > 20000
-    found = read_back(page)
+    found = read_back(page, ACKS)
     first = (folder / "report.txt").read_text().split("\nexperiment ")[0]
     assert found["name"] == first.split()[1]
     made, delivered = first.rstrip().split("\n")[-1].split()[1:3]
@@ -187,7 +196,7 @@ def test_keys_chooser_and_a_phone(tmp_path: Path) -> None:
              "await new Promise((next) => setTimeout(next, 1000)); told.tabs = [...document.querySelectorAll('select, button, input')]" \
              ".map((one) => one.tabIndex);"
     found = read_back(page, choose)
-    assert found["name"] == "codel" and "codel target" in found["about"] and found["tabs"] == [0] * 10
+    assert found["name"] == "codel" and "codel target" in found["about"] and found["tabs"] == [0] * 11
     assert near(found["panels"]["sequence"]["flow 1: dropped"]["points"], drops_of((folder / "report.txt").read_text()), (1250, 30000))
     # In a frame as wide as a phone nothing is wider than it.
     inner = page.read_text().replace("</body>", "<script>setTimeout(() => parent.postMessage(`${innerWidth} "

@@ -1,1 +1,1 @@
-"""A report: it is joined with its scenario, summed up, judged and compared."""
+"""Analysis of a report: joined with its scenario, summarised, judged and compared."""

@@ -1,4 +1,4 @@
-"""What a sweep asks of an experiment: of whom (`of`), and which figures (`stat`)."""
+"""The statistics that a sweep collects, and the senders it collects them for."""
 import re
 from fractions import Fraction
 from typing import Any, Iterable, Iterator, NamedTuple, Sequence
@@ -13,26 +13,27 @@ from dnlab.analysis.spans import Span
 from dnlab.analysis.stats import USUAL, Ask, percentile_of
 from dnlab.analysis.tables import Tables
 from dnlab.analysis.view import Note, View
-from dnlab.errors import Faulty
+from dnlab.errors import InputError
 from dnlab.io.digits import Ints
 from dnlab.io.drops import CAUSES
 from dnlab.io.lines import pipe_name
 from dnlab.io.scenario_parts import Plan
 
-# All flows' segments taken together, and the packets of all trains.
+# All flows' segments together, and the packets of all trains.
 GROUPS = ("flows", "trains")
-# Of each pattern of `of` and each `stat`: of whom, and the figure (None where it can't be told).
+# For each pattern of `of` and each statistic: the value by sender (None if unknown).
 Values = dict[str, dict[str, dict[str, Any]]]
 
 
 class Found(NamedTuple):
-    """What one experiment answers, and what may be silently wrong in it."""
+    """The statistics of one experiment, and its notes."""
     values: Values
     notes: list[Note]
 
 
 def names_in(plans: Iterable[Plan]) -> list[str]:
-    """Of whom can be asked, by the commands of some experiments; of a pipe its first instance."""
+    """Returns the senders and pipes that can be measured, by the commands of some experiments; of each pipe only the first
+    instance."""
     flows: dict[int, None] = {}
     trains: dict[int, None] = {}
     pipes: dict[int, None] = {}
@@ -53,23 +54,23 @@ def names_in(plans: Iterable[Plan]) -> list[str]:
 
 
 def usual(names: Sequence[str]) -> list[Ask]:
-    """What is asked where nobody says: of all flows together, of each train and of single packets."""
+    """Returns the default statistics: for all flows together, each train and the injected packets."""
     found = [Ask(of, USUAL) for of, name in (("flows", "flows"), ("train *", "trains"), ("injected", "injected"))
              if name in names]
     return found or [Ask("all", ("delivered", "lost"))]
 
 
 def check(asks: Sequence[Ask], names: Sequence[str]) -> None:
-    """Refuses an `of` that names nobody, with the names that there are."""
+    """Raises `InputError` for an `of` that matches nothing, with the names that exist."""
     for ask in asks:
-        # Which instances of a pipe there will be is told by the packets that come.
+        # The instances of a pipe are known only after the run.
         pipe = re.match(r"(pipe [0-9]+)\.", ask.of)
         if not any(is_named(name, ask.of) for name in names) and not (pipe and f"{pipe[1]}.0" in names):
-            raise Faulty(f"--of {ask.of!r}: the template has {', '.join(names)}")
+            raise InputError(f"--of {ask.of!r}: no such sender; the template has {', '.join(names)}")
 
 
 def answer(view: View, asks: Sequence[Ask], span: Span = Span()) -> Found:
-    """What an experiment answers, of a part of its time; statistics of one's own are given all of it."""
+    """Returns the statistics of an experiment within a time range. Your own functions always get the whole run."""
     stats = [stat for ask in asks for stat in ask.stats if not isinstance(stat, Own)]
     percentiles = sorted({found for found in map(percentile_of, stats) if found}, key=Fraction)
     tables = Tables(view, percentiles, with_mean="delay.mean" in stats, span=span)
@@ -82,7 +83,7 @@ def answer(view: View, asks: Sequence[Ask], span: Span = Span()) -> Found:
 
 
 def figure(row: Row, stat: str) -> Any:
-    """A stat of a row; None if it isn't known."""
+    """Returns a statistic of a row, or None if it is unknown."""
     if stat == "lost":
         drops = [row.get(cause) for cause in CAUSES]
         return None if None in drops else sum(count for count in drops if count)
@@ -91,7 +92,7 @@ def figure(row: Row, stat: str) -> Any:
 
 
 def _rows(tables: Tables, patterns: Sequence[str]) -> Iterator[Row]:
-    """Those rows of an experiment that are asked for, and those of groups."""
+    """Yields the rows of an experiment that match the patterns, and those of groups."""
     def is_asked(name: str) -> bool:
         return any(is_named(name, pattern) for pattern in patterns)
 
@@ -115,7 +116,7 @@ def _rows(tables: Tables, patterns: Sequence[str]) -> Iterator[Row]:
 
 
 def _flows(tables: Tables, flows: Sequence[tuple[str, Ints]]) -> Row:
-    """All flows' segments as one sender's; `completion` is that of the flow that took longest."""
+    """Returns the row of all flows' segments together; `completion` is that of the slowest flow."""
     together = np.sort(np.concatenate([packets for _, packets in flows]))
     own = [tables.progress(name, packets) for name, packets in flows]
     again = [one.get("retransmissions") for one in own]

@@ -1,4 +1,4 @@
-"""Metrics of two runs side by side, and whether they keep to tolerances."""
+"""Comparison of the metrics of two runs, with tolerances."""
 import re
 from fnmatch import fnmatchcase
 from fractions import Fraction
@@ -13,7 +13,7 @@ CANT = "can't be told"
 
 
 class Tolerance(NamedTuple):
-    """How far a metric may differ: by a `share` of the first run's value, or by an amount in its base unit."""
+    """How much a metric may differ: by a `share` of the first run's value, or by an amount in its base unit."""
     text: str
     is_pattern: bool
     metrics: list[Metric]
@@ -28,23 +28,25 @@ class Tolerance(NamedTuple):
 
 
 def tolerance_of(text: str) -> Tolerance:
-    """Reads `delay.p95=5%`, `drops=2`, `delay.*=1ms`, `*=1%`; `ValueError` with the cause."""
+    """Parses `delay.p95=5%`, `drops=2`, `delay.*=1ms` or `*=1%`. Raises `ValueError` with the cause."""
     word, sign, value = text.partition("=")
     if not sign:
-        raise ValueError(f"{text!r} is no tolerance, as delay.p95=5% or drops=2")
+        raise ValueError(f"{text!r} is not a tolerance such as delay.p95=5% or drops=2")
     found = [one for one in metrics() if fnmatchcase(one.word, word)] if "*" in word else [metric_of(word)]
     if not found:
-        raise ValueError(f"no metric is like {word!r}: {', '.join(WORDS)}")
+        raise ValueError(f"no metric matches {word!r}; the metrics are {', '.join(WORDS)}")
     if value.endswith("%"):
         return Tolerance(text, "*" in word, found, amount_of(value, "share")[0], None)
     if len({one.kind for one in found}) > 1:
-        raise ValueError(f"{text!r}: metrics of several kinds have a share in common only, as 5%")
+        raise ValueError(f"{text!r}: metrics with different units can share only a percentage, as 5%")
     return Tolerance(text, "*" in word, found, None, amount_of(value, found[0].kind)[0])
 
 
 class Pair(NamedTuple):
-    """A metric of a row in both runs, None if it isn't known there; `judged` is '' where nothing is asked of it,
-    `same`, `within` and a tolerance, `differs`, `beyond` and the tolerance, or `can't be told` and why."""
+    """A metric of a row in both runs, None where it is unknown.
+
+    `judged` is '' if it is not judged, else `same`, `within` and a tolerance, `differs`, `beyond` and the tolerance, or `can't be
+    told` and the reason."""
     experiment: str
     of: str
     metric: Metric
@@ -59,16 +61,16 @@ class Pair(NamedTuple):
         return self.judged.startswith(("differs", "beyond", CANT))
 
     def is_untold(self) -> bool:
-        """Whether neither run has it, though it was named."""
+        """Returns whether neither run has the metric, although it was named."""
         return self.judged.startswith(CANT)
 
     def ratio(self) -> Optional[float]:
-        """The second run's value by the first's."""
+        """Returns the second run's value divided by the first's."""
         return float(self.second / self.first) if self.first and self.second is not None else None
 
     def shown(self, exact: bool = True) -> list[str]:
-        """Both values in one unit, and their ratio; with up to three digits behind the point unless they are to be exact.
-        What differs is shown exactly where it would look the same by three, or as if it were nothing."""
+        """Returns both values in one unit, and their ratio, with at most three decimals unless `exact`. Values that differ are shown exactly
+        if three decimals would make them look equal, or like zero."""
         kind = self.metric.kind
         known = [abs(value) for value in (self.first, self.second) if value is not None]
         unit = fitting(max(known, default=Fraction(0)), kind)
@@ -89,10 +91,10 @@ class Pair(NamedTuple):
 
 def pairs(name: str, first: Sequence[Row], second: Sequence[Row], asked: Sequence[Metric],
           tolerances: Sequence[Tolerance]) -> Iterator[Pair]:
-    """The metrics of all rows of one experiment in both runs, in the first's order; a row that one hasn't has None.
+    """Returns the metrics of all rows of an experiment in both runs, in the first run's order. A row that one run lacks has None.
 
-    Without tolerances every metric must be the same; with some only those that they name are judged, and what they name
-    without a pattern must be told by every row that can have it."""
+    Without tolerances every metric must be the same. With tolerances, only the metrics that they name are judged, and a metric that
+    is named without a pattern must be known in every row that can have it."""
     rows = {row["sender"]: row for row in first}
     others = {row["sender"]: row for row in second}
     for of in dict.fromkeys([*rows, *others]):
@@ -116,7 +118,7 @@ def _judged(metric: Metric, first: Optional[Fraction], second: Optional[Fraction
     if not own:
         return "differs"
     if first is None or second is None:
-        return "differs: one run hasn't it"
-    # What is named twice keeps to the last, so that `*=1%` can stand before exceptions.
+        return "differs: only one run has it"
+    # The last matching tolerance applies, so `*=1%` can precede exceptions.
     word = "within" if own[-1].allows(first, second) else "beyond"
     return f"{word} {own[-1].text.partition('=')[2]}"

@@ -1,9 +1,9 @@
-"""Bounds on what a report has, as `train 9: delay.p95 < 50ms`: read from words or a file, and judged by a summary's rows.
+"""Bounds on a report, as `train 9: delay.p95 < 50ms`: read from text or a file, and judged by a summary's rows.
 
-A bound is `[EXPERIMENT/]WHO: METRIC SIGN VALUE`. EXPERIMENT and WHO are names or patterns of rows (`flow *`), METRIC a
-word of `dnlab.analysis.metrics`, SIGN one of `<`, `<=`, `>`, `>=`, `==`, `!=`, VALUE an amount with its unit. It must hold in each
-row that it names, and is refused where it names none. A run in which commands were refused, or that was cut short, fails
-whatever the bounds say, unless that is allowed.
+A bound is `[EXPERIMENT/]WHO: METRIC SIGN VALUE`. EXPERIMENT and WHO are names or patterns of rows (`flow *`), METRIC a name of
+`dnlab.analysis.metrics`, SIGN one of `<`, `<=`, `>`, `>=`, `==`, `!=`, VALUE an amount with its unit. It must hold in every row
+that it names, and is refused if it names none. A run in which commands were refused, or that was cut short, fails
+independently of the bounds, unless that is allowed.
 """
 import operator
 import re
@@ -16,25 +16,25 @@ from typing import Any, Callable, Iterable, Iterator, NamedTuple, Optional, Sequ
 from dnlab.analysis.metrics import Metric, is_named, metric_of, percentiles_in
 from dnlab.analysis.notes import Note
 from dnlab.analysis.rows import Row
-from dnlab.errors import Faulty
+from dnlab.errors import InputError
 from dnlab.io.drops import CAUSES
 from dnlab.units import amount_of, shown
 
 SIGNS: dict[str, Callable[[Any, Any], bool]] = {"<=": operator.le, ">=": operator.ge, "==": operator.eq,
                                                 "!=": operator.ne, "<": operator.lt, ">": operator.gt, "=": operator.eq}
 FORM = "WHO: METRIC SIGN VALUE, as 'train 9: delay.p95 < 50ms'"
-# What fails a run, whatever the bounds say, unless it is allowed: marks of its rows, and bounds that hold whatever happens.
+# Failures of a run independent of the bounds, unless allowed: warnings of its rows, and bounds that always hold.
 FAILING = ("refused", "spent", "budget", "unsent", "vacuous")
 _SIGN = re.compile(r"[<>=!]+")
 _COMMENT = re.compile(r"(^|\s)#.*")
-# So many names stand in a message at most.
+# The maximum number of names in a message.
 _MOST_NAMES = 40
 
 
 @dataclass(frozen=True)
 class Bound:
-    """A bound, `where` it was said (`bounds.txt: line 2`, `bound 1`) and its `text`; `value` is in the metric's base unit. One of a
-    file has its name and line."""
+    """A bound, its origin `where` (`bounds.txt: line 2`, `bound 1`) and its `text`; `value` is in the metric's base unit. A bound from a
+    file has the file's name and the line."""
     where: str
     text: str
     experiment: str
@@ -47,7 +47,7 @@ class Bound:
     line: Optional[int] = None
 
     def rows(self, rows: Sequence[Row]) -> list[Row]:
-        """The rows that it names; `Faulty` with the names that there are, where it names none."""
+        """Returns the rows that the bound names. Raises `InputError` with the names that exist if there are none."""
         own = [row for row in rows if fnmatchcase(row["experiment"], self.experiment)]
         found = [row for row in own if is_named(row["sender"], self.of)]
         if found:
@@ -55,20 +55,20 @@ class Bound:
         kind, names = ("row", own) if own else ("experiment", list(rows))
         known = list(dict.fromkeys(row["sender" if own else "experiment"] for row in names))
         more = f" and {len(known) - _MOST_NAMES} more" if len(known) > _MOST_NAMES else ""
-        raise Faulty(f"{self.where}: no {kind} {self.of if own else self.experiment!r}: there are"
+        raise InputError(f"{self.where}: no {kind} {self.of if own else self.experiment!r}; there are"
                      f" {', '.join(known[:_MOST_NAMES])}{more}")
 
     def holds(self, measured: Fraction) -> bool:
         return SIGNS[self.sign](measured, self.value)
 
     def show(self, amount: Fraction) -> str:
-        """An amount in the unit in which the bound was said."""
+        """Returns an amount as text, in the unit of the bound."""
         return shown(amount, self.metric.kind, self.unit)
 
 
 class Judged(NamedTuple):
-    """A bound that was looked at: whether it holds, and what was measured where, in words; `row` is the row that decides,
-    `measured` its value in base units (None if it isn't known)."""
+    """A judged bound: whether it holds, and what was measured where, as text. `row` is the row that decides, `measured` its value in
+    base units (None if unknown)."""
     bound: Bound
     holds: bool
     said: str
@@ -79,7 +79,7 @@ class Judged(NamedTuple):
         return f"{'holds' if self.holds else 'FAILS'}  {self.bound.where}: {self.bound.text}  ({self.said})"
 
     def record(self) -> dict[str, Any]:
-        """The same for other programs; amounts in ns, bytes, bit/s, or as a share of 1."""
+        """Returns it for JSON; amounts in ns, bytes, bit/s, or fractions."""
         metric = self.bound.metric
         return {"bound": self.bound.text, "where": self.bound.where, "holds": self.holds,
                 "experiment": self.row["experiment"], "sender": self.row["sender"], "metric": metric.word,
@@ -88,60 +88,60 @@ class Judged(NamedTuple):
 
 
 class Failing(NamedTuple):
-    """A run that fails whatever the bounds say: the experiment, the mark and what there is to say."""
+    """A run that fails independently of the bounds: the experiment, the warning and its text."""
     experiment: str
     mark: str
     said: str
 
     def line(self) -> str:
-        return f"FAILS  {self.mark}: experiment {self.experiment}: {self.said} (--allow {self.mark} takes it so)"
+        return f"FAILS  {self.mark}: experiment {self.experiment}: {self.said} (--allow {self.mark} permits it)"
 
     def record(self) -> dict[str, Any]:
         return self._asdict()
 
 
 def plain_amount(metric: Metric, value: Optional[Fraction]) -> Union[int, float, str, None]:
-    """An amount for JSON, in base units: whole where it is; of an ending its word."""
+    """Returns an amount for JSON, in base units: an integer if possible; for an ending, its word."""
     if value is not None and metric.kind == "ending":
         return shown(value, metric.kind)
     return None if value is None else int(value) if value.denominator == 1 else float(value)
 
 
 def failing(notes: Iterable[tuple[str, Note]], allowed: Sequence[str] = ()) -> list[Failing]:
-    """The experiments of whose notes one fails them, but for what is allowed."""
+    """Returns the experiments that fail by their notes, except for what is allowed."""
     return [Failing(name, note.mark, note.text) for name, note in notes
             if note.mark in FAILING and note.mark not in allowed]
 
 
 def allowed_of(text: str) -> list[str]:
-    """The words of `--allow`, with commas between; `ValueError` with those that there are."""
+    """Returns the words of `--allow`, separated by commas. Raises `ValueError` with the words that exist."""
     found = [word.strip() for word in text.split(",")]
     for word in found:
         if word not in FAILING:
-            raise ValueError(f"{word!r} can't be allowed: {', '.join(FAILING)}")
+            raise ValueError(f"{word!r} can't be allowed; choose from {', '.join(FAILING)}")
     return found
 
 
 def bound_of(text: str, where: str) -> Bound:
-    """Reads a bound; what is none is refused with where it was said and the cause."""
+    """Parses a bound. Raises `InputError` with its origin and the cause."""
     try:
         return _read(text.strip(), where)
     except ValueError as fault:
-        raise Faulty(f"{where}: {fault}") from None
+        raise InputError(f"{where}: {fault}") from None
 
 
 def _read(text: str, where: str) -> Bound:
     who, colon, rest = text.partition(":")
     sign = _SIGN.search(rest)
     if not colon or sign is None or not who.strip():
-        lacking = "the colon behind WHO" if not colon else "WHO before the colon" if sign else "a sign as < or >="
-        raise ValueError(f"{text!r} has not {lacking}: a bound is {FORM}")
+        lacking = "the colon after WHO" if not colon else "WHO before the colon" if sign else "a sign such as < or >="
+        raise ValueError(f"{text!r} lacks {lacking}: a bound is {FORM}")
     if sign[0] not in SIGNS:
-        raise ValueError(f"{sign[0]!r} is no sign: {', '.join(one for one in SIGNS if one != '=')}")
+        raise ValueError(f"{sign[0]!r} is not a sign; use {', '.join(one for one in SIGNS if one != '=')}")
     metric = metric_of(rest[:sign.start()].strip())
     value, unit = amount_of(rest[sign.end():].strip(), metric.kind)
     if metric.kind == "ending" and sign[0] not in ("==", "=", "!="):
-        raise ValueError(f"{text!r}: an ending is == or !=, as 'all: ended == end'")
+        raise ValueError(f"{text!r}: `ended` is compared by == or !=, as 'all: ended == end'")
     experiment, slash, of = who.rpartition("/")
     return Bound(where, text, experiment.strip() if slash else "*", " ".join(of.split()), metric, sign[0], value, unit)
 
@@ -151,18 +151,18 @@ def bounds_in(path: Union[str, Path], text: str) -> list[Bound]:
     lines = ((number, _COMMENT.sub("", line)) for number, line in enumerate(text.split("\n"), 1))
     found = [replace(bound_of(line, f"{path}: line {number}"), file=str(path), line=number) for number, line in lines if line.strip()]
     if not found:
-        raise Faulty(f"{path}: it has no bound")
+        raise InputError(f"{path}: it has no bound")
     return found
 
 
 def percentiles_for(bounds: Sequence[Bound]) -> list[str]:
-    """The percentiles that the rows must have."""
+    """Returns the percentiles that the bounds need."""
     return percentiles_in(bound.metric for bound in bounds)
 
 
 def judge(bounds: Sequence[Bound], rows: Sequence[Row], first: bool = False, allow: Sequence[str] = ()) -> Iterator[Judged]:
-    """Looks at all bounds, in order, or up to the first that fails; `Faulty` where one names no row, before any is looked
-    at. One that holds whatever happens fails, unless `vacuous` is allowed."""
+    """Judges the bounds in order, all or up to the first that fails. Raises `InputError` if one names no row, before any is judged. A
+    bound that always holds fails, unless `vacuous` is allowed."""
     found = [(bound, bound.rows(rows)) for bound in bounds]
     losses = [row for bound, named in found if bound.metric.word in ("loss", "drops") for row in named]
     bounded = {(row["experiment"], row["sender"]) for row in losses}
@@ -170,7 +170,7 @@ def judge(bounds: Sequence[Bound], rows: Sequence[Row], first: bool = False, all
         judged = _judge(bound, named, bounded)
         vacuous = _vacuous(bound, named, rows) if judged.holds and "vacuous" not in allow else ""
         if vacuous:
-            judged = judged._replace(holds=False, said=f"vacuous: {vacuous} (--allow vacuous takes it so)")
+            judged = judged._replace(holds=False, said=f"vacuous: {vacuous} (--allow vacuous permits it)")
         yield judged
         if first and not judged.holds:
             return
@@ -181,7 +181,7 @@ def _judge(bound: Bound, rows: Sequence[Row], bounded: set[tuple[str, str]]) -> 
     for row in rows:
         measured = bound.metric.of(row)
         if measured is None:
-            return Judged(bound, False, f"it can't be told of {_place(row)}: {bound.metric.why(row)}", row, None)
+            return Judged(bound, False, f"it is unknown for {_place(row)}: {bound.metric.why(row)}", row, None)
         if not bound.holds(measured):
             return Judged(bound, False, f"measured {bound.show(measured)} of {_place(row)}", row, measured)
         if nearest is None or abs(measured - bound.value) < abs(nearest[0] - bound.value):
@@ -193,24 +193,25 @@ def _judge(bound: Bound, rows: Sequence[Row], bounded: set[tuple[str, str]]) -> 
 
 
 def _slack(bound: Bound, measured: Fraction) -> str:
-    """Returns by how much a bound on an amount holds, as a share of the bound."""
+    """Returns the margin of a bound that holds, as a share of the bound."""
     if bound.sign in ("==", "=", "!=") or not bound.value:
         return ""
-    return f"; holds by {float(100 * abs(measured - bound.value) / bound.value):.2g} %"
+    share = float(100 * abs(measured - bound.value) / bound.value)
+    return f"; holds by {share:.2g} %" if share < 10 else f"; holds by {share:.0f} %"
 
 
 def _vacuous(bound: Bound, named: Sequence[Row], rows: Sequence[Row]) -> str:
-    """Why a bound says nothing; '' where it does."""
+    """Returns why a bound always holds, or ''."""
     least, most = {"share": (0, 1), "index": (0, 1), "ending": (None, None)}.get(bound.metric.kind, (0, None))
     if bound.metric.kind == "share" and bound.metric.word == "utilisation":
         most = None
     always = (bound.sign == ">=" and least is not None and bound.value <= least or bound.sign == ">" and bound.value < 0
               or most is not None and (bound.sign == "<=" and bound.value >= most or bound.sign == "<" and bound.value > most))
     if always:
-        return f"each {bound.metric.word} keeps to it"
+        return f"any value of {bound.metric.word} satisfies it"
     if bound.metric.word == "jain" and any(sum(1 for row in rows if row["experiment"] == one["experiment"] and is_named(row["sender"], "flow *")) < 2
                                            for one in named):
-        return "one flow alone is always fair"
+        return "a single flow is always fair"
     denied = next((row for row in named if row["packets"] and not row["delivered"] and row.get("denied") == row["packets"]), None)
     if denied is not None and bound.metric.word not in ("denied", "loss", "drops", "delivered", "packets"):
         return f"rules denied all {denied['packets']} packets of {_place(denied)}"
@@ -222,14 +223,14 @@ def _vacuous(bound: Bound, named: Sequence[Row], rows: Sequence[Row]) -> str:
 
 
 def _easy(bound: Bound, rows: Sequence[Row], bounded: set[tuple[str, str]]) -> str:
-    """What is said of a bound on delay that losses make easy to keep, where no bound is on these."""
+    """Returns a hint for a bound on delay that drops make easier to satisfy, if no bound limits the drops."""
     if not bound.metric.is_delay() or bound.sign not in ("<", "<=") or bound.metric.word == "delay.least":
         return ""
     for row in rows:
         lost = sum(row.get(cause) or 0 for cause in CAUSES)
         if lost and (row["experiment"], row["sender"]) not in bounded:
-            return (f"; {lost} of the {row['packets']} packets of {_place(row)} were dropped, which have no delay: add a"
-                    f" bound as '{row['sender']}: loss < 1%'")
+            return (f"; {lost} of the {row['packets']} packets of {_place(row)} were dropped and have no delay: add a"
+                    f" bound such as '{row['sender']}: loss < 1%'")
     return ""
 
 

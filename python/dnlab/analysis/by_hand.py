@@ -1,11 +1,11 @@
-"""Two experiments that are worked out by hand, for the examples in docstrings: scenarios, reports, and their rows.
+"""Two experiments calculated by hand, for the examples in docstrings: scenarios, reports, and their rows.
 
 TRAIN  four packets of 1000 bytes at once: at 8 Mbit/s each takes 1 ms, and the delay is 10 ms. One is served, two wait, and
        the fourth is dropped (`full`). The first two are delivered at 11 and 12 ms; at the end, at 12.5 ms, the third is
-       under way. A single packet at 5 ms is served to 6 ms.
+       in flight. A single packet at 5 ms is served until 6 ms.
 FLOWS  flow 1 has two segments of 960 bytes and headers, over the same link: delivered at 11 and 12 ms, and each is
-       acknowledged 1 ns later. The one segment of flow 2 is denied at 0; at 1 s it is sent again, and a rule takes it 1 ns
-       further. A command is refused, since there is no rule 7.
+       acknowledged 1 ns later. The only segment of flow 2 is denied at 0; at 1 s it is sent again, and a rule delivers it 1 ns
+       later. A command is refused, because there is no rule 7.
 """
 from typing import NamedTuple
 
@@ -78,7 +78,7 @@ counters 7 6 0 1 0 0 0 0 0 0 0
 
 
 def rows_of(run: Run) -> dict[str, Row]:
-    """The rows of a summary, by of whom they are; with the median and the 95th percentile of the times under way."""
+    """Returns the rows of a summary by sender, with the median and the 95th percentile of the one-way delays."""
     experiment = next(report.read(run.report))
     view = View(experiment, scenario.read(run.scenario)[experiment.name])
     return {row["sender"]: row for row in Tables(view, (50, 95)).rows()}

@@ -1,4 +1,4 @@
-"""The commands of an experiment that were done, each with its row in the report."""
+"""The executed commands of an experiment, each with its row in the report."""
 from typing import Mapping, NamedTuple, Optional
 
 import numpy as np
@@ -12,8 +12,8 @@ from dnlab.io.scenario_parts import INJECTED, Command, Commands, Plan
 
 
 class Injected(NamedTuple):
-    """Commands that inject, in order: `place` among their experiment's commands and `line`, shape (n,), and their numbers as
-    `dnlab.io.scenario_parts.Run` has them, shape (7, n). All are int64."""
+    """The `inject` commands in order: `place` among the experiment's commands and `line`, shape (n,), and their numbers as in
+    `dnlab.io.scenario_parts.Run`, shape (7, n). All are int64."""
     place: Ints
     line: Ints
     columns: Ints
@@ -24,11 +24,12 @@ class Injected(NamedTuple):
         return found
 
     def distinct(self) -> tuple[Ints, Ints]:
-        """Returns the headers, each once, in the order of the first, and which each has; shapes (h, 5) and (n,)."""
+        """Returns the headers, each once, in the order of the first, and the index of each command's header; shapes (h, 5) and
+        (n,)."""
         return distinct(self.columns[1:6].T)
 
     def words(self) -> list[tuple[str, ...]]:
-        """Returns the headers as words of the scenario, each once, in the order of the first."""
+        """Returns the headers in scenario syntax, each once, in the order of the first."""
         return [_words(*header) for header in self.distinct()[0].tolist()]
 
     def at(self, which: Ints) -> "Injected":
@@ -37,8 +38,8 @@ class Injected(NamedTuple):
 
 
 def distinct(headers: Ints) -> tuple[Ints, Ints]:
-    """Returns headers (protocol, source, its port, target, its port), each once, in the order of the first, and which each
-    is; shapes (h, 5) and (n,).
+    """Returns headers (protocol, source, its port, target, its port), each once, in the order of the first, and the index of each;
+    shapes (h, 5) and (n,).
 
     >>> distinct(np.array([[6, 1, 2, 3, 4], [17, 1, 2, 3, 4], [6, 1, 2, 3, 4]]))[1].tolist()
     [0, 1, 0]
@@ -73,15 +74,17 @@ def _words(protocol: int, source: int, port: int, target: int, other: int) -> tu
 
 
 def _sender(header: tuple[str, ...], names: Mapping[str, str]) -> str:
-    """Returns the name of a header's sender: names are given to addresses, ports of them, or whole headers."""
+    """Returns the name of a header's sender. Names belong to addresses, addresses with ports, or whole headers."""
     keys = header[1], f"{header[1]}:{header[2]}", " ".join(header)
     return next((names[key] for key in keys if key in names), INJECTED)
 
 
 class Done(NamedTuple):
-    """The commands that were done. `plain` has those that inject nothing, in order, each with its row; `injected` the others,
-    whose rows are `rows`, shape (n,). `headers` are those of what these injected, each once, and `header` is which each has,
-    shapes (h, 5) and (n,); `names` are the senders, in the order of the first packet, and `who` is which each has, shape (n,)."""
+    """The executed commands.
+
+    `plain` has those that inject nothing, in order, each with its row; `injected` has the others, whose rows are `rows`, shape (n,).
+    `headers` are the distinct headers of injected packets, and `header` the index of each packet's, shapes (h, 5) and (n,).
+    `names` are the senders, in the order of the first packet, and `who` the index of each packet's, shape (n,)."""
     plain: list[tuple[int, Command]]
     injected: Injected
     rows: Ints
@@ -92,12 +95,12 @@ class Done(NamedTuple):
 
 
 def injected_packets(done: Done, who: NDArray[np.int32]) -> Ints:
-    """Returns the serial numbers of the packets that were injected, in order, by the sender of each. Shape (n,)."""
+    """Returns the serial numbers of the injected packets, in order, given the sender of each packet. Shape (n,)."""
     return np.flatnonzero((who >= 0) & (who < len(done.names)))
 
 
 def done_of(experiment: Recorded, plan: Optional[Plan]) -> Done:
-    """Returns the commands of a scenario that were done; a report with others is refused."""
+    """Returns the executed commands of a scenario. Raises `ParseError` if the report has others."""
     columns = experiment.columns
     commands = plan.commands if plan is not None else Commands()
     rows = np.flatnonzero((columns.word == OK) | (columns.word == REFUSED))
@@ -117,7 +120,7 @@ def done_of(experiment: Recorded, plan: Optional[Plan]) -> Done:
 
 
 def _compare(experiment: Recorded, plan: Plan, rows: Ints, injected: Injected) -> None:
-    """Refuses a report whose commands have other moments than the scenario's, or are more or fewer."""
+    """Raises `ParseError` if the report's commands have other times than the scenario's, or another number."""
     moments = np.zeros(len(plan.commands), dtype=np.int64)
     moments[[place for place, _ in plan.commands.plain]] = [one.moment for _, one in plan.commands.plain]
     moments[injected.place] = injected.columns[0]
@@ -131,10 +134,10 @@ def _compare(experiment: Recorded, plan: Plan, rows: Ints, injected: Injected) -
     if len(rows) > both:
         raise experiment.refused(int(rows[both]), f"the scenario has no command {both} in {plan.name}")
     if len(moments) > both and not is_spent(experiment):
-        raise experiment.refused(len(experiment.columns), f"the report ends before command {both}, which stands in line"
+        raise experiment.refused(len(experiment.columns), f"the report ends before command {both}, which is in line"
                                  f" {plan.commands[both].line} of the scenario")
 
 
 def is_spent(experiment: Recorded) -> bool:
-    """Returns whether the experiment ended with its budget of steps."""
+    """Returns whether the experiment used up its steps."""
     return len(experiment.columns) > 0 and int(experiment.columns.word[-1]) == SPENT

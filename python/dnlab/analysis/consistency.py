@@ -1,6 +1,6 @@
-"""Refuses a report that its scenario can't have: losses, packets in flight, steps, instances and the ways of packets.
+"""Refuses a report that cannot come from its scenario: losses, packets in flight, steps, instances and routes.
 
-What no line tells, as CoDel's times before its first drop, isn't compared (docs/reference/tools.md).
+State that no line shows, such as CoDel's times before its first drop, isn't compared (docs/reference/tools.md).
 """
 from __future__ import annotations
 
@@ -12,7 +12,7 @@ import numpy as np
 from dnlab.analysis import routes
 from dnlab.analysis.commands import distinct
 from dnlab.analysis.packets import DROPPED, HELD
-from dnlab.errors import Refused
+from dnlab.errors import ParseError
 from dnlab.io.digits import Flags, Ints
 from dnlab.io.drops import CAUSES
 from dnlab.io.lines import ACK, DELIVER, EXPIRE, FINISH, OK, PASS, REFUSED, pipe_name
@@ -22,19 +22,19 @@ if TYPE_CHECKING:
     from dnlab.analysis.view import View
 
 _DENIED, _LOST, _FULL, _CODEL, _BUDGET = (DROPPED + CAUSES.index(cause) for cause in ("denied", "lost", "full", "codel", "budget"))
-# Losses less likely than this aren't taken for chance.
+# Losses with a lower probability than this are not attributed to chance.
 _SURELY_NOT = 1e-10
 _NEVER = 2**62
 
 
 def check_consistency(view: View) -> None:
-    """Raises `Refused` where the report can't be the scenario's; `view` has a plan."""
+    """Raises `ParseError` if the report cannot come from the scenario; `view` must have a plan."""
     for check in (_steps, _budget, _losses, _thresholds, _ways, _instances):
         check(view)
 
 
-def _no(view: View, cause: str) -> Refused:
-    return Refused(view.experiment.line, f"experiment {view.name}: {cause}: the report isn't this scenario's")
+def _no(view: View, cause: str) -> ParseError:
+    return ParseError(view.experiment.line, f"experiment {view.name}: {cause}: the report isn't this scenario's")
 
 
 def _steps(view: View) -> None:
@@ -42,11 +42,11 @@ def _steps(view: View) -> None:
     words = np.bincount(view.experiment.columns.word[view.experiment.columns.word >= 0], minlength=32)
     least = int(words[[OK, REFUSED, FINISH, PASS, DELIVER, EXPIRE]].sum())
     if least > view.plan.steps:
-        raise _no(view, f"its lines take {least} steps, where the scenario has `steps {view.plan.steps}`")
+        raise _no(view, f"its lines need {least} steps, but the scenario has `steps {view.plan.steps}`")
 
 
 def _in_flight(begins: Ints, ends: Ints, moments: Ints, side_begin: str, side_end: str) -> Ints:
-    """How many packets are in flight at some moments; the sides say whether those of the same moment count."""
+    """Returns how many packets are in flight at some times; the sides say whether packets of the same time count."""
     return np.searchsorted(np.sort(begins), moments, side_begin) - np.searchsorted(np.sort(ends), moments, side_end)  # type: ignore
 
 
@@ -55,23 +55,23 @@ def _budget(view: View) -> None:
     packets = view.packets
     own = packets.outcome != _BUDGET
     begins, ends = packets.made[own], np.where(packets.outcome[own] == HELD, _NEVER, packets.ended[own])
-    # Those that ended in a moment before those that were made in it, so that no more are counted than there were.
+    # Packets that ended at a time are subtracted before those created at it are added, so the count is a lower bound.
     lasting = ends > begins
     most = _in_flight(begins[lasting], ends[lasting], begins[lasting], "right", "right").max(initial=0)
     if most > view.plan.budget:
-        raise _no(view, f"{most} packets are in flight at once, where the scenario has `budget {view.plan.budget}`")
+        raise _no(view, f"{most} packets are in flight at once, but the scenario has `budget {view.plan.budget}`")
     moments = packets.ended[~own]
     if len(moments) and _in_flight(begins, ends, moments, "right", "left").min() < view.plan.budget:
         raise _no(view, f"packets are dropped for the budget, with fewer than {view.plan.budget} in flight")
 
 
 def _losses(view: View) -> None:
-    """What a pipe lost, by its `plr`, where that never changes."""
+    """Checks the losses of a pipe against its `plr`, if that never changes."""
     shares = {pipe: {change.config.plr for change in changes if change.config is not None} for pipe, changes in view.changes.items()}
     pipes, served = view.visits.pipe // 256, view.visits.finish >= 0
     for pipe, share in shares.items():
         if share == {10**6} and (served & (pipes == pipe)).any():
-            raise _no(view, f"pipe {pipe} served packets, where the scenario has `plr 1`")
+            raise _no(view, f"pipe {pipe} served packets, but the scenario has `plr 1`")
     lossy = [pipe for pipe, share in shares.items() if share != {0}]
     if len(lossy) != 1 or len(shares[lossy[0]]) != 1:
         return
@@ -80,11 +80,11 @@ def _losses(view: View) -> None:
     came = lost + int(np.count_nonzero(pipes == lossy[0]))
     more = int(np.count_nonzero(np.isin(view.packets.outcome, (_FULL, _CODEL))))
     if _chance_below(lost, came, plr) < _SURELY_NOT or _chance_above(lost, came + more, plr) < _SURELY_NOT:
-        raise _no(view, f"{lost} of {came} packets were lost, where the scenario has `plr {plr:g}` in pipe {lossy[0]}")
+        raise _no(view, f"{lost} of {came} packets were lost, but the scenario has `plr {plr:g}` in pipe {lossy[0]}")
 
 
 def _chance_below(lost: int, came: int, share: float) -> float:
-    """A bound of the chance that so few of those that came are lost (Chernoff).
+    """Returns an upper bound for the probability that at most this many are lost (Chernoff).
 
     >>> _chance_below(0, 100, 0.5) < 1e-10 < _chance_below(30, 100, 0.5)
     True
@@ -104,19 +104,19 @@ def _chernoff(seen: float, count: int, share: float) -> float:
 
 
 def _thresholds(view: View) -> None:
-    """The first `ack` line of a flow has the threshold that it began with."""
+    """Checks that the first `ack` line of a flow has its initial threshold."""
     columns = view.experiment.columns
     rows = np.flatnonzero((columns.word == ACK) | (columns.word == EXPIRE))
     flows, first = np.unique(columns.flow[rows], return_index=True)
     for flow, row in zip(flows.tolist(), rows[first].tolist()):
         _, sends = view.sends.get(f"flow {flow}", (0, None))
         if sends is not None and columns.word[row] == ACK and int(columns.more[row]) != sends.ssthresh:
-            raise view.experiment.refused(row, f"flow {flow} has ssthresh {int(columns.more[row])}, where the scenario has"
+            raise view.experiment.refused(row, f"flow {flow} has ssthresh {int(columns.more[row])}, but the scenario has"
                                           f" {sends.ssthresh}: the report isn't this scenario's")
 
 
 def _first_pipes(view: View) -> Ints:
-    """Of each packet the pipe that it came to first; 0 where no line says one. Shape (packets,)."""
+    """Returns the first pipe of each packet, 0 if no line has it. Shape (packets,)."""
     found = np.zeros(len(view.packets), dtype=np.int64)
     order = np.argsort(view.visits.arrival, kind="stable")[::-1]
     found[view.visits.packet[order]] = view.visits.pipe[order] // 256
@@ -124,7 +124,7 @@ def _first_pipes(view: View) -> Ints:
 
 
 def _ways(view: View) -> None:
-    """Where each packet went first, by the rules of its moment."""
+    """Checks where each packet went first, by the rules at its time."""
     headers, which = view.headers
     epochs = view.epochs
     settled = routes.is_settled(view, epochs, which) & (view.packets.outcome != _BUDGET)
@@ -145,13 +145,13 @@ def _ways(view: View) -> None:
 def _refuse_way(view: View, own: Ints, wrong: Flags, ends: Ints) -> None:
     if wrong.any():
         place = int(np.flatnonzero(wrong)[0])
-        said = {routes.DENIED: "deny it", routes.ALLOWED: "allow it at once"}.get(int(ends[place]), f"hand it to pipe {ends[place]} first")
-        raise _no(view, f"packet {own[place]} of {view.packets.names[view.packets.who[own[place]]]} went another way than by the rules,"
+        said = {routes.DENIED: "deny it", routes.ALLOWED: "allow it at once"}.get(int(ends[place]), f"send it to pipe {ends[place]} first")
+        raise _no(view, f"packet {own[place]} of {view.packets.names[view.packets.who[own[place]]]} did not go where the rules send it,"
                   f" which {said}")
 
 
 def _instances(view: View) -> None:
-    """Which instance a packet came to, by the mask of its pipe, where that never changes."""
+    """Checks which instance each packet entered, by the mask of its pipe, if that never changes."""
     headers, which = view.headers
     known = which[view.visits.packet] >= 0
     for pipe, changes in view.changes.items():
@@ -163,11 +163,11 @@ def _instances(view: View) -> None:
         _, key = distinct(headers & bits)
         pairs = np.unique(key[which[view.visits.packet[own]]] << 8 | view.visits.pipe[own] % 256)
         if len(np.unique(pairs >> 8)) != len(pairs) or len(np.unique(pairs & 255)) != len(pairs):
-            raise _no(view, f"packets come to other instances of pipe {pipe} than by its mask, as {pipe_name(int(view.visits.pipe[own[0]]))}")
+            raise _no(view, f"packets are in other instances of pipe {pipe} than its mask selects, as {pipe_name(int(view.visits.pipe[own[0]]))}")
 
 
 def _bits(mask: str) -> Ints:
-    """The bits of a mask, in the columns of a header."""
+    """Returns the bits of a mask, in the columns of a header."""
     columns = {"proto": 0, "src-ip": 1, "src-port": 2, "dst-ip": 3, "dst-port": 4}
     found = np.zeros(len(columns), dtype=np.int64)
     if mask == "all":

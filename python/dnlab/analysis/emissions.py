@@ -1,4 +1,4 @@
-"""What a flow sends, by what happens to it."""
+"""The packets that a sender emits, given the events that it sees."""
 from typing import NamedTuple
 
 import numpy as np
@@ -11,13 +11,13 @@ NEVER = 2**62
 
 
 class Emissions(NamedTuple):
-    """What one flow or train sent: moments and first bytes, shape (n,), in order."""
+    """The packets of one flow or train: times and first bytes, shape (n,), in order."""
     moment: Ints
     first: Ints
 
 
 def first_window(smss: int) -> int:
-    """The window that a flow begins with, in bytes (RFC 5681, section 3.1, as docs/explanation/reno.md has it).
+    """Returns a flow's initial window, in bytes (RFC 5681, section 3.1, and docs/explanation/reno.md).
 
     >>> first_window(1095), first_window(1460)
     (4380, 4380)
@@ -26,7 +26,7 @@ def first_window(smss: int) -> int:
 
 
 def by_flow(flows: NDArray[np.int32]) -> list[tuple[int, Ints]]:
-    """Each flow with its places, in order."""
+    """Returns each flow with its indices, in order."""
     order = np.argsort(flows.astype(np.uint16), kind="stable")
     ordered = flows[order]
     cuts = np.flatnonzero(ordered[1:] != ordered[:-1]) + 1
@@ -34,23 +34,22 @@ def by_flow(flows: NDArray[np.int32]) -> list[tuple[int, Ints]]:
 
 
 def missing_after(firsts: Ints, smss: int, count: int) -> Ints:
-    """The first byte that is missing behind each of the segments that came, in the order in which they came."""
+    """Returns the first missing byte after each arriving segment, in the order of arrival."""
     numbers = firsts // smss
     good = np.flatnonzero((firsts % smss == 0) & (numbers < count))
     most = int(numbers[good].max()) + 1 if len(good) else 0
     came = np.full(most, NEVER, dtype=np.int64)
     came[numbers[good[::-1]]] = good[::-1]
-    # The segments 0 to s are there once the latest of them came.
+    # Segments 0 to s have all arrived once the last of them has.
     there = np.maximum.accumulate(came) if most else came
     return np.searchsorted(there, np.arange(len(firsts)), side="right") * smss
 
 
 def sent_by(sends: Sends, moment: Ints, expires: Flags, upto: Ints, window: Ints) -> Emissions:
-    """What a sender sends, by what happens to it: event 0 is its beginning, the others `ack` and `expire` lines.
+    """Returns what a sender emits, given its events: event 0 is its start, the others are `ack` and `expire` lines.
 
-    Events of one moment are followed by what the last of them allows. SND.NXT is then the greatest of what it was, of
-    SND.UNA, and of what the window allows; an expiry takes it back to SND.UNA.
-    """
+    Events of one time are followed by what the last of them allows. SND.NXT is then the maximum of its previous value, SND.UNA,
+    and what the window allows; an expiry sets it back to SND.UNA."""
     size, total = sends.smss, sends.smss * sends.count
     una = np.maximum.accumulate(upto)
     last = np.flatnonzero(np.append(moment[1:] != moment[:-1], True))
@@ -58,7 +57,7 @@ def sent_by(sends: Sends, moment: Ints, expires: Flags, upto: Ints, window: Ints
     taken_back = np.logical_or.reduceat(expires, begin)
     allowed = una[last] + np.minimum(window[last], sends.window) // size * size
     reached = np.maximum(una[last], np.minimum(allowed, total))
-    # Greatest values since an expiry: each stretch between two is lifted above the one before.
+    # Maximum since an expiry: each stretch between two expiries is lifted above the one before.
     lift = np.cumsum(taken_back) * np.int64(total + int(upto.max()) + size)
     nxt = np.maximum.accumulate(reached + lift) - lift
     before = np.concatenate((np.zeros(1, dtype=np.int64), nxt[:-1]))
@@ -72,7 +71,7 @@ def sent_by(sends: Sends, moment: Ints, expires: Flags, upto: Ints, window: Ints
 
 
 def resends(moment: Ints, expires: Flags, upto: Ints, una: Ints, nxt: Ints, last: Ints) -> Ints:
-    """Of each moment 1 where the third duplicate came and the segment at SND.UNA is sent again, else 0."""
+    """Returns 1 for each event at which the third duplicate arrived and the segment at SND.UNA is sent again, else 0."""
     count = len(moment)
     group = np.searchsorted(last, np.arange(count))
     greatest = np.concatenate((np.zeros(1, dtype=np.int64), np.maximum.accumulate(nxt)))[group]

@@ -1,4 +1,4 @@
-"""What intervals take of scipy (Debian: python3-scipy); `dnlab.analysis.figures.interval` is the interval."""
+"""The parts of confidence intervals that need scipy (Debian: python3-scipy); use `dnlab.analysis.figures.interval`."""
 import math
 import warnings
 from typing import Sequence
@@ -8,8 +8,8 @@ from scipy import special
 
 
 def student(level: float, freedom: int) -> float:
-    """How far from 0 a value of Student's distribution with so many degrees of freedom is at most, in `level` (below 100)
-    of 100 cases. This is `scipy.stats.t.ppf`, whose package takes half a second to load.
+    """Returns the half-width around 0 that contains `level` (below 100) percent of Student's distribution with `freedom` degrees of
+    freedom. Equals `scipy.stats.t.ppf`, whose package takes half a second to load.
 
     >>> round(student(95, 2), 6)
     4.302653
@@ -18,8 +18,7 @@ def student(level: float, freedom: int) -> float:
 
 
 def half_of(values: Sequence[float], level: float = 95) -> float:
-    """Half the width of Student's interval around the mean of two values or more, which has the true mean in `level` of 100
-    cases.
+    """Returns the half-width of Student's confidence interval of the mean of two or more values, at `level` percent.
 
     >>> round(half_of([1.0, 2.0, 3.0]), 6)
     2.484138
@@ -28,24 +27,23 @@ def half_of(values: Sequence[float], level: float = 95) -> float:
 
 
 def drawn(values: Sequence[float], level: float) -> tuple[float, float]:
-    """The ends of the bootstrap's interval around the mean of two values or more, which has the true mean in a share
-    `level` of the cases.
+    """Returns the ends of the bootstrap's confidence interval of the mean of two or more values; `level` is a fraction.
 
     >>> low, high = drawn([1.0, 2.0, 3.0, 4.0], 0.95)
     >>> 1 <= low < 2.5 < high <= 4
     True
     """
-    # Here, since it takes long to load and few ask for it.
+    # Imported here, because it takes long to load and is rarely used.
     from scipy import stats
 
-    # RandomState's numbers never change, those of numpy's newer generators may.
+    # RandomState's numbers never change; those of numpy's newer generators may.
     chance = np.random.RandomState(1)
     with warnings.catch_warnings():
         warnings.simplefilter("ignore")
         found = stats.bootstrap((np.asarray(values, dtype=np.float64),), np.mean, confidence_level=level,
                                 random_state=chance, vectorized=True).confidence_interval
         if not (math.isfinite(found.low) and math.isfinite(found.high)):
-            # Too few values for the correction: the plain percentiles of what was drawn.
+            # Too few values for the correction: plain percentiles of the resampled means.
             found = stats.bootstrap((np.asarray(values, dtype=np.float64),), np.mean, confidence_level=level,
                                     random_state=np.random.RandomState(1), vectorized=True,
                                     method="percentile").confidence_interval

@@ -1,19 +1,20 @@
-"""Figures over many values: ranks, fairness, means with intervals. Intervals need scipy, the others nothing but Python itself."""
+"""Statistics of many values: ranks, fairness, means with intervals. Only intervals need scipy."""
 import math
 from dataclasses import dataclass
 from fractions import Fraction
 from typing import Iterable, Literal, Optional, Sequence, Union
 
-from dnlab.errors import Lacking
+from dnlab.errors import ResourceError
 
 Percentile = Union[int, float, str]
-# How an interval is made.
+# The kinds of intervals.
 Kind = Literal["t", "bootstrap"]
 KINDS: tuple[Kind, ...] = ("t", "bootstrap")
 
 
 def place(count: int, percentile: Percentile) -> int:
-    """The nearest rank among so many sorted values, from 0: the least that so many of 100 don't exceed.
+    """Returns the index (from 0) of a percentile among `count` sorted values, by nearest rank: the smallest value that at least
+    `percentile` percent of the values do not exceed.
 
     >>> place(2, 50), place(3, 50), place(200, 99), place(1000, "99.9")
     (0, 1, 197, 998)
@@ -23,7 +24,7 @@ def place(count: int, percentile: Percentile) -> int:
 
 
 def percentile_name(percentile: Percentile) -> str:
-    """A percentile's column.
+    """Returns the name of a percentile's column.
 
     >>> percentile_name(50), percentile_name("99.9")
     ('p50', 'p99.9')
@@ -32,7 +33,7 @@ def percentile_name(percentile: Percentile) -> str:
 
 
 def jain(values: Sequence[float]) -> Optional[float]:
-    """Jain's index of fairness, 1 if all have the same and 1/n if one has all; None if nobody has any.
+    """Returns Jain's index of fairness: 1 if all values are equal, 1/n if only one is above 0, None if none is.
 
     >>> jain([1, 1, 1, 1]), jain([1, 0, 0, 0])
     (1.0, 0.25)
@@ -43,7 +44,8 @@ def jain(values: Sequence[float]) -> Optional[float]:
 
 @dataclass(frozen=True)
 class Interval:
-    """A mean of `count` values, half the width of its interval, and the interval's ends; None where there are too few for it."""
+    """A mean of `count` values, the half-width of its confidence interval, and the interval's ends; None if there are too few
+    values."""
     count: int
     mean: Optional[float]
     half: Optional[float] = None
@@ -52,10 +54,10 @@ class Interval:
 
 
 def interval(values: Iterable[float], level: float = 95, kind: Kind = "t") -> Interval:
-    """The mean of values that were drawn apart (by seeds), with the interval that has the true mean in `level` of 100 cases.
+    """Returns the mean of independent values (one per seed), with its confidence interval at `level` percent.
 
-    kind  `t` is Student's, for means of values that are near to normal; `bootstrap` draws the values again, with
-          replacement, 9999 times (bias-corrected and accelerated), always by the same chance
+    kind  `t` is Student's, for means of values that are close to normal; `bootstrap` resamples the values 9999 times
+          (bias-corrected and accelerated), always with the same random numbers
 
     >>> mean = interval([1.0, 2.0, 3.0])
     >>> mean.count, mean.mean, round(mean.half, 6), round(mean.low, 6), round(mean.high, 6)
@@ -65,10 +67,10 @@ def interval(values: Iterable[float], level: float = 95, kind: Kind = "t") -> In
     if len(known) < 2:
         return Interval(len(known), known[0] if known else None)
     try:
-        # Here, since only who asks for intervals needs scipy.
+        # Imported here, because only intervals need scipy.
         from dnlab.analysis import estimates
     except ModuleNotFoundError:
-        raise Lacking("scipy is missing, which intervals take (Debian: apt-get install python3-scipy)") from None
+        raise ResourceError("scipy is missing, which intervals need (Debian: apt-get install python3-scipy)") from None
     mean = math.fsum(known) / len(known)
     if min(known) == max(known):
         return Interval(len(known), mean, 0.0, mean, mean)

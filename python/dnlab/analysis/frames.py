@@ -1,5 +1,5 @@
-"""Tables for notebooks: what a `View` has as pandas DataFrames. Whole numbers stay whole (Int64, with <NA> for what isn't
-known), names are categories."""
+"""Tables for notebooks: the data of a `View` as pandas DataFrames. Integers stay integers (Int64, with <NA> for unknown values),
+names are categories."""
 from typing import Any, Optional, Sequence
 
 import numpy as np
@@ -15,20 +15,20 @@ from dnlab.io.lines import ACK, DROP, EXPIRE, KINDS, OK, REFUSED, WORDS, pipe_na
 
 
 def whole(values: Any) -> Any:
-    """Whole numbers, of which those below 0 aren't known."""
+    """Returns integers as Int64; negative ones become <NA>."""
     values = np.asarray(values, dtype=np.int64)
     return pd.arrays.IntegerArray(np.maximum(values, 0), values < 0)
 
 
 def named(codes: Any, names: Sequence[str]) -> Any:
-    """Names by their places; -1 is none."""
+    """Returns names for their indices as categories; -1 becomes <NA>."""
     used = list(dict.fromkeys(names))
     places = np.array([used.index(name) for name in names] + [-1], dtype=np.int64)
     return pd.Categorical.from_codes(places[np.asarray(codes)], categories=used)
 
 
 def pipes_named(codes: Any) -> Any:
-    """Instances as reports name them; -1 is none."""
+    """Returns the names of instances as in reports; -1 becomes <NA>."""
     values, places = np.unique(np.asarray(codes, dtype=np.int64), return_inverse=True)
     names = [pipe_name(int(value)) for value in values if value >= 0]
     return pd.Categorical.from_codes(places - int(len(names) < len(values)), categories=names)
@@ -135,7 +135,7 @@ def records(view: View) -> pd.DataFrame:
 
 
 def of_rows(rows: Sequence[dict[str, Any]], names: Sequence[str]) -> pd.DataFrame:
-    """Rows of a summary; columns of whole numbers stay whole."""
+    """Returns the rows of a summary as a DataFrame; columns of integers stay integers."""
     frame = pd.DataFrame.from_records(rows, columns=list(names))
     for name in names:
         values = [row.get(name) for row in rows]

@@ -1,4 +1,4 @@
-"""The visits to one instance of a pipe, in the order of service: when each came, was served, and what waited then."""
+"""The visits to one instance of a pipe, in the order of service: arrivals, service, and the packets that waited."""
 from dataclasses import dataclass
 
 import numpy as np
@@ -11,9 +11,9 @@ from dnlab.io.settings import Change, Config
 class Life:
     """The visits to one instance between deletions of its pipe, in the order of service; shapes (n,).
 
-    `at` and `row` are places among the visits and the rows of their finishes; `arrival`, `finish`, `start` (of service)
-    are in ns; `came` and `config` are places in `changes` of what held at the arrival and at the start (-1 of none). `idle`
-    says whether it came to a server at rest, `is_new` whether it begins a busy period."""
+    `at` and `row` are indices of the visits and the rows of their finishes; `arrival`, `finish`, `start` (of service) are in ns;
+    `came` and `config` are indices in `changes` of the setting at the arrival and at the start (-1 for none). `idle` says whether
+    the packet found an idle server, `is_new` whether it starts a busy period."""
     changes: list[Change]
     at: Ints
     row: Ints
@@ -30,17 +30,17 @@ class Life:
         return np.array([change.moment for change in self.changes], dtype=np.int64)
 
     def holds(self, moments: Ints) -> Ints:
-        """Which change holds at moments, behind all commands of them; -1 before the first."""
+        """Returns the index of the change in force at each time, after all commands of that time; -1 before the first."""
         return np.searchsorted(self.moments(), moments, side="right") - 1
 
     def values(self, name: str) -> Ints:
-        """A setting of each change; of an optional one -1 for None."""
+        """Returns a setting of each change; -1 for an optional one that is None."""
         return np.array([-1 if (value := getattr(change.config, name)) is None else value for change in self.changes],
                         dtype=np.int64)
 
     def waiting(self, moments: Ints) -> tuple[Ints, Ints]:
-        """How many packets wait at moments at most, and their bytes: of what begins to be served at just that moment only
-        what came to an idle server isn't counted."""
+        """Returns the maximum number of packets that wait at each time, and their bytes. Of packets whose service starts at just that time,
+        only those that found an idle server are not counted."""
         bytes_to = np.concatenate((np.zeros(1, dtype=np.int64), np.cumsum(self.size)))
         came = np.searchsorted(self.arrival, moments, side="right")
         gone = np.minimum(np.searchsorted(self.start, moments), came)
@@ -57,6 +57,6 @@ class Life:
 
 
 def limits(life: Life, changes: Ints) -> tuple[Ints, Ints]:
-    """Slots and bytes of the queue by places of what holds; -1 for what isn't limited."""
+    """Returns slots and bytes of the queue by index of the change; -1 if not limited."""
     places = np.maximum(changes, 0)
     return life.values("slots")[places], life.values("bytes")[places]

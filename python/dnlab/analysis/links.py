@@ -1,9 +1,9 @@
-"""Compares a report with the rates, delays and queues of its scenario, by docs/explanation/rules.md in whole numbers.
+"""Checks a report against the rates, delays and queues of its scenario (docs/explanation/rules.md), in integers.
 
-A busy period that begins at s finishes the packet with which S bytes are served at s + ceil(8 * 10^9 * S / bw). A packet
-leaves at the greater of the exit before it and its finish + max(delay, 1 ns). A queue of n slots takes no packet where n
-wait. The first line of the report that tells otherwise is refused, with the lines of the scenario that it goes against.
-Which pipe dropped a packet isn't told, so a drop as `full` is refused where no pipe can have been full.
+A busy period that starts at s finishes the packet that completes S served bytes at s + ceil(8 * 10^9 * S / bw). A packet leaves
+at the maximum of the previous exit and its finish + max(delay, 1 ns). A queue of n slots accepts no packet while n wait. The
+first line of the report that contradicts this is refused, with the lines of the scenario that it contradicts. No line says which
+pipe dropped a packet, so a `full` drop is refused only if no pipe can have been full.
 """
 from dataclasses import dataclass
 from typing import Optional
@@ -22,10 +22,10 @@ from dnlab.io.scenario_parts import Command, Plan
 from dnlab.io.settings import Change, changes_of, stretches_of
 
 _FULL, _LOST, _CODEL = (CAUSES.index(cause) for cause in ("full", "lost", "codel"))
-# Below so many bytes 8 * 10^9 times their number stays below 2^63.
+# Below this many bytes, 8 * 10^9 times their number is below 2^63.
 _MOST_BYTES = 2**63 // (8 * 10**9) - 1
 _NEVER = 2**62
-# The size of a packet, in bytes, at most.
+# The maximum size of a packet, in bytes.
 _GREATEST = 1500
 _NOT_THIS = ": the report isn't this scenario's"
 
@@ -38,7 +38,7 @@ class _Fault:
 
 
 class Links:
-    """Compares an experiment with its plan; `check` raises `Refused` at the first line that differs."""
+    """Compares an experiment with its plan. `check` raises `ParseError` at the first line that differs."""
 
     def __init__(self, experiment: Recorded, plan: Plan, done: Done, makings: Makings, packets: Packets, visits: Visits) -> None:
         self.experiment = experiment
@@ -49,7 +49,7 @@ class Links:
         self.done = done
         self.changes = changes_of(done.plain)
         self.faults: list[_Fault] = []
-        # Of each injected packet the row of its command; -1 of others.
+        # For each injected packet the row of its command; -1 for others.
         self.row_of = np.full(len(packets), -1, dtype=np.int64)
         serials = injected_packets(done, makings.who)
         self.row_of[serials] = done.rows[:len(serials)]
@@ -68,7 +68,7 @@ class Links:
             raise self.experiment.refused(first.row, first.cause + _NOT_THIS)
 
     def lives(self) -> list[Life]:
-        """All instances' lives; a finish in a pipe that isn't there is a fault."""
+        """Returns the visits by instance; a finish in a pipe that does not exist is a fault."""
         columns, visits = self.experiment.columns, self.visits
         rows = self.experiment.rows(FINISH)
         rows = rows[np.argsort(columns.packet[rows], kind="stable")]
@@ -93,7 +93,7 @@ class Links:
             if not own.any():
                 continue
             if not stretch or stretch[0].row > rows[own][0]:
-                self.faults.append(_Fault(int(rows[own][0]), f"a finish at {pipe_name(code)}, where the scenario has no"
+                self.faults.append(_Fault(int(rows[own][0]), f"a finish at {pipe_name(code)}, but the scenario has no"
                                           f" pipe {code // 256} by then"))
                 continue
             made = self.life(stretch, rows[own], at[own])
@@ -101,7 +101,7 @@ class Links:
         return found
 
     def life(self, changes: list[Change], rows: Ints, at: Ints) -> Optional[Life]:
-        """The visits with their starts; None where an arrival isn't known."""
+        """Returns the visits with the start of their service, or None if an arrival isn't known."""
         visits = self.visits
         packet, arrival, finish = visits.packet[at], visits.arrival[at], visits.finish[at]
         if (arrival < 0).any():
@@ -110,13 +110,13 @@ class Links:
         is_first = np.concatenate((np.ones(1, dtype=np.bool_), visits.packet[1:] != visits.packet[:-1]))[at]
         injected = is_first & (self.row_of[packet] >= 0)
         kind = self.makings.kind[packet]
-        # What a train or a flow emits at the moment of a finish comes behind it, all else before it.
+        # What a train or a flow emits at the time of a finish follows it, everything else precedes it.
         emitted = is_first & ~injected & ((kind == DATA) | (kind == PLAIN))
         idle = (arrival > before) | (emitted & (arrival == before))
         idle[0] = True
         start = np.maximum(arrival, before)
         one = Life(changes, at, rows, arrival, finish, start, self.packets.size[packet], start, start, idle, idle)
-        # All commands of a moment come before what else comes then, but an injected packet among them.
+        # All commands of a time precede what else arrives then, but an injected packet is among them.
         own = np.array([change.row for change in changes], dtype=np.int64)
         one.came = np.where(injected, np.searchsorted(own, self.row_of[packet]) - 1, one.holds(arrival))
         one.config = np.where(injected & idle, one.came, one.holds(start))
@@ -137,7 +137,7 @@ class Links:
             place = int(bad[0])
             config = life.config_at(max(int(life.config[place]), 0))
             packet = int(self.visits.packet[life.at[place]])
-            self.faults.append(_Fault(int(life.row[place]), f"packet {packet} finishes at {life.finish[place]}, where the"
+            self.faults.append(_Fault(int(life.row[place]), f"packet {packet} finishes at {life.finish[place]}, but the"
                                       f" scenario has {expected[place]} (line {config.line}: {config.words('bw')};"
                                       f" {self.sender(packet)})"))
 
@@ -154,19 +154,19 @@ class Links:
         place = int(bad[0])
         config, serial = life.config_at(int(places[place])), int(packet[place])
         says = f"line {config.line}: {config.words('delay')}; it finished at {life.finish[place]}"
-        row, what = int(life.row[place]), "stays under way to the end"
+        row, what = int(life.row[place]), "stays in flight to the end"
         if left[place] >= 0:
             columns = self.experiment.columns
             rows = np.flatnonzero((columns.packet == serial) & ((columns.word == DELIVER) | (columns.word == PASS)))
             row, what = int(rows[columns.moment[rows] == left[place]][0]), f"leaves its pipe at {left[place]}"
-        self.faults.append(_Fault(row, f"packet {serial} {what}, where the scenario has {expected[place]} ({says})"))
+        self.faults.append(_Fault(row, f"packet {serial} {what}, but the scenario has {expected[place]} ({says})"))
 
     def is_whole(self) -> bool:
-        """Whether the experiment came to its `end`."""
+        """Returns whether the experiment reached its `end`."""
         return len(self.done.plain) > 0 and self.done.plain[-1][1].word == "end"
 
     def queue(self, life: Life) -> None:
-        """Packets that were taken where the queue was full by the scenario."""
+        """Checks for packets that were accepted although the queue was full by the scenario."""
         begun = np.searchsorted(life.start, life.arrival, side="right")
         number = np.arange(len(life.at))
         waits = number - np.minimum(begun, number)
@@ -179,18 +179,18 @@ class Links:
             place = int(bad[0])
             config = life.config_at(max(int(life.came[place]), 0))
             packet = int(self.visits.packet[life.at[place]])
-            self.faults.append(_Fault(int(life.row[place]), f"packet {packet} was taken at {life.arrival[place]}, when"
-                                      f" {waits[place]} packets waited, where the scenario drops it as `full` (line"
+            self.faults.append(_Fault(int(life.row[place]), f"packet {packet} was accepted at {life.arrival[place]}, when"
+                                      f" {waits[place]} packets waited, but the scenario drops it as `full` (line"
                                       f" {config.line}: {config.words('queue')})"))
 
     def full(self, lives: list[Life]) -> None:
-        """Drops as `full` where no pipe can have been full."""
+        """Checks for `full` drops where no pipe can have been full."""
         columns = self.experiment.columns
         rows = np.flatnonzero((columns.word == DROP) & (columns.more == _FULL))
         if not len(rows):
             return
         moments, size = columns.moment[rows], self.packets.size[columns.packet[rows]]
-        # What waits to the end, in an instance that no line names or one that nothing leaves.
+        # What waits to the end, in an instance that no line names or that nothing leaves.
         waiting = self.visits.packet[(self.visits.finish < 0) & (self.visits.exit < 0)]
         unknown = np.sort(self.makings.moment[np.concatenate((never_seen(self.packets, self.visits), waiting))])
         more = np.searchsorted(unknown, moments, side="right")
@@ -204,7 +204,7 @@ class Links:
             for slots, most in (limits(life, life.holds(moments)), limits(life, life.holds(moments - 1))):
                 could |= (slots >= 0) & (waits + others >= slots)
                 could |= (most >= 0) & (held + others * _GREATEST + size > most)
-        # A pipe whose instances no line names may hold all that no line names.
+        # A pipe whose instances no line names may contain all packets that no line names.
         configs = [change.config for changes in self.changes.values() for change in changes if change.config]
         for config in configs:
             could |= (more >= config.slots if config.slots is not None
@@ -214,11 +214,11 @@ class Links:
             lines = sorted(config.line for config in configs)
             packet = int(columns.packet[rows[bad[0]]])
             queues = ", ".join(f"line {line}" for line in lines[:4])
-            self.faults.append(_Fault(int(rows[bad[0]]), f"packet {packet} is dropped as `full` at {moments[bad[0]]}, where"
+            self.faults.append(_Fault(int(rows[bad[0]]), f"packet {packet} is dropped as `full` at {moments[bad[0]]}, but"
                                       f" no queue of the scenario is full then ({queues})"))
 
     def losses(self) -> None:
-        """Drops as `lost` or `codel` where no pipe loses, or none has CoDel."""
+        """Checks for `lost` or `codel` drops where no pipe loses, or none has CoDel."""
         columns = self.experiment.columns
         for cause, name, says in ((_LOST, "plr", "no pipe of the scenario has a plr"),
                                   (_CODEL, "codel", "no pipe of the scenario has CoDel")):
@@ -227,16 +227,16 @@ class Links:
             for changes in self.changes.values():
                 for change, following in zip(changes, [*changes[1:], None]):
                     if change.config is not None and getattr(change.config, name):
-                        # At the moment of the next change it may still have held.
+                        # At the time of the next change the previous one may still apply.
                         until = following.moment if following is not None else _NEVER
                         could |= (columns.moment[rows] >= change.moment) & (columns.moment[rows] <= until)
             bad = rows[~could]
             if len(bad):
                 packet = int(columns.packet[bad[0]])
-                self.faults.append(_Fault(int(bad[0]), f"packet {packet} is dropped as `{CAUSES[cause]}`, where {says} then"))
+                self.faults.append(_Fault(int(bad[0]), f"packet {packet} is dropped as `{CAUSES[cause]}`, but {says} then"))
 
     def sender(self, packet: int) -> str:
-        """Which line of the scenario sends a packet, and its size."""
+        """Returns the line of the scenario that sends a packet, and the packet's size."""
         name = self.makings.names[int(self.makings.who[packet])].removesuffix(" acks")
         size = int(self.packets.size[packet])
         line: Optional[int] = None
@@ -252,7 +252,7 @@ def _is_of(command: Command, name: str) -> bool:
 
 
 def _service(served: Ints, rate: Ints) -> Ints:
-    """How long so many bytes are served, ns, rounded up; exact for any number of bytes."""
+    """Returns the service time of this many bytes, ns, rounded up; exact for any number of bytes."""
     if not len(served) or int(served.max()) <= _MOST_BYTES:
         found: Ints = -(-8 * 10**9 * served // rate)
         return found
@@ -260,5 +260,5 @@ def _service(served: Ints, rate: Ints) -> Ints:
 
 
 def compare_links(experiment: Recorded, plan: Plan, done: Done, makings: Makings, packets: Packets, visits: Visits) -> None:
-    """Refuses the first line that has finishes, exits or queues otherwise than the scenario."""
+    """Raises `ParseError` at the first line whose finishes, exits or queues contradict the scenario."""
     Links(experiment, plan, done, makings, packets, visits).check()

@@ -1,31 +1,30 @@
-"""What each sender's packets brought in each window of time, and what was lost where."""
+"""Each sender's deliveries in intervals of time, and losses by place."""
 import numpy as np
 
 from dnlab.analysis.packets import DELIVERED, DROPPED
 from dnlab.analysis.rows import Row
 from dnlab.analysis.view import View
-from dnlab.errors import Faulty
+from dnlab.errors import InputError
 from dnlab.io.digits import Ints
 from dnlab.io.drops import CAUSES
 from dnlab.io.lines import PLAIN, pipe_name
 from dnlab.io.scenario_parts import HEADER
 
-# No table of windows of time has more rows of one experiment.
+# The maximum number of rows per experiment in a table of intervals.
 _MOST_WINDOWS = 10**6
 
 
 def windows(view: View, every: int) -> list[Row]:
-    """What each sender's packets brought in each window of so many ns, from 0 on; the last ends with the experiment.
+    """Returns each sender's deliveries in intervals of `every` ns, from 0 on; the last one ends with the experiment.
 
-    Columns: experiment, of, begin, end (ns), packets and bytes delivered, rate (bit/s), useful bytes (each once) and
-    goodput (bit/s).
-    """
+    Columns: experiment, sender, begin, end (ns), packets and bytes delivered, rate (bit/s), useful bytes (each once) and
+    goodput (bit/s). Raises `InputError` for too many rows."""
     table = view.packets
     until = max(view.ended.moment, 1)
     count = -(-until // every)
     if count * len(view.senders) > _MOST_WINDOWS:
-        raise Faulty(f"experiment {view.name}: {count} windows of {every} ns for each of {len(view.senders)} senders are"
-                     f" more than {_MOST_WINDOWS} rows: take a longer time")
+        raise InputError(f"experiment {view.name}: {count} intervals of {every} ns for each of {len(view.senders)} senders are"
+                     f" more than {_MOST_WINDOWS} rows: choose a longer interval")
     begins = np.arange(count, dtype=np.int64) * every
     ends = np.minimum(begins + every, until)
     rows: list[Row] = []
@@ -50,12 +49,12 @@ def windows(view: View, every: int) -> list[Row]:
 
 
 def _sums(at: Ints, values: Ints, count: int) -> Ints:
-    """Sums of values by their places; they stay below 2^53, so that the sums of floats are exact."""
+    """Returns sums of values by index. They stay below 2^53, so sums of floats are exact."""
     return np.bincount(at, weights=values, minlength=count).astype(np.int64)
 
 
 def losses(view: View) -> list[Row]:
-    """Drops by who sent, cause and pipe (None if no line has it): experiment, of, cause, pipe, packets."""
+    """Returns drops by sender, cause and pipe (None if no line has it): experiment, sender, cause, pipe, packets."""
     table, visits = view.packets, view.visits
     last = np.full(len(table), -1, dtype=np.int64)
     last[visits.packet] = np.arange(len(visits))
@@ -73,7 +72,7 @@ def losses(view: View) -> list[Row]:
 
 
 def dropping_pipes(view: View, packets: Ints, last: Ints) -> Ints:
-    """The pipes that dropped packets, by their last visits: those where they waited; -1 if no line has it."""
+    """Returns the pipes that dropped packets, which are those where they waited, by their last visits; -1 if no line has it."""
     visits = view.visits
     if not len(visits):
         return np.full(len(packets), -1, dtype=np.int64)

@@ -1,10 +1,10 @@
-"""When each packet of an experiment was made, and by whom, worked out from its scenario.
+"""Computes when each packet of an experiment was created, and by which sender, from its scenario.
 
-A report has a line for when a packet was made under `trace 1` alone. With the scenario it follows from docs/explanation/order.md
-and docs/explanation/reno.md, since serial numbers count the packets as they are made: an injected packet at its command, an
-acknowledgement where its data packet is delivered, a train's packets by their gap, and a flow's segments at the moment
-of the `flow` command, `ack` or `expire` line that allowed them, behind all else of that moment, by number. Windows are
-the report's; what is worked out is compared with each line that names a packet, and with the counters.
+A report has a line for the creation of a packet only with `trace 1`. With the scenario it follows from docs/explanation/order.md
+and docs/explanation/reno.md, because serial numbers count packets as they are created: an injected packet at its command, an
+acknowledgement where its data packet is delivered, a train's packets by their gap, and a flow's segments at the time of the
+`flow` command, `ack` or `expire` line that allowed them, after everything else of that time, by number. Windows are taken from the
+report; the result is checked against each line that names a packet, and against the counters.
 """
 from dataclasses import dataclass
 from typing import Any, NamedTuple, Optional
@@ -23,15 +23,14 @@ from dnlab.io.scenario_parts import HEADER, Plan, Sends
 
 @dataclass
 class Makings:
-    """Packets in the order in which they were made; all arrays have the shape (packets,).
+    """Packets in the order of their creation; all arrays have the shape (packets,).
 
     moment  int64  ns
     size    int64  bytes, with headers
-    who     int32  a place in `names`
-    kind    int8   of the load, a place in `dnlab.io.lines.KINDS`
-    flow    int32  of the load, -1 of a plain one
-    number  int64  of the load: the first byte, or the number that is acknowledged; -1 of a plain one
-    """
+    who     int32  an index in `names`
+    kind    int8   of the load, an index in `dnlab.io.lines.KINDS`
+    flow    int32  of the load, -1 for a plain packet
+    number  int64  of the load: the first byte, or the acknowledged number; -1 for a plain packet"""
     names: list[str]
     moment: Ints
     size: Ints
@@ -45,14 +44,14 @@ class Makings:
 
 
 class Started(NamedTuple):
-    """A command that sends, and was done: its row in the report and its moment."""
+    """An executed command that sends: its row in the report and its time."""
     row: int
     moment: int
     sends: Sends
 
 
 class Maker:
-    """Works out an experiment's makings."""
+    """Computes the creation of an experiment's packets."""
 
     def __init__(self, experiment: Recorded, done: Done) -> None:
         self.experiment = experiment
@@ -79,7 +78,7 @@ class Maker:
                 kind[command.sends.number] = Started(row, command.moment, command.sends)
 
     def flows_are_known(self) -> None:
-        """Refuses a line of a flow that wasn't begun by then."""
+        """Raises `ParseError` for a line of a flow that had not started by then."""
         columns = self.columns
         begun = np.full(65536, len(columns), dtype=np.int64)
         for number, started in self.flows.items():
@@ -92,11 +91,11 @@ class Maker:
             raise self.experiment.refused(int(early[0]), f"the scenario has no flow {flow} by then")
 
     def work_out(self) -> Makings:
-        """The makings: first those that a line shows, in each moment, then emissions, by number."""
+        """Returns the packets: at each time first those that a line shows, then emissions, by number."""
         names: list[str] = []
         lines = self.made_by_lines(names)
         emitted, owners = self.emitted(names)
-        # Where each stands: behind all before it of its own sort, and those of the other that come first.
+        # The final index: after all earlier ones of the same sort, and those of the other sort that precede it.
         places = np.arange(len(lines)) + np.searchsorted(emitted.moment, lines.moment, side="left")
         behind = np.arange(len(owners)) + np.searchsorted(lines.moment, emitted.moment, side="right")
         count = len(lines) + len(emitted)
@@ -111,7 +110,7 @@ class Maker:
         return self.cut(Makings(names, *merged), is_emission)
 
     def cut(self, makings: Makings, is_emission: Flags) -> Makings:
-        """Where the steps were spent, what could be sent in the last moment wasn't all sent."""
+        """Removes what was not sent in the last time step because the steps were spent."""
         made = self.experiment.counters.made
         more = len(makings) - made
         if not self.spent or more <= 0:
@@ -122,7 +121,7 @@ class Maker:
         return makings
 
     def made_by_lines(self, names: list[str]) -> Makings:
-        """Injected packets and acknowledgements, in the order of the lines that made them."""
+        """Returns injected packets and acknowledgements, in the order of the lines that created them."""
         rows, sizes = self.done.rows, self.done.injected.size
         segments, upto = self.acknowledged()
         every = np.concatenate((rows, segments))
@@ -141,7 +140,7 @@ class Maker:
                        np.concatenate((np.full(len(rows), -1, dtype=np.int64), upto))[order])
 
     def acknowledged(self) -> tuple[Ints, Ints]:
-        """The rows that deliver a segment, and of each the number that its acknowledgement has."""
+        """Returns the rows that deliver a segment, and the number in each acknowledgement."""
         columns = self.columns
         rows = np.flatnonzero((columns.word == DELIVER) & (columns.kind == DATA))
         upto = np.zeros(len(rows), dtype=np.int64)
@@ -151,7 +150,7 @@ class Maker:
         return rows, upto
 
     def emitted(self, names: list[str]) -> tuple[Makings, Ints]:
-        """What flows and trains sent, by moment and then by number."""
+        """Returns the packets of flows and trains, by time and then by number."""
         parts = [(number, started.sends, self.of_train(started)) for number, started in self.trains.items()]
         parts += [(number, self.flows[number].sends, sent) for number, sent in self.of_flows()]
         counts = [len(sent.moment) for _, _, sent in parts]
@@ -169,7 +168,7 @@ class Maker:
                        np.where(is_flow, owner[order], -1).astype(np.int32), first), owner
 
     def of_train(self, started: Started) -> Emissions:
-        """A train's packets: up to the last moment, in it only where the steps were spent."""
+        """Returns a train's packets up to the last time; at that time only if the steps were spent."""
         sends = started.sends
         left = self.last - started.moment + self.spent
         count = sends.count if sends.gap == 0 and left > 0 else min(sends.count, -(-left // max(sends.gap, 1)))
@@ -185,7 +184,7 @@ class Maker:
                 for number, started in self.flows.items()]
 
     def of_flow(self, number: int, started: Started, rows: Ints) -> Emissions:
-        """What a flow sent, by its `ack` and `expire` lines."""
+        """Returns a flow's segments, given its `ack` and `expire` lines."""
         columns = self.columns
         expires = np.concatenate((np.zeros(1, dtype=np.bool_), columns.word[rows] == EXPIRE))
         upto = np.concatenate((np.zeros(1, dtype=np.int64), columns.number[rows - 1]))
@@ -203,7 +202,7 @@ def _arrays(makings: Makings) -> list[Any]:
 
 
 def makings_of(experiment: Recorded, plan: Plan, done: Optional[Done] = None) -> Makings:
-    """Returns the makings of an experiment by its scenario, compared with each line of the report; `done` if it is known."""
+    """Returns the packets of an experiment by its scenario, checked against each line of the report; `done` if it is known."""
     makings = Maker(experiment, done or done_of(experiment, plan)).work_out()
     compare(experiment, makings)
     return makings

@@ -1,4 +1,4 @@
-"""What may be silently wrong in an experiment: the commands that were refused, and the notes whose marks its rows carry.
+"""Warnings of an experiment: its refused commands, and the notes whose warnings its rows have.
 
 `refused_of` and `marks_of` take a `dnlab.analysis.view.View`, with its scenario or without.
 """
@@ -18,7 +18,7 @@ from dnlab.io.lines import ACKNOWLEDGES, OK, REFUSED
 if TYPE_CHECKING:
     from dnlab.analysis.view import View
 
-# What the codes of refused commands mean (docs/reference/faults.md).
+# The meaning of each code of a refused command (docs/reference/faults.md).
 MEANS = {
     10: "a rule's number is 1 to 65534",
     11: "`skipto` must go forward",
@@ -34,13 +34,13 @@ MEANS = {
 _DENIED = DROPPED + CAUSES.index("denied")
 _NOPIPE = DROPPED + CAUSES.index("nopipe")
 _BUDGET = DROPPED + CAUSES.index("budget")
-# So many refused commands are told one by one.
+# The maximum number of refused commands that are listed.
 _MOST_TOLD = 3
 
 
 class Refusal(NamedTuple):
-    """A command that was refused: its place among its experiment's commands (from 0), its moment in ns, the code, its
-    line in the report, and its line and words in the scenario (None where the scenario isn't known)."""
+    """A refused command: its index in the experiment (from 0), its time in ns, the code, its line in the report, and its line and text
+    in the scenario (None if the scenario isn't known)."""
     experiment: str
     number: int
     moment: int
@@ -50,7 +50,7 @@ class Refusal(NamedTuple):
     text: Optional[str] = None
 
     def told(self) -> str:
-        """The command, its code and the reason, in words.
+        """Returns the command, its code and the reason as text.
 
         >>> Refusal("a", 1, 0, 13, 3, 4, "delete 7").told()
         'line 4: `delete 7` (13: no rule has this number)'
@@ -60,7 +60,7 @@ class Refusal(NamedTuple):
 
 
 def refused_of(view: View) -> list[Refusal]:
-    """The commands of an experiment that were refused, in order."""
+    """Returns the refused commands of an experiment, in order."""
     experiment = view.experiment
     columns = experiment.columns
     commands = view.plan.commands if view.plan else []
@@ -74,13 +74,13 @@ def refused_of(view: View) -> list[Refusal]:
 
 
 def codes_of(refused: Iterable[Refusal]) -> str:
-    """The codes with how many commands each refused, as `10:1 22:3`; '' where none was."""
+    """Returns each code with the number of commands, as `10:1 22:3`; '' if none was refused."""
     counts = Counter(one.code for one in refused)
     return " ".join(f"{code}:{counts[code]}" for code in sorted(counts))
 
 
 def told_of(refused: Sequence[Refusal], commands: int) -> str:
-    """What is said of refused commands, the first of them one by one; `commands` is how many there were."""
+    """Returns the message about refused commands, with the first of them; `commands` is the number of all commands."""
     said = "; ".join(one.told() for one in refused[:_MOST_TOLD])
     more = f"; and {len(refused) - _MOST_TOLD} more, codes {codes_of(refused)}" if len(refused) > _MOST_TOLD else ""
     were = "was" if len(refused) == 1 else "were"
@@ -88,7 +88,7 @@ def told_of(refused: Sequence[Refusal], commands: int) -> str:
 
 
 def marks_of(view: View) -> list[Note]:
-    """The notes of an experiment that mark rows, in the order of the most to the least grave."""
+    """Returns the notes of an experiment that cause warnings, the most serious first."""
     return [*_refused(view), *_ends(view), *_losses(view), *likely_of(view)]
 
 
@@ -104,12 +104,12 @@ def _ends(view: View) -> list[Note]:
     if not view.ended.is_short():
         return []
     end = "" if view.ended.end is None else f", before its end at {view.ended.end} ns"
-    return [Note("spent", f"its steps were spent at {view.ended.moment} ns{end}: what came later isn't there; give"
+    return [Note("spent", f"its steps were spent at {view.ended.moment} ns{end}: what follows is missing; give"
                  " it more `steps`", "spent")]
 
 
 def _losses(view: View) -> list[Note]:
-    """Drops that tell of a scenario that isn't as it was meant: by rules, in a pipe that isn't there, or for the budget."""
+    """Returns notes about drops that suggest a mistake: by rules, in a pipe that doesn't exist, or for the budget."""
     found = []
     fate, kind = view.packets.outcome, view.packets.kind
     for name, packets in view.senders:
@@ -118,15 +118,15 @@ def _losses(view: View) -> list[Note]:
         over = int(np.count_nonzero(fate[packets] == _BUDGET))
         came = int(np.count_nonzero(fate[packets] == DELIVERED))
         if denied and not came and int(kind[packets[0]]) == ACKNOWLEDGES:
-            found.append(Note("no way back", f"{name}: all {denied} that ended were denied: no rule allows the way"
-                              " back, so the sender never heard of what came", "no-way-back", name))
+            found.append(Note("no way back", f"{name}: all {denied} that ended were denied: no rule allows the return"
+                              " path, so the sender never saw an acknowledgement", "no-way-back", name))
         elif denied:
             found.append(Note("denied", f"{name}: {denied} of {len(packets)} packets were denied: no rule matched,"
                               " or a `deny`", "denied", name))
         if nowhere:
-            found.append(Note("nopipe", f"{name}: {nowhere} of {len(packets)} packets were dropped since a rule hands them to a pipe"
-                              " that isn't there: configure that pipe, or name another", "nopipe", name))
+            found.append(Note("nopipe", f"{name}: {nowhere} of {len(packets)} packets were dropped because a rule sends them to a pipe"
+                              " that does not exist: configure that pipe, or name another", "nopipe", name))
         if over:
-            found.append(Note("budget", f"{name}: {over} of {len(packets)} packets were dropped since as many were"
-                              " under way as the budget allows", "budget", name))
+            found.append(Note("budget", f"{name}: {over} of {len(packets)} packets were dropped because the budget"
+                              " of packets in flight was used up", "budget", name))
     return found

@@ -1,4 +1,4 @@
-"""The metrics of a summary's rows by their words, as `delay.p95`: what `compare` and `expect` measure by."""
+"""The metrics of a summary's rows by name, as `delay.p95`, for `compare` and `expect`."""
 import re
 from fnmatch import fnmatchcase
 from fractions import Fraction
@@ -10,30 +10,30 @@ from dnlab.io.drops import CAUSES
 from dnlab.units import ENDINGS, shown
 
 _PERCENTILE = re.compile(r"delay\.p([0-9]{1,3}(?:\.[0-9]{1,6})?)")
-# Columns of a summary by what they are counted in.
+# Columns of a summary by their unit.
 _PLAIN = {"packets": "count", "delivered": "count", "in_flight": "count", "bytes": "size", "useful": "size",
           "first": "time", "last": "time", "time": "time", "rate": "rate", "goodput": "rate", "utilisation": "share",
           "retransmissions": "count", "fct": "time", "jitter": "time", "jain": "index", "refused": "count", "ended": "ending"}
 _DELAYS = ("min", "p50", "mean", "max")
-# Rows of a kind alone have these; in words for who asks it of another.
-_OF_KIND = {"fct": (("flow",), "only a flow has a completion"), "retransmissions": (("flow",), "only a flow sends again"),
+# Metrics that only one kind of row has, with the reason for other rows.
+_OF_KIND = {"fct": (("flow",), "only a flow has a completion time"), "retransmissions": (("flow",), "only a flow retransmits"),
             "jain": (("whole",), "only all flows together have an index of fairness"),
             "utilisation": (("pipe",), "only a pipe has a utilisation")}
 _NOT_OF = {"useful": ("acks", "pipe"), "goodput": ("acks", "pipe")}
 
 
 class Metric(NamedTuple):
-    """A metric: its word, the kind of its amounts (a key of `dnlab.units.UNITS`), and the column of a summary that has it.
+    """A metric: its name, the kind of its amounts (a key of `dnlab.units.UNITS`), and its column in a summary.
 
-    `loss` (drops of what was made) and `drops` (their sum) are of several columns, and have none of their own."""
+    `loss` (drops divided by created packets) and `drops` (their sum) are computed from several columns, and have none of their own."""
     word: str
     kind: str
     column: str
 
     def of(self, row: Row) -> Optional[Fraction]:
-        """Its value in a row, in base units (ns, bytes, bit/s, shares of 1, counts); None if it isn't known.
+        """Returns its value in a row, in base units (ns, bytes, bit/s, fractions, counts), or None if unknown.
 
-        Each metric, by the experiments of `dnlab.analysis.by_hand`. Of the train's four packets two came, after 11 and 12 ms:
+        Each metric, for the experiments of `dnlab.analysis.by_hand`. Two of the train's four packets arrived, after 11 and 12 ms:
 
         >>> from dnlab.analysis.by_hand import FLOWS, TRAIN, rows_of
         >>> train, pipe = (rows_of(TRAIN)[name] for name in ("train 1", "pipe 1.0"))
@@ -45,18 +45,18 @@ class Metric(NamedTuple):
         >>> told(train, "delay.min", "delay.p50", "delay.mean", "delay.p95", "delay.max")
         ['11000000', '11000000', '11500000', '12000000', '12000000']
 
-        16000 bits in 12 ms are 1333333 bit/s. The one difference of 1 ms counts a sixteenth (RFC 3550):
+        16000 bits in 12 ms are 1333333 bit/s. The only difference, 1 ms, counts a sixteenth (RFC 3550):
 
         >>> told(train, "rate", "goodput", "jitter", "refused", "ended")
         ['1333333', '1333333', '62500', '0', '0']
 
-        The pipe served 32000 bits up to 6 ms, and could have served 48000. `ended` is 0 for `end`, 1 for `spent`.
+        The pipe served 32000 bits by 6 ms, and could have served 48000. `ended` is 0 for `end`, 1 for `spent`.
 
         >>> round(metric_of("utilisation").of(pipe), 6) == round(Fraction(32000, 48000), 6)
         True
         >>> first, second, there = (rows_of(FLOWS)[name] for name in ("flow 1", "flow 2", "there"))
 
-        Flow 1 brings 1920 bytes without headers in 12 ms; flow 2 is sent again after 1 s. With rates of 1280000 and 7679
+        Flow 1 delivers 1920 bytes without headers in 12 ms; flow 2 retransmits after 1 s. With rates of 1280000 and 7679
         bit/s Jain's index is 1287679^2 / (2 * (1280000^2 + 7679^2)):
 
         >>> told(first, "bytes", "useful", "goodput", "retransmissions", "fct", "refused")
@@ -80,46 +80,46 @@ class Metric(NamedTuple):
         return Fraction(dropped, row["packets"]) if row["packets"] else None
 
     def applies(self, row: Row) -> bool:
-        """Whether rows of this kind can have it at all."""
+        """Returns whether rows of this kind can have it at all."""
         kind = kind_of(row["sender"])
         only, _ = _OF_KIND.get(self.word, ((kind,), ""))
-        # Where packets go both ways, `all` has counts alone, and what is new is that of `there`.
+        # With packets in both directions, `all` has only counts, and new data is in `there`.
         both = row["sender"] == "all" and row.get("bytes") is None and row.get("seed") is not None and row["packets"] > 0
         return (kind in only and kind not in _NOT_OF.get(self.word, ())
                 and not (both and self.kind in ("time", "rate", "size"))
                 and not (row["sender"] == "back" and self.word in (*_NOT_OF, "jain")))
 
     def is_delay(self) -> bool:
-        """Whether it is of the packets that were delivered alone."""
+        """Returns whether it concerns only packets that were delivered."""
         return self.word.startswith("delay.") or self.word == "jitter"
 
     def only(self) -> str:
-        """Which rows have it, in words."""
+        """Returns which rows have it, as text."""
         return _OF_KIND[self.word][1] if self.word in _OF_KIND else f"no row here has {self.word}"
 
     def why(self, row: Row) -> str:
-        """Why a row hasn't a value, as far as it is known."""
+        """Returns why a row has no value, as far as known."""
         if row["sender"] == "all" and not self.applies(row) and self.word not in _OF_KIND:
-            return "`all` has both directions: name `there` or `back`"
+            return "`all` has both directions: use `there` or `back`"
         if not self.applies(row):
             return self.only() if self.word in _OF_KIND else f"rows of this kind have no {self.word}"
         if row.get("seed") is None:
-            return "give the scenario, or run it under `trace 1`"
+            return "give the scenario, or run it with `trace 1`"
         if self.word == "fct":
-            return f"it hadn't ended when the experiment did, at {shown(Fraction(row['ended_at']), 'time', 's')}"
+            return f"it had not finished when the experiment ended, at {shown(Fraction(row['ended_at']), 'time', 's')}"
         if self.word == "utilisation":
             return "the pipe has no rate (`bw 0`, or none), or it served nothing"
         if row.get("delivered") == 0 and (self.kind in ("time", "rate")):
             return "nothing was delivered"
         if self.word == "jitter" and row.get("delivered") == 1:
-            return "one packet alone has no jitter"
+            return "a single packet has no jitter"
         if self.word.startswith("drops") or self.word == "loss":
-            return "no line says which pipe dropped a packet, but under `trace 1`; name `all`, or who sends"
-        return "no line tells it"
+            return "without `trace 1` no line says which pipe dropped a packet; use `all`, or a sender"
+        return "no line has it"
 
 
 def kind_of(of: str) -> str:
-    """What a row of a summary is of.
+    """Returns the kind of a summary's row.
 
     >>> kind_of("flow 1"), kind_of("flow 1 acks"), kind_of("pipe 1.0 back"), kind_of("all")
     ('flow', 'acks', 'pipe', 'whole')
@@ -130,7 +130,8 @@ def kind_of(of: str) -> str:
 
 
 def is_named(of: str, pattern: str) -> bool:
-    """Whether a pattern names a row: `flow *` names flows, and not their acknowledgements, which `flow * acks` names.
+    """Returns whether a pattern matches a row: `flow *` matches flows, and not their acknowledgements, which `flow * acks`
+    matches.
 
     >>> is_named("flow 1", "flow *"), is_named("flow 1 acks", "flow *"), is_named("flow 1 acks", "flow * acks")
     (True, False, True)
@@ -138,12 +139,12 @@ def is_named(of: str, pattern: str) -> bool:
     return fnmatchcase(of, pattern) and not (kind_of(of) == "acks" and pattern.startswith("flow") and "ack" not in pattern)
 
 
-# As messages and help have them.
+# As in messages and help.
 WORDS = (*_PLAIN, "loss", "drops", *(f"drops.{cause}" for cause in CAUSES), *map("delay.{}".format, _DELAYS), "delay.pN")
 
 
 def refuse_share(percentile: str) -> None:
-    """Raises `ValueError` of a percentile below 1, which is meant as a share.
+    """Raises `ValueError` for a percentile below 1, which is meant as a fraction.
 
     >>> refuse_share("0.95")
     Traceback (most recent call last):
@@ -155,7 +156,7 @@ def refuse_share(percentile: str) -> None:
 
 
 def metric_of(word: str) -> Metric:
-    """Returns the metric of a word; `ValueError` with the words that there are.
+    """Returns the metric of a name. Raises `ValueError` with the names that exist.
 
     >>> metric_of("delay.p95")
     Metric(word='delay.p95', kind='time', column='p95')
@@ -175,17 +176,17 @@ def metric_of(word: str) -> Metric:
         refuse_share(found[1])
     if found and 0 < Fraction(found[1]) <= 100:
         return Metric(word, "time", percentile_name(found[1]))
-    raise ValueError(f"there is no metric {word!r}: {', '.join(WORDS)}")
+    raise ValueError(f"there is no metric {word!r}; the metrics are {', '.join(WORDS)}")
 
 
 def metrics(percentiles: Iterable[str] = tuple(map(str, PERCENTILES))) -> list[Metric]:
-    """All metrics, with these percentiles of the delay."""
+    """Returns all metrics, with these percentiles of the delay."""
     words = [word for word in WORDS if not word.startswith("delay.")]
     return [metric_of(word) for word in words] + [Metric(f"delay.{name}", "time", name)
                                                   for name in (*times_of(list(percentiles)), "mean")]
 
 
 def percentiles_in(found: Iterable[Metric]) -> list[str]:
-    """The percentiles that a summary must have for some metrics."""
+    """Returns the percentiles that a summary must have for some metrics."""
     names = dict.fromkeys(one.column[1:] for one in found if one.word.startswith("delay.") and one.column not in ("min", "mean", "max"))
     return list(names)

@@ -1,4 +1,4 @@
-"""The settings of experiments as columns: each option of each pipe, flow and train, with its default where none was given."""
+"""The settings of experiments as columns: each option of each pipe, flow and train, with its default if omitted."""
 import hashlib
 from collections import Counter
 from typing import Any, Iterable, Sequence
@@ -6,12 +6,12 @@ from typing import Any, Iterable, Sequence
 from dnlab.io.scenario_parts import SCALES, Plan
 from dnlab.io.settings import Config, config_of
 
-# So many successive values of an option are shown; of more the first, and a checksum.
+# Maximum number of successive values of an option to show; with more, the first and a checksum.
 _MOST_SHOWN = 4
 
 
 def configs_of(plan: Plan) -> dict[int, list[Config]]:
-    """Of each pipe of an experiment its configurations, in order."""
+    """Returns the configurations of each pipe of an experiment, in order."""
     found: dict[int, list[Config]] = {}
     for _, command in plan.commands.plain:
         if command.pipe is not None:
@@ -20,7 +20,7 @@ def configs_of(plan: Plan) -> dict[int, list[Config]]:
 
 
 def values_of(config: Config) -> dict[str, Any]:
-    """The options of a configuration as numbers: rates in bit/s (0 is no limit), times in ns, queues in slots or bytes.
+    """Returns the options of a configuration as numbers: rates in bit/s (0 is unlimited), times in ns, queues in slots or bytes.
 
     >>> values_of(config_of(1, "pipe 1 config bw 8Mbit/s delay 10"))["queue"]
     50
@@ -33,8 +33,8 @@ def values_of(config: Config) -> dict[str, Any]:
 
 
 def columns_in(plan: Plan) -> dict[str, Any]:
-    """The settings of an experiment by their columns, as `pipe1_bw`, `flow1_window` or `train9_gap`; `varies` where an
-    option of a pipe changes on the way."""
+    """Returns the settings of an experiment by column, as `pipe1_bw`, `flow1_window` or `train9_gap`; `varies` if an option of a pipe
+    changes during the run."""
     found: dict[str, Any] = {"seed": plan.seed, "budget": plan.budget, "steps": plan.steps, "end": plan.end()}
     for pipe, configs in configs_of(plan).items():
         every = [values_of(config) for config in configs]
@@ -53,7 +53,7 @@ def columns_in(plan: Plan) -> dict[str, Any]:
 
 
 def spelled(config: Config) -> dict[str, str]:
-    """The options of a configuration in the words of a scenario, each, and one value in one way.
+    """Returns each option of a configuration in scenario syntax, with one spelling per value.
 
     >>> spelled(config_of(1, "pipe 1 config bw 8000Kbit/s"))
     {'bw': 'bw 8Mbit/s', 'delay': 'delay 0', 'queue': 'queue 50', 'plr': 'plr 0', 'discipline': 'droptail', 'mask': ''}
@@ -77,7 +77,7 @@ def _time(value: int) -> str:
 
 
 def _sequence(values: Iterable[str]) -> str:
-    """Successive values of an option, one behind the other."""
+    """Returns successive values of an option as one text."""
     found: list[str] = []
     for value in values:
         if not found or found[-1] != value:
@@ -88,8 +88,9 @@ def _sequence(values: Iterable[str]) -> str:
 
 
 def varied(plans: dict[str, Plan]) -> dict[str, str]:
-    """Of each experiment those options of its pipes that aren't the same in all, as `pipe 1 queue 50 droptail`. What isn't
-    given counts as its default; it is left out if no other experiment has the pipe with another value."""
+    """Returns for each experiment the options of its pipes that differ between experiments, as `pipe 1 queue 50 droptail`.
+
+    An omitted option counts as its default, and is left out if no other experiment has the pipe with another value."""
     options: dict[str, dict[tuple[int, str], str]] = {}
     given: dict[str, set[tuple[int, str]]] = {}
     for name, plan in plans.items():

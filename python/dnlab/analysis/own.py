@@ -1,4 +1,4 @@
-"""Statistics of one's own: a function that is given a run, and that a sweep asks like any other stat."""
+"""Your own statistics: functions that take a run, and that a sweep uses like any other statistic."""
 import importlib.util
 import inspect
 import math
@@ -8,7 +8,7 @@ import sys
 from pathlib import Path
 from typing import TYPE_CHECKING, Any, Callable, Optional
 
-from dnlab.errors import Faulty
+from dnlab.errors import InputError
 
 if TYPE_CHECKING:
     from dnlab.analysis.view import View
@@ -17,8 +17,10 @@ _WORD = re.compile(r"(.+\.py):([A-Za-z_][A-Za-z0-9_]*)")
 
 
 class Own(str):
-    """A statistic by the name of its function. `call(run)` or `call(run, of)` is given the `dnlab.Experiment` and of whom it
-    is asked (the name of a row), and gives a number, or None if it isn't known; `unit` is `ns`, `bit/s` or any other.
+    """A statistic with the name of its function.
+
+    `call(run)` or `call(run, of)` takes the `dnlab.Experiment` and the name of a row, and returns a number, or None if unknown;
+    `unit` is `ns`, `bit/s` or any other.
 
     >>> Own("late", lambda run: 0.5), Own("late", lambda run: 0.5).unit
     ('late', '')
@@ -35,21 +37,21 @@ class Own(str):
         return _made_anew, (str(self), _spelled(self.call), self.unit)
 
     def of(self, view: "View", of: str) -> Optional[float]:
-        """What it is of a row's name; `Faulty` if the function raises, or gives no number."""
+        """Returns the value for a row's name. Raises `InputError` if the function raises, or returns no number."""
         from dnlab.analysis.results import Experiment
 
-        # A function of one argument is asked of the whole run.
+        # A function of one argument applies to the whole run.
         takes = [one for one in inspect.signature(self.call).parameters.values() if one.default is one.empty
                  and one.kind in (one.POSITIONAL_ONLY, one.POSITIONAL_OR_KEYWORD)]
         try:
             found = self.call(*(Experiment(view), of)[:max(1, len(takes))])
-        except Exception as fault:  # Whatever it is, it is told with the experiment.
-            raise Faulty(f"the statistic {self}: experiment {view.name}, {of}: {type(fault).__name__}: {fault}") from fault
+        except Exception as fault:  # Any exception is reported with the experiment.
+            raise InputError(f"the statistic {self}: experiment {view.name}, {of}: {type(fault).__name__}: {fault}") from fault
         return number_of(found, f"the statistic {self}: experiment {view.name}, {of}")
 
 
 def number_of(found: Any, told: str) -> Optional[float]:
-    """A number, None for what isn't known; `Faulty` for anything else.
+    """Returns a number, or None if unknown. Raises `InputError` for anything else.
 
     >>> number_of(3, "x"), number_of(float("nan"), "x")
     (3.0, None)
@@ -61,19 +63,19 @@ def number_of(found: Any, told: str) -> Optional[float]:
             return None
         return float(found)
     except (TypeError, ValueError):
-        raise Faulty(f"{told}: {found!r} is no number") from None
+        raise InputError(f"{told}: {found!r} is not a number") from None
 
 
 def own_of(call: Callable[..., Any]) -> Own:
-    """A function as a statistic: its name, and its attribute `unit` if it has one."""
+    """Returns a function as a statistic, with its name, and its attribute `unit` if it has one."""
     name = getattr(call, "__name__", type(call).__name__)
     if not re.fullmatch("[A-Za-z_][A-Za-z0-9_]*", name):
-        raise Faulty(f"stat: {name} has no name that a column could have: give a function by `def`")
+        raise InputError(f"stat: {name} can't be the name of a column: use a function that `def` defines")
     return Own(name, call, getattr(call, "unit", ""))
 
 
 def own_in(word: str) -> Optional[Own]:
-    """The statistic of a word FILE.py:FUNCTION; None if the word has another form. `ValueError` if there is none."""
+    """Returns the statistic of FILE.py:FUNCTION, or None for a word of another form. Raises `ValueError` if there is none."""
     found = _WORD.fullmatch(word)
     if found is None:
         return None
@@ -84,19 +86,19 @@ def own_in(word: str) -> Optional[Own]:
     try:
         spec.loader.exec_module(module)
         call = getattr(module, found[2])
-    except Exception as fault:  # The file is a user's own program.
+    except Exception as fault:  # The file is the user's own program.
         raise ValueError(f"{word}: {type(fault).__name__}: {fault}") from None
     if not callable(call):
-        raise ValueError(f"{word}: {found[2]} is no function")
+        raise ValueError(f"{word}: {found[2]} is not a function")
     return own_of(call)
 
 
 def _spelled(call: Callable[..., Any]) -> bytes:
-    """A function for another process: as it stands, since that process may not find it by its name."""
+    """Returns a function serialised by value, because another process may not find it by name."""
     try:
         import cloudpickle
     except ModuleNotFoundError:
-        raise Faulty("a statistic of one's own needs cloudpickle (Debian: apt-get install python3-cloudpickle)") from None
+        raise InputError("your own statistics need cloudpickle (Debian: apt-get install python3-cloudpickle)") from None
     module = sys.modules.get(getattr(call, "__module__", ""))
     is_ours = module is None or module.__name__.startswith("dnlab.")
     if module is not None and not is_ours and module.__name__ != "__main__":

@@ -1,4 +1,4 @@
-"""What became of each packet of an experiment, and its way through pipes, in columns."""
+"""The outcome of each packet of an experiment, and its path through pipes, as columns."""
 from dataclasses import dataclass
 from functools import cached_property
 from typing import Optional
@@ -20,17 +20,16 @@ UNKNOWN = "unknown"
 
 @dataclass
 class Packets:
-    """A row for each packet, by serial number; all arrays have the shape (packets,). What isn't known is -1.
+    """A row for each packet, by serial number; all arrays have the shape (packets,). Unknown values are -1.
 
     made    int64  ns
-    ended   int64  ns: when it was delivered or dropped; -1 of one that is held
-    outcome int8   a place in `OUTCOMES`: `held`, `delivered`, or the cause of its drop
+    ended   int64  ns: when it was delivered or dropped; -1 if it is held
+    outcome int8   an index in `OUTCOMES`: `held`, `delivered`, or the cause of its drop
     size    int64  bytes, with headers
-    who     int32  who made it, a place in `names`
-    kind    int8   of its load, a place in `dnlab.io.lines.KINDS`
+    who     int32  its sender, an index in `names`
+    kind    int8   of the load, an index in `dnlab.io.lines.KINDS`
     flow    int32  of its load
-    number  int64  of its load: the first byte, or the number that is acknowledged
-    """
+    number  int64  of its load: the first byte, or the acknowledged number"""
     names: list[str]
     made: Ints
     ended: Ints
@@ -46,13 +45,13 @@ class Packets:
 
     @cached_property
     def delay(self) -> Ints:
-        """The time from being made to delivery, in ns; -1 where one of them isn't known. Shape (packets,), int64."""
+        """Returns the one-way delay, in ns; -1 if unknown. Shape (packets,), int64."""
         known = (self.made >= 0) & (self.outcome == DELIVERED)
         return np.where(known, self.ended - self.made, -1)
 
     @cached_property
     def retransmission(self) -> Flags:
-        """Whether a segment was sent before. Shape (packets,); False of all that is no segment."""
+        """Returns whether a segment was sent before. Shape (packets,); False for packets that are no segments."""
         rows = np.flatnonzero(self.kind == DATA)
         again = np.zeros(len(self), dtype=np.bool_)
         again[rows] = True
@@ -61,8 +60,7 @@ class Packets:
 
     @cached_property
     def is_new(self) -> Flags:
-        """Whether a packet was delivered and brought something new: a plain one, or a segment for the first time.
-        Shape (packets,)."""
+        """Returns whether a packet was delivered with new data: a plain one, or a segment for the first time. Shape (packets,)."""
         delivered = self.outcome == DELIVERED
         rows = np.flatnonzero(delivered & (self.kind == DATA))
         new: Flags = delivered & (self.kind == PLAIN)
@@ -70,13 +68,13 @@ class Packets:
         return new
 
     def _first_of_each(self, rows: Ints) -> Ints:
-        """Of each segment the first among some packets."""
+        """Returns the first transmission of each segment among some packets."""
         key = (self.flow[rows].astype(np.int64) << 40) | self.number[rows]
         _, first = np.unique(key, return_index=True)
         return rows[first]
 
     def senders(self) -> list[tuple[str, Ints]]:
-        """Who made packets, in the order of the first, with the packets of each."""
+        """Returns the senders, in the order of the first packet, with the packets of each."""
         order = np.argsort(self.who, kind="stable")
         ordered = self.who[order]
         cuts = np.flatnonzero(ordered[1:] != ordered[:-1]) + 1
@@ -86,14 +84,13 @@ class Packets:
 
 @dataclass
 class Visits:
-    """A row for each visit of a packet to an instance, by packet and time; shapes (visits,). What isn't known is -1.
+    """A row for each visit of a packet to an instance, by packet and time; shapes (visits,). Unknown values are -1.
 
     packet   int64  serial number
     pipe     int32  pipe * 256 + instance
     arrival  int64  ns
-    finish   int64  ns: the end of service; -1 of one that wasn't served
-    exit     int64  ns: when it left, or was dropped there
-    """
+    finish   int64  ns: the end of service; -1 if it wasn't served
+    exit     int64  ns: when it left, or was dropped there"""
     packet: Ints
     pipe: NDArray[np.int32]
     arrival: Ints
@@ -104,7 +101,7 @@ class Visits:
         return len(self.packet)
 
     def pipes(self) -> list[tuple[int, Ints]]:
-        """The instances by number, with the visits to each."""
+        """Returns the instances by number, with the visits to each."""
         order = np.argsort(self.pipe, kind="stable")
         ordered = self.pipe[order]
         cuts = np.flatnonzero(ordered[1:] != ordered[:-1]) + 1
@@ -112,7 +109,7 @@ class Visits:
 
 
 def packets_of(experiment: Recorded, makings: Optional[Makings] = None) -> Packets:
-    """The packets of an experiment; who made them and when by its makings, else by its `make` lines."""
+    """Returns the packets of an experiment, with senders and times from `makings`, else from its `make` lines."""
     columns = experiment.columns
     count = experiment.counters.made
     ended = np.full(count, -1, dtype=np.int64)
@@ -128,7 +125,7 @@ def packets_of(experiment: Recorded, makings: Optional[Makings] = None) -> Packe
 
 
 def _by_lines(experiment: Recorded, ended: Ints, fate: NDArray[np.int8]) -> Packets:
-    """Packets as far as the report's own lines have them."""
+    """Returns packets as far as the report's own lines have them."""
     columns = experiment.columns
     count = len(ended)
     made, size, number = (np.full(count, -1, dtype=np.int64) for _ in range(3))
@@ -140,7 +137,7 @@ def _by_lines(experiment: Recorded, ended: Ints, fate: NDArray[np.int8]) -> Pack
         kind[packets], flow[packets], number[packets] = columns.kind[rows], columns.flow[rows], columns.number[rows]
         if word == MAKE:
             made[packets], size[packets], header[packets] = columns.moment[rows], columns.more[rows], columns.header[rows]
-    # Who they belong to: flow and kind, or the header of a plain one, where a line tells it.
+    # Their senders: flow and kind, or the header of a plain packet, if a line has it.
     key = np.where(kind == PLAIN, header.astype(np.int64) + 1, flow.astype(np.int64))
     key = np.where(kind < 0, -1, key * 4 + kind)
     keys, who = np.unique(key, return_inverse=True)
@@ -159,8 +156,8 @@ def _name(key: int, headers: list[str]) -> str:
 
 
 def visits_of(experiment: Recorded, packets: Packets) -> Visits:
-    """The visits of all packets to pipes, as far as lines have them: `arrive` and `finish` lines, and CoDel's drops,
-    which are of the pipe of the finish before them."""
+    """Returns the visits of all packets to pipes, as far as lines have them: `arrive` and `finish` lines, and CoDel's drops, which are in
+    the pipe of the preceding finish."""
     columns = experiment.columns
     word = columns.word
     rows = np.flatnonzero((word == FINISH) | (word == DELIVER) | (word == DROP) | (word == PASS) | (word == ARRIVE))
@@ -179,7 +176,7 @@ def visits_of(experiment: Recorded, packets: Packets) -> Visits:
     finish, left = (np.full(len(first), -1, dtype=np.int64) for _ in range(2))
     served = np.flatnonzero(word == FINISH)
     finish[visit[served]] = moment[served]
-    # The first line behind which a packet has left; assigned last to first, so that the first stays.
+    # The first line after which a packet has left; assigned last to first, so that the first remains.
     leaves = np.flatnonzero((inside & ((word == PASS) | (word == DELIVER))) | ((word == DROP) & (waits | by_codel)))
     left[visit[leaves[::-1]]] = moment[leaves[::-1]]
     serial = packet[first].astype(np.int64)
@@ -190,7 +187,7 @@ def visits_of(experiment: Recorded, packets: Packets) -> Visits:
 
 
 def _servers(experiment: Recorded, rows: Ints) -> NDArray[np.int32]:
-    """The pipes of the last finish before some rows."""
+    """Returns the pipes of the last finish before some rows."""
     finishes = experiment.rows(FINISH)
     at = np.searchsorted(finishes, rows) - 1
     lonely = np.flatnonzero(at < 0)
@@ -201,7 +198,7 @@ def _servers(experiment: Recorded, rows: Ints) -> NDArray[np.int32]:
 
 
 def never_seen(packets: Packets, visits: Visits) -> Ints:
-    """The packets that went into a pipe that no line names: held at the end, or deleted while they waited. Shape (n,)."""
+    """Returns the packets that entered a pipe that no line names: held at the end, or deleted while they waited. Shape (n,)."""
     last = np.full(len(packets), -1, dtype=np.int64)
     last[visits.packet] = np.arange(len(visits))
     waits = last < 0
@@ -212,5 +209,5 @@ def never_seen(packets: Packets, visits: Visits) -> Ints:
 
 
 def nowhere(packets: Packets, visits: Visits) -> int:
-    """How many packets went into a pipe that no line names."""
+    """Returns how many packets entered a pipe that no line names."""
     return len(never_seen(packets, visits))

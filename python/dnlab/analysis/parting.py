@@ -1,9 +1,9 @@
-"""Where two runs first part: the first lines that differ, their packets told by what they carry.
+"""Finds where two runs diverge. Packets are matched by content, not by serial number.
 
-Serial numbers shift as soon as one packet more is made, so a packet is named by who sent it and its place there: a
-train's by its place, a flow's by the first byte of its segment (or the number that it acknowledges) and by which of
-them it is. Commands' own lines (`ok`) and listings are compared where nothing else differs. Where one run was made
-without `trace 1`, the lines that only a traced one has are left out.
+Serial numbers shift as soon as one more packet is created, so a packet is identified by its sender and its place: a train's by
+its index, a flow's by the first byte of its segment (or the number that it acknowledges) and the number of transmissions before
+it. Lines of commands (`ok`) and listings are compared only if nothing else differs. If one run was made without `trace 1`, the
+lines that only a traced run has are ignored.
 """
 from dataclasses import dataclass
 from typing import Any, NamedTuple, Optional
@@ -21,8 +21,10 @@ from dnlab.io.lines import (ACK, ACKNOWLEDGES, ARRIVE, DATA, DROP, EXPIRE, IDENT
 
 
 class Names(NamedTuple):
-    """What each packet carries, by serial number: shapes (packets,), int64. `who` is a place in `told`; `number` the
-    place of a plain packet among its sender's, from 0, else the load's; `nth` which of its sender's with that number."""
+    """The identity of each packet, by serial number: shapes (packets,), int64.
+
+    `who` is an index in `told`; `number` the index of a plain packet among its sender's, from 0, else the load's; `nth` counts its
+    sender's packets with that number."""
     told: list[str]
     who: Ints
     number: Ints
@@ -30,7 +32,7 @@ class Names(NamedTuple):
 
 
 def names_of(view: View) -> Names:
-    """The names of an experiment's packets."""
+    """Returns the identities of an experiment's packets."""
     table = view.packets
     told: list[str] = []
     who = np.full(len(table), -1, dtype=np.int64)
@@ -50,10 +52,10 @@ def names_of(view: View) -> Names:
 
 
 class Told:
-    """The lines of an experiment, each as a row of numbers that don't hang on serial numbers."""
+    """The lines of an experiment, each as a row of numbers that don't depend on serial numbers."""
 
     def __init__(self, view: View, texts: dict[str, int]) -> None:
-        """`texts` has a number for each name and text, and is shared by those that are compared."""
+        """Encodes the lines. `texts` has a number for each name and text, and is shared by the runs to compare."""
         self.view = view
         self.names = names_of(view)
         columns = view.experiment.columns
@@ -62,7 +64,7 @@ class Told:
         packet = np.where(named, columns.packet, 0)
         is_command = (columns.word == REFUSED) | (columns.word == OK)
         is_window = (columns.word == ACK) | (columns.word == EXPIRE)
-        # A command's number shifts as packets' do; its text is compared where it is known.
+        # A command's number shifts like those of packets; its text is compared if it is known.
         counts = is_window | (is_command & (view.plan is None))
         more = is_window | is_command | (columns.word == DROP) | (columns.word == MAKE)
 
@@ -75,7 +77,7 @@ class Told:
             np.where(is_window, columns.flow, -1), np.where(more, columns.more, -1), self.texts(texts))
 
     def texts(self, texts: dict[str, int]) -> NDArray[np.int32]:
-        """The numbers of what lines say in words: headers, identifiers, listings, commands. Shape (rows,); -1 where none."""
+        """Returns the numbers of texts in lines: headers, identifiers, listings, commands. Shape (rows,); -1 if there is none."""
         experiment = self.view.experiment
         found = np.full(len(experiment.columns), -1, dtype=np.int32)
         headers = np.array([texts.setdefault(text, len(texts)) for text in experiment.headers] + [-1], dtype=np.int32)
@@ -92,7 +94,7 @@ class Told:
         return found
 
     def packet(self, serial: int) -> str:
-        """A packet by what it carries."""
+        """Returns a packet's identity as text."""
         who, number, nth = (int(values[serial]) for values in self.names[1:])
         name = self.names.told[who] if who >= 0 else UNKNOWN
         kind = int(self.view.packets.kind[serial])
@@ -103,7 +105,7 @@ class Told:
         return f"{flow} {'byte' if kind == DATA else 'acknowledges'} {number}{again}"
 
     def line(self, row: int) -> str:
-        """A line of the report in words: its number, its moment, what happened and to whom."""
+        """Returns a line of the report as text: its number, its time, what happened and to which packet."""
         experiment = self.view.experiment
         columns = experiment.columns
         word = int(columns.word[row])
@@ -127,7 +129,7 @@ class Told:
         return " ".join(said)
 
     def command(self, row: int) -> str:
-        """A command's text where the scenario has it, else its number; with the code of its refusal."""
+        """Returns a command's text if the scenario has it, else its number, with the code of its refusal."""
         columns, plan = self.view.experiment.columns, self.view.plan
         number = int(columns.number[row])
         text = f"command {number}" if plan is None else f"`{plan.commands[number].text}`"
@@ -136,8 +138,8 @@ class Told:
 
 @dataclass
 class Parting:
-    """Where two runs part: the rows of the first lines that differ (None where one has ended), of the last equal lines
-    before them, and the moment, ns."""
+    """Where two runs diverge: the rows of the first lines that differ (None if one has ended), of the last equal lines before them, and
+    the time, ns."""
     told: tuple[Told, Told]
     rows: tuple[Optional[int], Optional[int]]
     equal: Optional[tuple[int, int]]
@@ -145,8 +147,8 @@ class Parting:
     following: tuple[Ints, Ints]
 
     def queues(self) -> list[tuple[str, list[str]]]:
-        """Of each instance how many packets were there in both runs: before the moment and behind it, as `waiting +
-        in the delay line`; `-` if the report doesn't have how many wait."""
+        """Returns for each instance how many packets it had in both runs, before the time and after it, as `waiting + in the delay line`;
+        `-` if the report doesn't have the number of waiting packets."""
         names: dict[int, list[str]] = {}
         for place, told in enumerate(self.told):
             for pipe, own in told.view.visits.pipes():
@@ -155,7 +157,7 @@ class Parting:
 
 
 def _held(view: View, own: Ints, moment: int) -> list[str]:
-    """Packets that wait and that fly at an instance, before a moment and behind it."""
+    """Returns the packets that wait and that are in the delay line of an instance, before a time and after it."""
     known = bool((view.visits.arrival[own] >= 0).all())
     found = []
     for end in (moment - 1, moment):
@@ -165,7 +167,7 @@ def _held(view: View, own: Ints, moment: int) -> list[str]:
 
 
 def parting(first: View, second: View) -> Optional[Parting]:
-    """Where two experiments part; None where their lines are the same but for serial numbers."""
+    """Returns where two experiments diverge, or None if their lines are the same except for serial numbers."""
     texts: dict[str, int] = {}
     told = Told(first, texts), Told(second, texts)
     words = [one.view.experiment.columns.word for one in told]
@@ -178,7 +180,7 @@ def parting(first: View, second: View) -> Optional[Parting]:
 
 
 def _parted(told: tuple[Told, Told], rows: list[NDArray[np.int64]]) -> Optional[Parting]:
-    """Where some rows of both part."""
+    """Returns where some rows of both diverge."""
     count = min(len(rows[0]), len(rows[1]))
     different = np.zeros(count, dtype=np.bool_)
     for first, second in zip(told[0].columns, told[1].columns):
@@ -188,7 +190,7 @@ def _parted(told: tuple[Told, Told], rows: list[NDArray[np.int64]]) -> Optional[
         return None
     at = int(differs[0]) if len(differs) else count
     here = [int(own[at]) if at < len(own) else None for own in rows]
-    # A listing line has no moment of its own, but that of its command before it.
+    # A listing line has no time of its own, only that of the command before it.
     moments = [int(one.view.experiment.columns.moment[:row + 1].max()) for one, row in zip(told, here) if row is not None]
     equal = (int(rows[0][at - 1]), int(rows[1][at - 1])) if at else None
     return Parting(told, (here[0], here[1]), equal, min(moments), (rows[0][at:], rows[1][at:]))

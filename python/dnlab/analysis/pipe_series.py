@@ -1,4 +1,4 @@
-"""What a picture shows of pipes over time, as numbers: queues with their limits, packets in flight, and rates of links."""
+"""Data of pipes over time for pictures: queues with their limits, packets in flight, and rates."""
 from collections import Counter
 from typing import Sequence
 
@@ -9,13 +9,13 @@ from dnlab.analysis.view import Note, View
 from dnlab.io.digits import Ints
 from dnlab.io.lines import ACKNOWLEDGES, pipe_name
 
-# A limit or rate of more than this many times the values is named in the title, since its line would flatten the others.
+# A limit or rate of more than this many times the values is named in the title, because its line would flatten the others.
 _TIMES = 3
 
 
 def labelled(view: View) -> list[tuple[str, Ints]]:
-    """The pipes that are shown, with the visits to each: `pipe 1`, or `pipe 1.3` if it has several instances. Pipes that carry
-    only acknowledgements are shown if their senders are."""
+    """Returns the pipes to show, with the visits to each: `pipe 1`, or `pipe 1.3` if it has several instances. Pipes that carry only
+    acknowledgements are shown only if their senders are."""
     pipes = view.visits.pipes()
     instances = Counter(pipe // 256 for pipe, _ in pipes)
     is_ack = view.packets.kind[view.visits.packet] == ACKNOWLEDGES
@@ -25,7 +25,7 @@ def labelled(view: View) -> list[tuple[str, Ints]]:
 
 
 def queues(view: View) -> Panel:
-    """How many packets wait at each pipe, without the one in service, and the limits of the queues."""
+    """Returns the number of packets that wait at each pipe, without the one in service, and the limits of the queues."""
     pipes = labelled(view)
     if not view.is_told:
         lines = [steps(view, f"delay line of {label}", *in_flight(view, own)) for label, own in pipes]
@@ -43,12 +43,12 @@ def queues(view: View) -> Panel:
 
 
 def flights(view: View) -> Panel:
-    """How many packets are in flight: made, and neither delivered nor dropped."""
+    """Returns the number of packets in flight: created, and neither delivered nor dropped."""
     if not view.is_told:
-        return Panel("Packets in flight", "packets", [], "When packets were made can't be told\nwithout the scenario.")
+        return Panel("Packets in flight", "packets", [], "The creation times of packets\nneed the scenario.")
     made, ended = view.packets.made, view.packets.ended
     line = steps(view, "in flight", *_changes(made, ended[ended >= 0]))
-    return Panel("Packets in flight", "packets", [line] if len(made) else [], "" if len(made) else "no packet was made",
+    return Panel("Packets in flight", "packets", [line] if len(made) else [], "" if len(made) else "no packet was created",
                  quantity="In flight")
 
 
@@ -57,7 +57,7 @@ def _changes(more: Ints, less: Ints) -> tuple[Ints, Ints]:
 
 
 def waiting(view: View, own: Ints) -> tuple[Ints, Ints]:
-    """The changes of how many packets wait or are in service, of some visits: moments and amounts."""
+    """Returns the changes in the number of packets that wait or are in service, for some visits: times and amounts."""
     visits = view.visits
     left = np.where(visits.finish[own] >= 0, visits.finish[own], visits.exit[own])
     came = visits.arrival[own]
@@ -65,7 +65,7 @@ def waiting(view: View, own: Ints) -> tuple[Ints, Ints]:
 
 
 def in_flight(view: View, own: Ints) -> tuple[Ints, Ints]:
-    """The changes of how many packets are in the delay line, of some visits: moments and amounts."""
+    """Returns the changes in the number of packets in the delay line, for some visits: times and amounts."""
     visits = view.visits
     own = own[visits.finish[own] >= 0]
     left = np.where(visits.exit[own] >= 0, visits.exit[own], view.packets.ended[visits.packet[own]])
@@ -73,7 +73,7 @@ def in_flight(view: View, own: Ints) -> tuple[Ints, Ints]:
 
 
 def limits(view: View, lines: Sequence[Series]) -> list[Series]:
-    """The limits in packets of the queues whose pipes have a line, over time; not a number while it is one in bytes."""
+    """Returns the limits in packets of the queues whose pipes have a line, over time; NaN while the limit is in bytes."""
     found = []
     for pipe, changes in view.changes.items():
         own = [line for line in lines if line.label.split(".")[0] == f"pipe {pipe}"]
@@ -84,8 +84,8 @@ def limits(view: View, lines: Sequence[Series]) -> list[Series]:
 
 
 def link_rates(view: View) -> list[Series]:
-    """The rate of each pipe that has one, Mbit/s, over time, by the configurations that were done; not a number where
-    it has no limit, or isn't there."""
+    """Returns the rate of each pipe that has one, Mbit/s, over time, by the executed configurations; NaN while it is unlimited, or does
+    not exist."""
     shown = {label.split(".")[0] for label, _ in labelled(view)}
     found = []
     for pipe, changes in view.changes.items():
@@ -96,7 +96,7 @@ def link_rates(view: View) -> list[Series]:
 
 
 def _level(view: View, label: str, changed: Sequence[int], held: Sequence[float]) -> Series:
-    """A setting over time, up to the experiment's last moment; of changes at one moment the last."""
+    """Returns a setting over time, up to the experiment's last event; if it changes twice at a time, the last value."""
     moments, values = np.array(changed, dtype=np.int64), np.array(held, dtype=np.float64)
     last = np.flatnonzero(np.append(moments[1:] != moments[:-1], True))
     moments, values = moments[last], values[last]
@@ -106,7 +106,7 @@ def _level(view: View, label: str, changed: Sequence[int], held: Sequence[float]
 
 
 def drawable(levels: Sequence[Series], lines: Sequence[Series], unit: str) -> tuple[list[Series], str]:
-    """The levels that fit on the axis of the lines, and what the title says of the others."""
+    """Returns the levels that fit on the axis of the lines, and the text about the others for the title."""
     greatest = max((float(line.values.max()) for line in lines), default=0)
     kept = [one for one in levels if float(np.nanmin(one.values)) <= _TIMES * max(greatest, 1e-9)]
     above = [f"{one.label} is {np.nanmin(one.values):g} {unit}" for one in levels if not any(one is other for other in kept)]

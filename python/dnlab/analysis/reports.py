@@ -1,4 +1,4 @@
-"""Reports for those who script: `read` and `run` give a `Report`, whose experiments are read when they are asked for."""
+"""Reports for scripts: `read` and `run` return a `Report`, whose experiments are read on demand."""
 import warnings
 from collections.abc import Mapping
 from functools import cached_property
@@ -11,7 +11,7 @@ from dnlab.analysis.options import columns_in, varied
 from dnlab.analysis.rows import PERCENTILES, columns_of
 from dnlab.analysis.spans import span_of
 from dnlab.analysis.work import Given, bytes_of, lacking, pieces_of, plans_of
-from dnlab.errors import Faulty
+from dnlab.errors import InputError
 from dnlab.io.origin import Origin, check_beside
 from dnlab.io.pieces import Piece
 from dnlab.io.scenario_parts import Plan
@@ -25,7 +25,7 @@ Names = Union[str, Path, Sequence[Union[str, Path]]]
 
 
 def _made_anew(report: bytes, scenarios: Sequence[bytes], given_names: Mapping[str, str]) -> "Report":
-    """A report that came from another process, in files of its own."""
+    """Restores a report that was pickled by another process, with files of its own."""
     from dnlab.processes.rooms import Room
 
     room = Room()
@@ -36,26 +36,26 @@ def _made_anew(report: bytes, scenarios: Sequence[bytes], given_names: Mapping[s
 
 
 class Report(Mapping[str, "Experiment"]):
-    """A report with its scenario: `report["name"]` reads that experiment, one at a time stays in memory.
+    """A report with its scenario. `report["name"]` reads that experiment; one at a time stays in memory.
 
-    Its experiments are found when it is opened; each is read, judged and joined when it is asked for."""
+    Opening it finds its experiments; each is read, checked and joined on demand."""
 
     def __init__(self, report: Union[str, Path], scenario: Names = (), keep: Any = None,
                  origin: Optional[Origin] = None, names: Optional[Mapping[str, str]] = None) -> None:
         files = [scenario] if isinstance(scenario, (str, Path)) else scenario
         self.given = Given(str(report), tuple(str(name) for name in files))
-        # What must live as long as the report does: the file of a run that nobody named.
+        # Objects that must live as long as the report: the file of a run without a name.
         self._keep = keep
-        # What made it: the checksums of scenario and program, its version, the command; None where nothing tells it.
+        # What made it: the checksums of scenario and program, its version, the command; None if unknown.
         self.origin: Optional[Origin] = origin
-        # Names of injected packets' senders, by source.
+        # Names for senders of injected packets, by source.
         self._names = dict(names or {})
         self.plans: Optional[dict[str, Plan]] = with_names(plans_of(self.given.scenarios), self._names)
         self._pieces: dict[str, Piece] = {piece.name: piece for piece in pieces_of(self.given.report)}
         self._last: "Optional[Experiment]" = None
         for name in self._pieces:
             if self.plans is not None and name not in self.plans:
-                raise Faulty(f"{self.given.scenario()}: it has no experiment {name}")
+                raise InputError(f"{self.given.scenario()}: it has no experiment {name}")
         lacking(self.given.report, self.given.scenario(), [name for name in self.plans or {} if name not in self._pieces])
         if origin is None:
             self.origin = check_beside(self.given.report, self.plans, self.given.scenario())
@@ -64,7 +64,7 @@ class Report(Mapping[str, "Experiment"]):
                           " comments?", stacklevel=3)
 
     def __reduce__(self) -> "tuple[Any, tuple[bytes, list[bytes], dict[str, str]]]":
-        """So that it passes to another process or machine whole: with the bytes of its files."""
+        """Makes pickling to another process or machine include the bytes of its files."""
         return _made_anew, (bytes_of(self.given.report), [bytes_of(name) for name in self.given.scenarios], self._names)
 
     @cached_property
@@ -72,13 +72,13 @@ class Report(Mapping[str, "Experiment"]):
         return varied(self.plans) if self.plans else {}
 
     def __getitem__(self, name: str) -> "Experiment":
-        # Here, since tables take numpy and pandas, which running a scenario doesn't.
+        # Imported here, because tables need numpy and pandas, but running a scenario does not.
         from dnlab.analysis.results import Experiment
         from dnlab.analysis.view import view_of
 
         if self._last is None or self._last.name != name:
             if name not in self._pieces:
-                raise KeyError(f"{name}: there are {', '.join(self._pieces) or 'none'}")
+                raise KeyError(f"{name}: there is no such experiment, only {', '.join(self._pieces) or 'none'}")
             piece = self._pieces[name]
             self._last = None
             view = view_of(piece, self.plans, self.given.report, self.given.scenario())
@@ -95,13 +95,14 @@ class Report(Mapping[str, "Experiment"]):
         return f"Report({self.given.report!r}, {len(self)} experiments)"
 
     def params(self, changed: bool = False) -> "pd.DataFrame":
-        """A row for each experiment, by name: the options of its pipes, flows and trains, each a column as `pipe1_queue`,
-        defaults filled in (rates in bit/s, times and moments in ns); `changed` leaves out those that are the same in all.
-        It needs the scenario."""
+        """Returns a row for each experiment, by name, with a column for each option of its pipes, flows and trains, as `pipe1_queue`.
+
+        Defaults are filled in (rates in bit/s, times in ns). `changed` leaves out the options that are the same in all. Needs the
+        scenario."""
         from dnlab.analysis import frames
 
         if self.plans is None:
-            raise Faulty(f"{self.given.report}: its settings stand in its scenario, which isn't given")
+            raise InputError(f"{self.given.report}: its settings are in its scenario, which was not given")
         rows = [{"experiment": name, **columns_in(self.plans[name])} for name in self]
         columns = list(dict.fromkeys(name for row in rows for name in row))
         frame = frames.of_rows(rows, columns).set_index("experiment")
@@ -110,9 +111,10 @@ class Report(Mapping[str, "Experiment"]):
     def summary(self, percentiles: Sequence[Percentile] = PERCENTILES, of: Sequence[str] = (),
                 experiments: Sequence[str] = (), workers: Optional[int] = None, begin: int = 0,
                 end: Optional[int] = None, names: Optional[Mapping[str, str]] = None) -> "pd.DataFrame":
-        """The rows of all experiments (or of some, by name), by several processes if the report is long; `of` keeps
-        the rows of some names, as "train *", `begin` and `end` are as in `Experiment.summary`, and `names` as in `read`, in
-        place of those that the report has. docs/reference/tools.md has the columns."""
+        """Returns the rows of all experiments, or of some by name, using several processes if the report is long.
+
+        `of` selects rows by name, as "train *"; `begin` and `end` are as in `Experiment.summary`; `names` is as in `read`, and
+        replaces the report's names. docs/reference/tools.md has the columns."""
         from dnlab.analysis import frames
         from dnlab.analysis.summing import summed
 
@@ -125,11 +127,11 @@ class Report(Mapping[str, "Experiment"]):
 
 
 def read(report: Union[str, Path], scenario: Names = (), names: Optional[Mapping[str, str]] = None) -> Report:
-    """Opens a report, with its scenario if there is one (or the several that it was run from).
+    """Opens a report, with its scenario if there is one (or several).
 
-    names   of injected packets' sources, address or address:port, as {"10.0.0.1:1000": "mine"}: these packets are `mine`
-            in all tables, the others `injected`. `dnlab.Faulty` for a source that no packet has, and for a name that
-            can't be one
+    names   names for sources of injected packets, address or address:port, as {"10.0.0.1:1000": "mine"}: these packets are `mine`
+            in all tables, the others `injected`
 
-    A scenario given for another's report is refused with the line at which they part, when the experiment is read."""
+    Raises `dnlab.InputError` for a source without packets, and for an invalid name. A scenario of another report is refused when
+    the experiment is read, with the line at which they differ."""
     return Report(report, scenario, names=names)

@@ -1,4 +1,4 @@
-"""Reports for those who script: `read` and `run` give a `Report`, whose experiments have their tables as DataFrames."""
+"""Experiments for scripts, with their tables as DataFrames."""
 from dataclasses import dataclass
 from pathlib import Path
 from typing import Any, Optional, Sequence, Union
@@ -18,7 +18,7 @@ from dnlab.io.report import Counters
 
 @dataclass(repr=False)
 class Experiment:
-    """One experiment of a report. Moments and times are whole nanoseconds, sizes bytes, rates bits per second."""
+    """An experiment of a report. Times are whole nanoseconds, sizes bytes, rates bits per second."""
     view: View
     varied: Optional[str] = None
 
@@ -37,12 +37,12 @@ class Experiment:
 
     @property
     def counters(self) -> Counters:
-        """Packets made, delivered and held, and `drops` by cause."""
+        """Returns the counters: packets `made`, `delivered` and `held`, and `drops` by cause."""
         return self.view.counters
 
     @property
     def ended(self) -> Ended:
-        """`how` it ended, `end` or `spent`; the `moment`; and the moment of the scenario's `end`."""
+        """Returns how it ended: `how` (`end` or `spent`), the `moment`, and the time of the scenario's `end`; times in ns."""
         return self.view.ended
 
     @property
@@ -51,82 +51,82 @@ class Experiment:
 
     @property
     def folder(self) -> Optional[Path]:
-        """The output folder of a run of programs, for a statistic of one's own; None of any other experiment."""
+        """Returns the output folder of a run of programs, for your own statistics; None for any other experiment."""
         return self.view.folder
 
     @property
     def params(self) -> Optional[str]:
-        """The configurations of its pipes, as the scenario has them."""
+        """Returns the configurations of its pipes, in scenario syntax."""
         return self.view.plan.settings() if self.view.plan else None
 
     @property
     def refused(self) -> list[Refusal]:
-        """The commands that were refused: each with `line` and `text` of the scenario, `code` and `told()`, the reason."""
+        """Returns the refused commands: each with `line` and `text` of the scenario, `code` and `told()`, the reason."""
         return self.view.refused
 
     @property
     def warnings(self) -> str:
-        """The marks of all its rows, with spaces between; docs/reference/tools.md says what each means."""
+        """Returns the warnings of all its rows, separated by spaces; docs/reference/tools.md explains each."""
         return self.view.marks()
 
     @property
     def notes(self) -> list[Note]:
-        """What isn't known of it, and what may be silently wrong in it."""
+        """Returns notes about unknown values and possible mistakes."""
         return self.view.notes
 
     def packets(self) -> pd.DataFrame:
-        """A row for each packet, by serial number: made, delivered, delay (ns), bytes (with headers), sender, queue (of the
-        last pipe that it is known to have come to), outcome (`held`, `delivered`, or the cause of its drop), ended (ns, also
-        of a drop), kind, flow and number of its load, retransmission (a segment that was sent before)."""
+        """Returns a row for each packet, by serial number: made, delivered, delay (ns), bytes (with headers), sender, queue (the last pipe
+        that it is known to have reached), outcome (`held`, `delivered`, or the cause of its drop), ended (ns, also for drops), kind,
+        flow and number of its load, retransmission (a segment that was sent before)."""
         return frames.packets(self.view)
 
     def visits(self) -> pd.DataFrame:
-        """A row for each visit of a packet to an instance: packet, queue, arrival, finish and exit (ns)."""
+        """Returns a row for each visit of a packet to an instance: packet, queue, arrival, finish and exit (ns)."""
         return frames.visits(self.view)
 
     def windows(self) -> pd.DataFrame:
-        """A row for each `ack` and `expire` line and each flow's begin: moment (ns), flow, event, cwnd and ssthresh (bytes)."""
+        """Returns a row for each `ack` and `expire` line and each flow's start: moment (ns), flow, event, cwnd and ssthresh
+        (bytes)."""
         return frames.windows(self.view)
 
     def queues(self) -> pd.DataFrame:
-        """A row for each moment at which an instance changed: moment (ns), queue, waiting (packets that wait or are in
-        service), in_flight (packets in the delay line); they hold until its next row."""
+        """Returns a row for each time at which an instance changed: moment (ns), queue, waiting (packets that wait or are in service),
+        in_flight (packets in the delay line); the values hold until its next row."""
         return frames.queues(self.view)
 
     def drops(self) -> pd.DataFrame:
-        """A row for each drop: moment (ns), packet, sender, cause, queue if a line has it, bytes."""
+        """Returns a row for each drop: moment (ns), packet, sender, cause, queue if a line has it, bytes."""
         return frames.drops(self.view)
 
     def commands(self) -> pd.DataFrame:
-        """A row for each command: moment (ns), text and line of the scenario, answer (`ok`, `refused`), code."""
+        """Returns a row for each command: moment (ns), text and line of the scenario, answer (`ok`, `refused`), code."""
         return frames.commands(self.view)
 
     def records(self) -> pd.DataFrame:
-        """The report's own lines, by line: word, moment, packet, queue, kind, flow, number, more (see
-        `dnlab.io.lines.Columns`)."""
+        """Returns the report's own lines: word, moment, packet, queue, kind, flow, number, more (see `dnlab.io.lines.Columns`)."""
         return frames.records(self.view)
 
     def summary(self, percentiles: Sequence[Percentile] = PERCENTILES, begin: int = 0,
                 end: Optional[int] = None) -> pd.DataFrame:
-        """The rows of this experiment in a summary (docs/reference/tools.md has the columns); of what happened from the moment
-        `begin` on and before `end` (ns), as without its warm-up."""
+        """Returns the rows of this experiment in a summary (docs/reference/tools.md has the columns), for what happened from `begin` on and
+        before `end` (ns), to leave out a warm-up."""
         span = span_of(begin, end)
         return frames.of_rows(Tables(self.view, percentiles, self.varied, span=span).rows(), columns_of(percentiles, span))
 
     def throughput(self, every: int) -> pd.DataFrame:
-        """What each sender's packets brought in each window of `every` ns: sender, begin, end (ns), packets, bytes, rate
-        (bit/s), useful (bytes, each once), goodput (bit/s)."""
+        """Returns each sender's deliveries in intervals of `every` ns: sender, begin, end (ns), packets, bytes, rate (bit/s), useful (bytes,
+        each once), goodput (bit/s)."""
         rows = windows(self.view, every)
         return frames.of_rows(rows, list(rows[0]) if rows else ["experiment", "sender", "begin", "end"])
 
     def losses(self) -> pd.DataFrame:
-        """Drops by sender, cause and queue (<NA> if no line has it): sender, cause, queue, packets."""
+        """Returns drops by sender, cause and queue (<NA> if no line has it): sender, cause, queue, packets."""
         return frames.of_rows(losses(self.view), ["experiment", "sender", "cause", "queue", "packets"])
 
     def plot(self, what: Sequence[str] = ("window", "queue", "sojourn", "delivered", "drops"), acks: bool = False,
              effective: bool = False, **design: Any) -> Any:
-        """A matplotlib figure with a panel for each of `what`; with `acks` and `effective` as `tools/plot` has them, and its
-        `title`, `labels`, `size` (inches), `font`, `style` and `legend`."""
+        """Returns a matplotlib figure with a panel for each of `what`. `acks` and `effective` are those of `tools/plot`, and so are `title`,
+        `labels`, `size` (inches), `font`, `style` and `legend`."""
         from dnlab.plot import pictures
         from dnlab.plot.design import Design
 
@@ -134,12 +134,11 @@ class Experiment:
 
 
 def intervals(rows: pd.DataFrame, by: Union[str, Sequence[str]], columns: Union[str, Sequence[str]]) -> pd.DataFrame:
-    """Of each group of rows and each column: how many have a value (`n`), the `mean`, and `ci95`, half the width of its 95 %
-    interval (Student). Groups stand in the order of their first row.
+    """Returns for each group of rows and each column the number of values (`n`), the `mean`, and `ci95`, the half-width of its 95 %
+    confidence interval (Student's t). Groups are in the order of their first row.
 
-    by       the columns that a group has in common
-    columns  of what the means are
-    """
+    by       the columns that define a group
+    columns  the columns to average"""
     keys = [by] if isinstance(by, str) else list(by)
     wanted = [columns] if isinstance(columns, str) else list(columns)
     found: dict[Any, dict[tuple[str, str], Any]] = {}

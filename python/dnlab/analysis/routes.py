@@ -1,4 +1,4 @@
-"""Which rules the packets of an experiment meet, by docs/explanation/rules.md, and by which header each packet goes."""
+"""The rules that the packets of an experiment meet (docs/explanation/rules.md), and the header of each packet."""
 from __future__ import annotations
 
 import ipaddress
@@ -15,21 +15,21 @@ from dnlab.io.lines import ACKNOWLEDGES
 if TYPE_CHECKING:
     from dnlab.analysis.view import View
 
-# How a search ends if not at a pipe; the numbers of pipes are above 0.
+# The end of a search other than a pipe; pipes have numbers above 0.
 DENIED, ALLOWED = 0, -1
 # The columns of a header: protocol (6 or 17), source, its port, target, its port.
 _COLUMNS = 5
 
 
 class Epoch(NamedTuple):
-    """The rules from a moment (ns) on, in the order in which they are searched, each with its line; `is_one_pass` also."""
+    """The rules from a time (ns) on, in search order, each with its line, and `is_one_pass`."""
     moment: int
     rules: tuple[tuple[int, Rule], ...]
     is_one_pass: bool
 
 
 def epochs_of(view: View) -> list[Epoch]:
-    """The sets of rules that an experiment had, by the commands that were done."""
+    """Returns the sets of rules that an experiment had, by its executed commands."""
     rules: list[tuple[int, Rule]] = []
     found = [Epoch(0, (), True)]
     for _, command in view.done.plain:
@@ -46,13 +46,13 @@ def epochs_of(view: View) -> list[Epoch]:
 
 
 def _header(*words: str) -> list[int]:
-    """The header of `PROTOCOL ADDRESS PORT ADDRESS PORT`."""
+    """Returns the header of `PROTOCOL ADDRESS PORT ADDRESS PORT` as numbers."""
     ends = [int(ipaddress.IPv4Address(words[1])), int(words[2]), int(ipaddress.IPv4Address(words[3])), int(words[4])]
     return [6 if words[0] == "tcp" else 17, *ends]
 
 
 def headers_of(view: View) -> tuple[Ints, Ints]:
-    """The headers that are sent, and of each packet which it has (-1 where that isn't known). Shapes (n, 5) and (packets,)."""
+    """Returns the headers that are sent, and the index of each packet's (-1 if unknown). Shapes (n, 5) and (packets,)."""
     rows: list[list[int]] = []
     by_name: dict[str, int] = {}
     for _, command in view.done.plain:
@@ -76,8 +76,8 @@ def headers_of(view: View) -> tuple[Ints, Ints]:
 
 
 def search(epoch: Epoch, headers: Ints, is_whole: bool = False) -> tuple[Ints, Flags]:
-    """Where the search of each header ends first (a pipe's number, `DENIED` or `ALLOWED`), and which rules some of them meet; with
-    `is_whole` packets that leave a pipe under `one_pass 0` go on."""
+    """Returns where the search for each header first ends (a pipe's number, `DENIED` or `ALLOWED`), and which rules some of them meet.
+    With `is_whole`, packets that leave a pipe under `one_pass 0` continue."""
     ends = np.full(len(headers), DENIED, dtype=np.int64)
     open_, skips = np.ones(len(headers), dtype=np.bool_), np.zeros(len(headers), dtype=np.int64)
     met = np.zeros(len(epoch.rules), dtype=np.bool_)
@@ -108,8 +108,8 @@ def _matches(rule: Rule, headers: Ints) -> Flags:
 
 
 def unmet(view: View) -> tuple[list[tuple[int, Rule]], list[int]]:
-    """The rules that no packet met, each with its line, and the pipes; what the way back of a packet would meet counts as met, and all
-    where nothing was made."""
+    """Returns the rules that no packet met, each with its line, and the pipes. What a packet's return path would meet counts as met; so
+    does everything if no packet was created."""
     if not len(view.packets):
         return [], []
     there, _ = view.headers
@@ -124,7 +124,8 @@ def unmet(view: View) -> tuple[list[tuple[int, Rule]], list[int]]:
 
 
 def is_settled(view: View, epochs: Sequence[Epoch], which: Ints) -> Flags:
-    """Of each packet whether it is known which rules it was made under: what flows and trains emit comes behind all else of its moment."""
+    """Returns for each packet whether the rules at its creation are known: emissions of flows and trains follow everything else of their
+    time."""
     changes = np.array([epoch.moment for epoch in epochs], dtype=np.int64)
     names = np.array([name.startswith(("flow", "train")) for name in view.packets.names] + [False])
     is_emission = names[view.packets.who] & (view.packets.kind != ACKNOWLEDGES)

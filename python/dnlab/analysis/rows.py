@@ -6,7 +6,7 @@ from dnlab.analysis.spans import Span
 from dnlab.io.drops import CAUSES
 
 Row = dict[str, Any]
-# Rows of all senders, or of those of one direction; they carry all marks.
+# Rows of all senders, or of those of one direction; they have all warnings.
 WHOLE = ("there", "back", "all")
 PERCENTILES: tuple[Percentile, ...] = (50, 99)
 _COUNTS = ("packets", "delivered", "in_flight", "bytes", "first", "last", "time", "rate")
@@ -15,11 +15,11 @@ _MORE = ("mean", "jitter", "useful", "goodput", "utilisation", "retransmissions"
 
 
 def times_of(percentiles: Sequence[Percentile]) -> tuple[str, ...]:
-    """The columns of times under way."""
+    """Returns the columns of one-way delays."""
     return "min", *(percentile_name(one) for one in percentiles), "max"
 
 
 def columns_of(percentiles: Sequence[Percentile] = PERCENTILES, span: Span = Span()) -> tuple[str, ...]:
-    """All columns of a summary, in order; one of a part of the time has `from` and `to` at the end."""
+    """Returns all columns of a summary, in order; for a time range with `from` and `to` at the end."""
     return ("experiment", "sender", *_COUNTS, *CAUSES, *times_of(percentiles), *_MORE,
             *(() if span.is_whole() else ("from", "to")))

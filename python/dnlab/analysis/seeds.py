@@ -1,4 +1,4 @@
-"""What seeds show: settings compared under the same seeds, and how many seeds a mean takes."""
+"""Comparison of settings under the same seeds, and the number of seeds that a mean needs."""
 import math
 from typing import Any, Optional, Sequence
 
@@ -8,16 +8,16 @@ from dnlab.analysis import frames
 from dnlab.analysis.estimates import student
 from dnlab.analysis.figures import Interval, Kind, interval as interval_of
 from dnlab.analysis.stats import unit_of
-from dnlab.errors import Faulty
+from dnlab.errors import InputError
 
-# More seeds than this aren't counted.
+# A search stops at this number of seeds.
 _MOST = 10**6
-# So many digits behind the point tables have: the last ones of a float differ from one scipy to the next.
+# Decimals in tables: further digits of a float differ between versions of scipy.
 _DIGITS = 6
 
 
 def columns_of(made: Interval) -> dict[str, Optional[float]]:
-    """A mean with its interval, as tables over seeds have it.
+    """Returns a mean with its interval, as columns of tables.
 
     >>> columns_of(interval_of([1.0, 2.0, 3.0]))
     {'n': 3, 'mean': 2.0, 'low': -0.484138, 'high': 4.484138}
@@ -28,8 +28,8 @@ def columns_of(made: Interval) -> dict[str, Optional[float]]:
 
 
 def long_of(rows: pd.DataFrame, settings: Sequence[str], stats: Sequence[str]) -> pd.DataFrame:
-    """A row for each experiment, of whom and stat: its settings, seed, experiment, of, stat, unit, value (<NA> if it can't
-    be told) and marks, as `Sweep.rows` has them in columns."""
+    """Returns a row for each experiment, sender and statistic: its settings, seed, experiment, sender, stat, unit, value (<NA> if unknown)
+    and warnings, from the columns of `Sweep.rows`."""
     found = [{**{name: row[name] for name in (*settings, "seed", "experiment", "sender")}, "stat": str(stat),
               "unit": unit_of(stat), "value": None if pd.isna(row[stat]) else float(row[stat]), "warnings": row["warnings"]}
              for row in rows.to_dict("records") for stat in stats]
@@ -37,29 +37,30 @@ def long_of(rows: pd.DataFrame, settings: Sequence[str], stats: Sequence[str]) -
 
 
 def base_of(along: str, values: Sequence[Any], base: Any) -> Any:
-    """The value with which the others are compared: the first if none is given; `Faulty` if there is nothing to compare.
+    """Returns the value to compare the others with: the first if none is given. Raises `InputError` if there is nothing to
+    compare.
 
     >>> base_of("queue", [10, 25], None)
     10
     """
     told = ", ".join(map(str, values))
     if base is not None and base not in values:
-        raise Faulty(f"--pairs {along}={base}: no value of it; there are {told}")
+        raise InputError(f"--pairs {along}={base}: no such value; the values are {told}")
     if len(values) < 2:
-        raise Faulty(f"--pairs {along}: it has one value, {told}, so there is nothing to compare")
+        raise InputError(f"--pairs {along}: it has only one value, {told}, so there is nothing to compare")
     return values[0] if base is None else base
 
 
 def compared(rows: pd.DataFrame, settings: Sequence[str], stats: Sequence[str], along: str, base: Any = None,
              level: float = 95, interval: Kind = "t") -> pd.DataFrame:
-    """Each value of a setting beside a `base` (else the first), the other settings being the same, seed by seed.
+    """Compares each value of a setting with `base` (by default the first), with the other settings equal, seed by seed.
 
-    A row for each of the others, of, stat and value: how many seeds have both (`n`), the mean of the differences (value
-    less base), the ends of its interval, and whether the interval leaves out 0 (`differs`; <NA> of fewer than two seeds).
-    Since both had the same chance the interval is mostly narrower than those of the two means. `Faulty` for a setting that
-    isn't there or has one value."""
+    Returns a row for each other value, sender and statistic: how many seeds have both (`n`), the mean of the differences (value
+    minus base), the ends of its interval, and whether the interval excludes 0 (`differs`; <NA> for fewer than two seeds). Both have
+    the same random numbers, so the interval is usually narrower than those of the two means. Raises `InputError` for a setting
+    that does not exist or has only one value."""
     if along not in settings:
-        raise Faulty(f"--pairs {along}: no setting; there are {', '.join(settings) or 'none'}")
+        raise InputError(f"--pairs {along}: no such setting; the settings are {', '.join(settings) or 'none'}")
     values = list(dict.fromkeys(rows[along]))
     base = base_of(along, values, base)
     others = [name for name in settings if name != along]
@@ -82,8 +83,8 @@ def compared(rows: pd.DataFrame, settings: Sequence[str], stats: Sequence[str], 
 
 
 def needed(values: Sequence[float], share: float, level: float = 95) -> Optional[int]:
-    """The least number of seeds whose interval (Student) is the mean and at most `share` of it to both sides, if further
-    seeds are spread as these are; None of fewer than two, or around a mean of 0, and from 10^6 seeds on.
+    """Returns the minimum number of seeds for which the interval (Student's t) is within `share` of the mean, if further seeds vary like
+    these. None for fewer than two values, a mean of 0, and 10^6 seeds or more.
 
     >>> needed([90.0, 110.0], 0.5), needed([7.0, 7.0], 0.01)
     (3, 2)

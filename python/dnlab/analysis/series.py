@@ -1,7 +1,7 @@
-"""What a picture shows of an experiment, as numbers: panels, each with its unit and its series.
+"""Data of an experiment for pictures: panels, each with its unit and its series.
 
-Moments are nanoseconds here; `pictures` scales them. A panel that needs what can't be told has no series but `words`,
-which say why.
+Times are in nanoseconds here; `pictures` scales them. A panel that needs unknown values has no series but `words`, which
+explain it.
 """
 import copy
 from dataclasses import dataclass
@@ -19,27 +19,29 @@ from dnlab.io.digits import Ints
 from dnlab.io.drops import CAUSES
 from dnlab.io.lines import ACK, DATA, DROP, EXPIRE, Columns
 
-# At most this many lines can be told apart in a panel without colour. Windows are drawn for at most FLOWS flows.
+# With more lines, a panel is unreadable without colour. Windows are drawn for at most FLOWS flows.
 MOST = 8
 FLOWS = 16
-# A panel is some 750 dots wide. What has more moments than this many times four is thinned to so many stretches.
+# A panel is about 750 dots wide. A series of more than four times this many times is thinned to this many intervals.
 STRETCHES = 1500
 
 Values = NDArray[np.float64]
 
 
-# What is said of the spikes in a window.
+# The explanation of the spikes in a window.
 _INFLATION = ("In fast recovery cwnd grows by one segment with each duplicate acknowledgement (the spikes), and falls back to"
               " ssthresh at its end.")
 
 
 class Series(NamedTuple):
-    """`form` is `steps` (a value holds until the next), `level` (steps of a setting, as a queue's limit), `points` or `marks`
-    (what happened at a moment), `share` (the fraction, 0 to 1, of values that are at most the one in `moments`) or `box`
-    (`moments` are the minimum, the 5th, 25th, 50th, 75th and 95th percentile, and the maximum).
+    """A series of a panel.
 
-    `moments` are int64, ns (of a share or box the values, ns or bit/s), in order; `values` have the same shape (n,). `under`
-    is the label of another line, whose colour it has."""
+    `form` is `steps` (a value holds until the next), `level` (steps of a setting, such as a queue's limit), `points` or `marks`
+    (events), `share` (the fraction, 0 to 1, of values that are at most the one in `moments`) or `box` (`moments` are the minimum,
+    the 5th, 25th, 50th, 75th and 95th percentile, and the maximum).
+
+    `moments` are int64, ns (for a share or box the values, ns or bit/s), in order; `values` have the same shape (n,). `under` is
+    the label of another line, whose colour it has."""
     label: str
     form: str
     moments: Ints
@@ -49,16 +51,15 @@ class Series(NamedTuple):
 
 @dataclass
 class Panel:
-    """What is drawn on one pair of axes.
+    """The data of one pair of axes.
 
     unit      of the values: packets, bytes, ms, Mbit/s, or '' for a fraction
-    words     what is written in a panel that has no series
+    words     the text of a panel that has no series
     top       the maximum of the vertical axis, if it isn't that of the values
-    across    the horizontal axis in words, if it isn't time
-    segment   how many bytes a segment has, if the values can be counted in segments
-    quantity  the vertical axis in words, without its unit [the title]
-    note      a sentence below the picture
-    """
+    across    the label of the horizontal axis, if it isn't time
+    segment   the bytes of a segment, if the values can be counted in segments
+    quantity  the label of the vertical axis, without its unit [the title]
+    note      a sentence below the picture"""
     title: str
     unit: str
     series: list[Series]
@@ -72,10 +73,11 @@ class Panel:
 
 def panel_of(view: View, what: str, span: Span = Span(), every: Optional[int] = None, effective: bool = False,
              acks: bool = False) -> Panel:
-    """A panel of an experiment, by its name in `WHAT`, `MORE` or `ALIASES`, for a span of time; long series are thinned.
-    `every` is the length of an interval of throughput, ns; by default a 1, 2 or 5 with zeros, so that there are 50 or more.
+    """Returns a panel of an experiment, by its name in `WHAT`, `MORE` or `ALIASES`, for a time range; long series are thinned.
+
+    `every` is the length of an interval of throughput, ns; by default a round number (1, 2 or 5 with zeros) for 50 or more.
     `effective` adds the effective windows, and `acks` the senders of acknowledgements."""
-    # Here, since they build on this module.
+    # Imported here, because they import this module.
     from dnlab.analysis import pipe_series, shares
 
     view = view if acks else without_acks(view)
@@ -86,13 +88,13 @@ def panel_of(view: View, what: str, span: Span = Span(), every: Optional[int] = 
     panel = makers[what](view) if what in makers else shares.panel_of(view, what, span, every)
     if not panel.across and panel.series and span != Span():
         panel.series = [one for one in (within(one, span) for one in panel.series) if len(one.moments)]
-        panel.words = panel.words if panel.series else "nothing in this time"
+        panel.words = panel.words if panel.series else "no events in this time range"
     panel.series = [thinned(one) for one in panel.series]
     return panel
 
 
 def without_acks(view: View) -> View:
-    """The view without the senders of acknowledgements; itself if it has no others."""
+    """Returns the view without the senders of acknowledgements, or unchanged if it has no others."""
     senders = [(name, packets) for name, packets in view.senders if not name.endswith(" acks")]
     if not senders or len(senders) == len(view.senders):
         return view
@@ -102,7 +104,7 @@ def without_acks(view: View) -> View:
 
 
 def within(one: Series, span: Span) -> Series:
-    """The part of a series that lies in a span; steps begin with what holds at its begin, and hold to its end."""
+    """Returns the part of a series in a time range; steps start with the value at its start, and hold to its end."""
     moments, values = one.moments, one.values
     end = int(moments[-1]) if span.end is None and len(moments) else span.end or 0
     begin, after = (int(np.searchsorted(moments, moment, side=side))  # type: ignore[call-overload]
@@ -117,22 +119,22 @@ def within(one: Series, span: Span) -> Series:
 
 
 def thinned(one: Series, stretches: int = STRETCHES) -> Series:
-    """A series of which each stretch of time keeps the first, the least, the greatest and the last value, so that a
-    picture is the same to a dot; a short one as it is."""
+    """Returns a series in which each interval of time keeps the first, minimum, maximum and last value, so that the picture looks the same;
+    a short series is unchanged."""
     if len(one.moments) <= 4 * stretches:
         return one
     begin, end = int(one.moments[0]), int(one.moments[-1])
     at = (one.moments - begin) * stretches // (end - begin + 1)
     first = np.flatnonzero(np.concatenate((np.ones(1, dtype=np.bool_), at[1:] != at[:-1])))
     last = np.append(first[1:], len(at)) - 1
-    # Sorted by value within a stretch, its least and greatest stand at its ends.
+    # Sorted by value within an interval, its minimum and maximum are at its ends.
     order = np.lexsort((one.values, at))
     kept = np.unique(np.concatenate((first, last, order[first], order[last])))
     return one._replace(moments=one.moments[kept], values=one.values[kept])
 
 
 def steps(view: View, label: str, moments: Ints, amounts: "Ints | int") -> Series:
-    """The running sum of changes, from 0 to the experiment's last moment; changes of one moment are one step."""
+    """Returns the running sum of changes, from 0 to the experiment's last event; changes at one time are one step."""
     if not len(moments):
         return Series(label, "steps", moments, moments)
     amounts = np.broadcast_to(np.asarray(amounts, dtype=np.int64), moments.shape)
@@ -150,7 +152,7 @@ def steps(view: View, label: str, moments: Ints, amounts: "Ints | int") -> Serie
 
 
 def most(view: View, panel_name: str, series: Sequence[Series], limit: Optional[int] = MOST) -> list[Series]:
-    """The series with most steps or points, where there are too many to be told apart; all where there is no limit."""
+    """Returns the series with most steps or points if there are too many to tell apart; all if there is no limit."""
     series = [one for one in series if len(one.moments)]
     kept = list(series) if limit is None else fewest(series, limit)
     if len(kept) < len(series):
@@ -159,24 +161,23 @@ def most(view: View, panel_name: str, series: Sequence[Series], limit: Optional[
 
 
 def fewest(series: Sequence[Series], limit: int = MOST) -> list[Series]:
-    """As many series as can be told apart: acknowledgements are left out first, then those with fewest changes."""
+    """Returns at most `limit` series: acknowledgements are left out first, then those with the fewest changes."""
     kept = sorted(range(len(series)),
                   key=lambda place: (series[place].label.endswith(" acks"), -len(series[place].moments)))[:limit]
     return [series[place] for place in sorted(kept)]
 
 
 def too_many(panel_name: str, count: int, kept: int = MOST) -> Note:
-    """What is said where lines are left out."""
+    """Returns the note about lines that are left out."""
     return Note(f"{panel_name} lines", f"{panel_name}: {count} lines are too many to be told apart, so {kept} are drawn:"
                 " those with most changes, acknowledgements last")
 
 
 def windows(view: View, limit: Optional[int] = FLOWS, effective: bool = True) -> Panel:
-    """cwnd and ssthresh of each flow, as the lines have them, with losses and timeouts; and the effective window, which is
-    the limit on the bytes in flight, if the flow's `window` is below cwnd. If there is a limit, of more than 16 flows those
-    with most changes are shown, and no ssthresh above the axis."""
+    """Returns cwnd and ssthresh of each flow, with losses and timeouts, and the effective window, which limits the bytes in flight, if the
+    flow's `window` is below cwnd. With a limit, only the 16 flows with most changes are shown, and no ssthresh above the axis."""
     columns = view.experiment.columns
-    # Flows by name are chosen by whom the panel shows (`dnlab-plot --of`).
+    # Which flows the panel shows is decided by --of.
     shown = {name for name, _ in view.senders}
     rows = np.flatnonzero((columns.word == ACK) | (columns.word == EXPIRE))
     flows = [flow for flow in np.unique(columns.flow[rows]).tolist() if f"flow {flow}" in shown or not view.is_told]
@@ -195,14 +196,14 @@ def windows(view: View, limit: Optional[int] = FLOWS, effective: bool = True) ->
 
 
 def inflates(columns: Columns, flow: int) -> bool:
-    """Whether a flow enters fast recovery: a third duplicate acknowledgement lowers ssthresh."""
+    """Returns whether a flow enters fast recovery: a third duplicate acknowledgement lowers ssthresh."""
     rows = np.flatnonzero((columns.flow == flow) & ((columns.word == ACK) | (columns.word == EXPIRE)))
     falls = np.diff(columns.more[rows]) < 0
     return bool((falls & (columns.word[rows][1:] == ACK)).any())
 
 
 def flow_windows(view: View, flow: int, rows: Ints) -> list[Series]:
-    """cwnd, the effective window where that is less, ssthresh, losses and timeouts of a flow; marks stand on cwnd."""
+    """Returns cwnd, the effective window where it is smaller, ssthresh, losses and timeouts of a flow; losses are drawn on cwnd."""
     columns = view.experiment.columns
     moments, cwnd, ssthresh = columns.moment[rows], columns.number[rows], columns.more[rows]
     moment, sends = view.sends.get(f"flow {flow}", (0, None))
@@ -223,14 +224,14 @@ def flow_windows(view: View, flow: int, rows: Ints) -> list[Series]:
 
 
 def sojourns(view: View, limit: Optional[int] = MOST) -> Panel:
-    """The one-way delay of each delivered packet, at the moment of its delivery."""
+    """Returns the one-way delay of each delivered packet, at its delivery."""
     if not view.is_told:
-        return Panel("One-way delay", "ms", [], "When packets were made can't be told\nwithout the scenario.")
+        return Panel("One-way delay", "ms", [], "The creation times of packets\nneed the scenario.")
     table, delay = view.packets, view.packets.delay
     series = []
     for who, packets in view.senders:
         delivered = packets[table.outcome[packets] == DELIVERED]
-        # In the order of delivery, as long series are thinned by it.
+        # In the order of delivery, which thinning needs.
         delivered = delivered[np.argsort(table.ended[delivered], kind="stable")]
         series.append(Series(who, "points", table.ended[delivered], delay[delivered] / 10**6))
     series = most(view, "sojourn", series, limit)
@@ -238,8 +239,8 @@ def sojourns(view: View, limit: Optional[int] = MOST) -> Panel:
 
 
 def rates(view: View, limit: Optional[int] = MOST) -> Panel:
-    """What was delivered, by sender, and what went through each pipe, added up over time."""
-    # Here, since it builds on this module.
+    """Returns the data delivered, by sender, and the data through each pipe, cumulative."""
+    # Imported here, because it imports this module.
     from dnlab.analysis.pipe_series import labelled
 
     known = view.is_told
@@ -259,7 +260,7 @@ def rates(view: View, limit: Optional[int] = MOST) -> Panel:
 
 
 def drops(view: View) -> Panel:
-    """Drops by cause, added up over time."""
+    """Returns the drops by cause, cumulative."""
     table = view.packets
     series = [steps(view, cause, table.ended[table.outcome == DROPPED + place], 1) for place, cause in enumerate(CAUSES)]
     series = [one for one in series if len(one.moments)]

@@ -1,5 +1,5 @@
-"""Panels of how values are shared out: throughput over time, its CDF, that of times under way, and boxes of both; and
-panels of several experiments laid over one another."""
+"""Panels of distributions: throughput over time, its CDF, that of one-way delays, and boxes of both; and panels of several
+experiments drawn over one another."""
 from dataclasses import replace
 from typing import Optional, Sequence
 
@@ -11,10 +11,10 @@ from dnlab.analysis.pipe_series import drawable, link_rates
 from dnlab.analysis.series import MOST, Panel, Series, fewest, most, too_many
 from dnlab.analysis.spans import Span
 from dnlab.analysis.view import Note, View
-from dnlab.errors import Faulty
+from dnlab.errors import InputError
 from dnlab.io.digits import Ints
 
-# Throughput is taken over times of which there are so many or more, where nobody says which.
+# The default interval gives at least this many values of throughput.
 _BINS = 50
 _FEWEST = 10
 _PACKETS = 5
@@ -23,15 +23,15 @@ _BOXES = 60
 _PERCENTILES = (5, 25, 50, 75, 95)
 _NAMES = {"sojourn": ("One-way delay", "ms"), "throughput": ("Throughput", "Mbit/s")}
 _FRACTIONS = {"sojourn": "Fraction of packets", "throughput": "Fraction of intervals"}
-# What is missing, where a panel needs it.
-_NEEDS = {"sojourn": "When packets were made can't be told\nwithout the scenario.",
-          "throughput": "Sizes can't be told\nwithout the scenario."}
+# The text of a panel that lacks something.
+_NEEDS = {"sojourn": "The creation times of packets\nneed the scenario.",
+          "throughput": "Sizes need the scenario."}
 Samples = list[tuple[str, Ints]]
 
 
 def bin_of(time: int, packets: int = 10**9) -> int:
-    """A 1, 2 or 5 with zeros, ns, of which a time has 50 or more; fewer if they would have less than 5 packets on average, down
-    to 10.
+    """Returns a round number of ns (1, 2 or 5 with zeros) that divides a time into 50 or more intervals, or fewer (down to 10) if they
+    would have less than 5 packets on average.
 
     >>> bin_of(10**10), bin_of(3 * 10**9), bin_of(10**10, 100)
     (200000000, 50000000, 500000000)
@@ -42,7 +42,7 @@ def bin_of(time: int, packets: int = 10**9) -> int:
 
 
 def shown_time(time: int) -> str:
-    """A time with its greatest unit.
+    """Returns a time in its largest unit.
 
     >>> shown_time(200000000), shown_time(1500)
     ('200 ms', '1500 ns')
@@ -52,7 +52,7 @@ def shown_time(time: int) -> str:
 
 
 def panel_of(view: View, what: str, span: Span, every: Optional[int]) -> Panel:
-    """A panel by its name in `panels.MORE`."""
+    """Returns a panel by its name in `panels.MORE`."""
     kind, _, of = what.rpartition(":")
     quantity, unit = _NAMES[of]
     until = view.last if span.end is None else min(span.end, view.last)
@@ -63,7 +63,7 @@ def panel_of(view: View, what: str, span: Span, every: Optional[int]) -> Panel:
         title = (f"CDF of {title[:1].lower()}{title[1:]}" if kind == "cdf"
                  else f"{title}, quartiles, 5th to 95th percentile, minimum and maximum")
     across = {"cdf": f"{quantity} ({unit})", "box": "Sender"}.get(kind, "")
-    # Of a report without sizes, or without the moments at which packets were made, nothing is said for 0.
+    # For a report without sizes or creation times, the text appears instead of zeros.
     if not view.is_told:
         return Panel(title, unit, [], _NEEDS[of], across=across, quantity=quantity)
     if not kind:
@@ -83,23 +83,23 @@ def panel_of(view: View, what: str, span: Span, every: Optional[int]) -> Panel:
 
 
 def throughputs(view: View, every: int) -> list[tuple[str, Ints, Ints]]:
-    """Of each sender the begins of windows of so many ns, to the last that brought something to anybody, and what was
-    delivered in each, bit/s with headers."""
+    """Returns for each sender the starts of intervals of `every` ns, up to the last in which anything was delivered, and what was delivered
+    in each, bit/s with headers."""
     table = view.packets
     count = view.last // every + 1
     if count > _MOST_BINS:
-        raise Faulty(f"experiment {view.name}: {count} times of {every} ns are more than {_MOST_BINS}: take a longer --bin")
+        raise InputError(f"experiment {view.name}: {count} intervals of {every} ns are more than {_MOST_BINS}: choose a longer --bin")
     found = []
     for who, packets in view.senders:
         delivered = packets[table.outcome[packets] == DELIVERED]
-        # Sums of sizes stay below 2^53, so those of floats are exact.
+        # Sums of sizes stay below 2^53, so sums of floats are exact.
         sizes = np.bincount(table.ended[delivered] // every, weights=table.size[delivered], minlength=count)
         found.append((who, np.arange(count, dtype=np.int64) * every, sizes.astype(np.int64) * 8 * 10**9 // every))
     return found
 
 
 def _came(label: str) -> str:
-    """A sender's name beside what came of it: `injected` alone would say what was sent.
+    """Returns a sender's label for deliveries: `injected` alone would suggest what was sent.
 
     >>> _came("injected"), _came("train 9")
     ('delivered (injected)', 'train 9')
@@ -108,12 +108,12 @@ def _came(label: str) -> str:
 
 
 def _stairs(label: str, moments: Ints, values: Ints, every: int) -> Series:
-    """A rate over time, Mbit/s; it holds until the next window, the last to its own end."""
+    """Returns a rate over time, Mbit/s; it holds until the next interval, the last to its own end."""
     return Series(label, "steps", np.append(moments, moments[-1] + every), np.append(values, values[-1]) / 10**6)
 
 
 def _times(view: View, span: Span) -> Samples:
-    """Of each sender the times under way of what was delivered in a span, ns, sorted."""
+    """Returns for each sender the one-way delays of deliveries in a time range, ns, sorted."""
     table, found = view.packets, []
     for who, packets in view.senders:
         ended = table.ended[packets]
@@ -125,14 +125,14 @@ def _times(view: View, span: Span) -> Samples:
 
 
 def _box(label: str, values: Ints) -> Series:
-    """Least, percentiles by nearest rank, and greatest."""
+    """Returns the minimum, percentiles by nearest rank, and the maximum."""
     marks = [0, *(place(len(values), percentile) for percentile in _PERCENTILES), len(values) - 1]
     return Series(label, "box", values[marks], values[marks])
 
 
 def overlaid(names: Sequence[str], columns: Sequence[Sequence[Panel]]) -> tuple[list[Panel], list[tuple[str, Note]]]:
-    """The panels of several experiments laid over one another, a series' label with its experiment's name; and what is
-    left out. More boxes than 60 are refused by `Faulty`."""
+    """Returns the panels of several experiments drawn over one another, with the experiment's name in each label, and notes about what is
+    left out. Raises `InputError` for more than 60 boxes."""
     panels, notes = [], []
     for same in zip(*columns):
         series = [one._replace(label=f"{name}: {one.label}", under=one.under and f"{name}: {one.under}")
@@ -141,8 +141,8 @@ def overlaid(names: Sequence[str], columns: Sequence[Sequence[Panel]]) -> tuple[
         first = same[0]
         if lines and lines[0].form == "box":
             if len(lines) > _BOXES:
-                raise Faulty(f"{len(lines)} boxes in a panel can't be told apart, where {_BOXES} can be drawn: name some"
-                             " experiments by --only")
+                raise InputError(f"{len(lines)} boxes in a panel are too many ({_BOXES} at most): choose some"
+                             " experiments with --only")
         elif len(lines) > MOST:
             notes.append((names[0], too_many(first.title, len(lines))))
             lines = fewest(lines)
@@ -159,7 +159,7 @@ def overlaid(names: Sequence[str], columns: Sequence[Sequence[Panel]]) -> tuple[
 
 
 def _levels(names: Sequence[str], panels: Sequence[Panel]) -> list[Series]:
-    """The levels of several experiments; one that is the same in all has no experiment's name."""
+    """Returns the levels of several experiments; one that is the same in all has no experiment's name."""
     found: dict[tuple[str, str], Series] = {}
     for name, panel in zip(names, panels):
         for one in panel.series:

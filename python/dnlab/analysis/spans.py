@@ -1,7 +1,7 @@
-"""A part of an experiment's time: so that a summary can leave out how it begins (its warm-up) and how it ends."""
+"""A time range of an experiment, so that a summary can leave out the start (warm-up) and the end."""
 from typing import TYPE_CHECKING, NamedTuple, Optional
 
-from dnlab.errors import Faulty
+from dnlab.errors import InputError
 
 if TYPE_CHECKING:
     from dnlab.analysis.view import View
@@ -9,12 +9,12 @@ if TYPE_CHECKING:
 
 
 class Span(NamedTuple):
-    """From which moment on, and before which, ns; up to the experiment's end where there is no end."""
+    """A time range from `begin` to before `end`, ns; without an end, to the experiment's end."""
     begin: int = 0
     end: Optional[int] = None
 
     def is_whole(self) -> bool:
-        """Whether nothing is left out.
+        """Returns whether nothing is left out.
 
         >>> Span().is_whole(), Span(0, 5).is_whole()
         (True, False)
@@ -22,7 +22,7 @@ class Span(NamedTuple):
         return self.begin == 0 and self.end is None
 
     def has(self, moments: "Ints") -> "Flags":
-        """Which moments (ns, shape (n,)) lie in it: `begin` does and `end` doesn't. All do, known or not, if it is whole.
+        """Returns which times (ns, shape (n,)) are in it: `begin` is and `end` isn't. If it is whole, all are, even unknown ones.
 
         >>> import numpy as np
         >>> Span(2, 5).has(np.array([-1, 1, 2, 4, 5])).tolist()
@@ -32,12 +32,12 @@ class Span(NamedTuple):
         return found if self.end is None else found & (moments < self.end)
 
     def is_over(self, moments: "Ints") -> "Flags":
-        """Which moments (ns, shape (n,)) come after it."""
+        """Returns which times (ns, shape (n,)) are after it."""
         found: Flags = moments != moments if self.end is None else moments >= self.end
         return found
 
     def words(self) -> str:
-        """The same as text, '' if it is whole.
+        """Returns the range as text, '' if it is whole.
 
         >>> Span(10).words(), Span(0, 5).words()
         ('10..', '0..5')
@@ -45,22 +45,22 @@ class Span(NamedTuple):
         return "" if self.is_whole() else f"{self.begin}..{'' if self.end is None else self.end}"
 
     def check(self, view: "View") -> None:
-        """`Faulty` if nothing of an experiment lies in it, or if it isn't known when packets were made."""
+        """Raises `InputError` if the experiment has nothing in the range, or if the creation times of packets are unknown."""
         if self.is_whole():
             return
         if not view.is_told:
-            raise Faulty(f"experiment {view.name}: --from and --to need its scenario, or a report under `trace 1`")
+            raise InputError(f"experiment {view.name}: --from and --to need its scenario, or a report made with `trace 1`")
         last = view.ended.moment
         if self.begin >= last:
-            raise Faulty(f"experiment {view.name}: it ended at {last} ns, and --from is {self.begin} ns: take an earlier one")
+            raise InputError(f"experiment {view.name}: it ended at {last} ns, but --from is {self.begin} ns: choose an earlier time")
 
 
 def span_of(begin: int = 0, end: Optional[int] = None) -> Span:
-    """A span of whole nanoseconds; `Faulty` if it ends before it begins.
+    """Returns a range of whole nanoseconds. Raises `InputError` if it ends before it starts.
 
     >>> span_of(5, 7)
     Span(begin=5, end=7)
     """
     if begin < 0 or (end is not None and end <= begin):
-        raise Faulty(f"--from {begin} ns, --to {end} ns: the second moment comes after the first, and neither is below 0")
+        raise InputError(f"--from {begin} ns, --to {end} ns: the second time must be later than the first, and neither may be negative")
     return Span(begin, end)

@@ -1,4 +1,4 @@
-"""The statistics that a sweep collects, by their words."""
+"""The statistics that a sweep collects, by name."""
 import re
 from fractions import Fraction
 from typing import Any, Iterable, NamedTuple, Optional
@@ -14,18 +14,18 @@ _UNITS = {"packets": "packets", "delivered": "packets", "in_flight": "packets", 
           **{f"drops.{cause}": "packets" for cause in CAUSES}}
 _DELAYS = ("min", "mean", "p50", "max")
 _KNOWN = (*_UNITS, *(f"delay.{name}" for name in _DELAYS))
-# As help has them.
+# As in the help.
 STATS = (*_KNOWN, "delay.pN")
 
 
 class Ask(NamedTuple):
-    """Of whom, a name of rows or a pattern as `train *`, and which figures."""
+    """A sender (a row's name, or a pattern such as `train *`) and its statistics."""
     of: str
     stats: tuple[str, ...]
 
 
 def percentile_of(stat: str) -> Optional[str]:
-    """The percentile that a stat names, None where it names none.
+    """Returns the percentile that a statistic names, or None.
 
     >>> percentile_of("delay.p99.9"), percentile_of("delay.mean")
     ('99.9', None)
@@ -35,7 +35,7 @@ def percentile_of(stat: str) -> Optional[str]:
 
 
 def stats_of(text: str) -> tuple[str, ...]:
-    """The words of `--stat`; one that there isn't is refused with those that there are."""
+    """Returns the statistics of `--stat`. Raises `ValueError` for an unknown one, with the names that exist."""
     found = tuple(own_in(word.strip()) or word.strip() for word in text.split(","))
     for word in found:
         if not isinstance(word, Own):
@@ -48,12 +48,12 @@ def _known(word: str) -> None:
     if found:
         refuse_share(found[1])
     if word not in _KNOWN and percentile_of(word) is None:
-        raise ValueError(f"no stat {word!r}: {', '.join(STATS)} (N from 1 to 100, as delay.p95), or a function of"
-                         " one's own, FILE.py:NAME")
+        raise ValueError(f"there is no statistic {word!r}; use one of {', '.join(STATS)} (N from 1 to 100, as delay.p95), or your own"
+                         " function, FILE.py:NAME")
 
 
 def stats_given(stats: Any) -> tuple[str, ...]:
-    """The stats of a call in Python: words with commas between, functions of one's own, or several of both."""
+    """Returns the statistics of a call in Python: names separated by commas, your own functions, or a list of both."""
     several = stats if isinstance(stats, (list, tuple)) else [stats]
     found: list[str] = []
     for one in several:
@@ -62,7 +62,7 @@ def stats_given(stats: Any) -> tuple[str, ...]:
 
 
 def unit_of(stat: str) -> str:
-    """The unit of a stat's figures.
+    """Returns the unit of a statistic.
 
     >>> unit_of("delay.p95"), unit_of("goodput")
     ('ns', 'bit/s')
@@ -71,7 +71,7 @@ def unit_of(stat: str) -> str:
 
 
 def merged(asks: Iterable[Ask]) -> list[Ask]:
-    """Each `of` once, with all its stats, each once."""
+    """Returns each `of` once, with all its statistics, each once."""
     found: dict[str, dict[str, None]] = {}
     for ask in asks:
         found.setdefault(ask.of, {}).update(dict.fromkeys(ask.stats))

@@ -1,4 +1,4 @@
-"""Sums up a report: the rows of all experiments, what is to be said of them, and groups with intervals."""
+"""Summarises a report: the rows and notes of all experiments, and groups with intervals."""
 from functools import partial
 from typing import Callable, Iterable, Iterator, NamedTuple, Optional, Sequence, TypeVar
 
@@ -20,7 +20,7 @@ T = TypeVar("T")
 
 
 class Summed(NamedTuple):
-    """What one experiment gives to a summary."""
+    """The part of one experiment in a summary."""
     name: str
     rows: list[Row]
     notes: list[Note]
@@ -28,7 +28,7 @@ class Summed(NamedTuple):
 
 def sum_one(view: View, percentiles: Sequence[Percentile], shown: dict[str, str], patterns: Sequence[str],
             kind: str, every: int, span: Span = Span()) -> Summed:
-    """The rows of one experiment, for another process: `summary` (of a part of its time), `windows` or `losses`."""
+    """Returns the rows of one experiment: `summary` (for a time range), `windows` or `losses`. Runs in another process."""
     if kind == "windows":
         rows = windows(view, every)
     elif kind == "losses":
@@ -46,7 +46,7 @@ def sum_one(view: View, percentiles: Sequence[Percentile], shown: dict[str, str]
 def summed(given: Given, plans: Optional[dict[str, Plan]], wanted: Sequence[str] = (),
            percentiles: Sequence[Percentile] = PERCENTILES, patterns: Sequence[str] = (), kind: str = "summary",
            every: int = 0, workers: Optional[int] = None, span: Span = Span()) -> Iterator[Summed]:
-    """The rows and notes of each experiment of a report, in order; `Faulty` where the scenario isn't the report's."""
+    """Yields the rows and notes of each experiment of a report, in order. Raises `InputError` if the scenario isn't the report's."""
     shown = varied(plans) if plans else {}
     one = partial(sum_one, percentiles=tuple(percentiles), shown=shown, patterns=tuple(patterns), kind=kind,
                   every=every, span=span)
@@ -55,9 +55,10 @@ def summed(given: Given, plans: Optional[dict[str, Plan]], wanted: Sequence[str]
 
 def whole(given: Given, plans: Optional[dict[str, Plan]], wanted: Sequence[str], found: Iterable[T],
           name_of: Callable[[T], str]) -> Iterator[T]:
-    """What is made of a report's experiments, in order. `Faulty` before the first where what is kept beside the report
-    tells of another scenario, and behind the last where the report lacks an experiment that its scenario has (where not
-    some alone are wanted)."""
+    """Yields the results for a report's experiments, in order.
+
+    Raises `InputError` before the first if the record next to the report has another scenario, and after the last if the report
+    lacks an experiment of its scenario (unless only some are wanted)."""
     check_beside(given.report, plans, given.scenario())
     names = set()
     for made in found:
@@ -67,8 +68,8 @@ def whole(given: Given, plans: Optional[dict[str, Plan]], wanted: Sequence[str],
 
 
 def grouped(rows: Sequence[Row], by: Sequence[str], columns: Sequence[str]) -> list[Row]:
-    """Rows of one group under one another: of each column how many have a value (`n`), their mean, and half the width
-    of its 95 % interval. Groups stand in the order of their first row; `of` is always among what they go by."""
+    """Returns a row for each group of rows: for each column the number of values (`n`), their mean, and the half-width of its 95 %
+    confidence interval. Groups are in the order of their first row, and always include the sender."""
     keys = [*by, *([] if "sender" in by else ["sender"])]
     groups: dict[tuple[object, ...], list[Row]] = {}
     for row in rows:
@@ -78,7 +79,7 @@ def grouped(rows: Sequence[Row], by: Sequence[str], columns: Sequence[str]) -> l
         made: Row = {**dict(zip(keys, key)), "rows": len(members)}
         for column in columns:
             one = interval(float(row[column]) for row in members if row[column] is not None)
-            # Eleven digits: the last ones of a float differ from one scipy to the next.
+            # Eleven digits: further digits of a float differ between versions of scipy.
             half = None if one.half is None else float(f"{one.half:.11g}")
             made |= {f"{column} n": one.count, f"{column} mean": one.mean, f"{column} ci95": half}
         found.append(made)
@@ -86,13 +87,13 @@ def grouped(rows: Sequence[Row], by: Sequence[str], columns: Sequence[str]) -> l
 
 
 def tell_empty(tool: str, given: Given, total: int) -> None:
-    """Says on standard error that there was nothing to read: what made it was empty, or an empty text was run."""
+    """Reports on standard error that the report is empty: its program failed, or its scenario was empty."""
     if not total:
         say(tool, f"{given.report}: it is empty, and has no experiment: was the scenario empty, or all in comments?")
 
 
 def tell(tool: str, notes: Iterable[tuple[str, Note]], total: int) -> None:
-    """Says on standard error what there is to say of experiments: each kind once, with how many it is true of."""
+    """Prints the notes of experiments on standard error: each kind once, with the number of experiments that have it."""
     kinds: dict[str, list[tuple[str, Note]]] = {}
     for name, note in notes:
         kinds.setdefault(note.kind, []).append((name, note))

@@ -1,6 +1,6 @@
-"""The rows of a summary: one for each who sends, each pipe, each direction and each experiment as a whole.
+"""The rows of a summary: one for each sender, each pipe, each direction and each experiment as a whole.
 
-What can't be told is None. Times are nanoseconds, rates bits per second, rounded down.
+Unknown values are None. Times are nanoseconds, rates bits per second, rounded down.
 """
 from dataclasses import dataclass
 from typing import Optional, Sequence
@@ -19,8 +19,8 @@ from dnlab.io.lines import DATA, PLAIN, pipe_name
 from dnlab.io.scenario_parts import HEADER
 
 def spread(times: Optional[Ints], percentiles: Sequence[Percentile], with_mean: bool = False) -> Row:
-    """Minimum, percentiles by nearest rank, and maximum, where it is asked for the mean too; None where there is no time
-    or one isn't known. Of three times the 50th percentile is the second, the 99th the third:
+    """Returns minimum, percentiles by nearest rank, and maximum, optionally with the mean; None if there are no times or one is unknown.
+    Of three times the 50th percentile is the second, the 99th the third:
 
     >>> spread(np.array([30, 10, 26], dtype=np.int64), (50, 99), with_mean=True)
     {'min': 10, 'p50': 26, 'p99': 30, 'max': 30, 'mean': 22.0}
@@ -32,20 +32,19 @@ def spread(times: Optional[Ints], percentiles: Sequence[Percentile], with_mean: 
     ordered = np.partition(times, sorted(set(places)))
     found: Row = {name: int(ordered[at]) for name, at in zip(names, places)}
     if with_mean:
-        # In two halves, so that no sum passes 64 bits.
+        # Summed in two halves, so that no sum exceeds 64 bits.
         found["mean"] = ((int((times >> 20).sum()) << 20) + int((times & 0xFFFFF).sum())) / len(times)
     return found
 
 
-# The share of the newest difference in the jitter of RFC 3550; those before the last so many weigh less than 2^-180.
+# The weight of the newest difference in the jitter of RFC 3550; those before the last few thousand weigh less than 2^-180.
 _NEWEST = 1 / 16
 _HEARD = 2000
 
 
 def jitter(times: Ints) -> Optional[float]:
-    """The interarrival jitter of RFC 3550, section 6.4.1, behind the last packet, ns: J + (|D| - J) / 16 with each
-    difference D of two times under way, which stand in the order of arrival. None of fewer than two, or where one isn't
-    known. Shape (n,).
+    """Returns the interarrival jitter after the last packet, ns (RFC 3550, section 6.4.1): J + (|D| - J) / 16 for each difference D of
+    two one-way delays in the order of arrival. None for fewer than two, or if one is unknown. Shape (n,).
 
     >>> jitter(np.array([10, 26, 26], dtype=np.int64))
     0.9375
@@ -57,7 +56,7 @@ def jitter(times: Ints) -> Optional[float]:
 
 
 def span(firsts: Ints, lasts: Ints, size: Optional[int]) -> Row:
-    """First and last moment, the time between, and bits per second over it, rounded down. 16000 bits in 12 ms:
+    """Returns the first and last time, the time between, and the bit/s over it, rounded down. 16000 bits in 12 ms:
 
     >>> span(np.array([0, 5_000_000]), np.array([12_000_000, 11_000_000]), 2000)
     {'first': 0, 'last': 12000000, 'time': 12000000, 'rate': 1333333}
@@ -71,7 +70,7 @@ def span(firsts: Ints, lasts: Ints, size: Optional[int]) -> Row:
 
 
 def sum_of(sizes: Ints) -> Optional[int]:
-    """The sum of sizes, None where one isn't known (-1).
+    """Returns the sum of sizes, or None if one is unknown (-1).
 
     >>> sum_of(np.array([40, 1500])), sum_of(np.array([40, -1]))
     (1540, None)
@@ -81,11 +80,11 @@ def sum_of(sizes: Ints) -> Optional[int]:
 
 @dataclass
 class Tables:
-    """Makes the rows of an experiment; `varied` is what of its settings isn't the same in all experiments, and
-    `with_mean` gives the rows of packets and pipes the `mean` time under way.
+    """Creates the rows of an experiment. `varied` are the settings that differ between experiments, and `with_mean` adds the `mean`
+    one-way delay to rows of packets and pipes.
 
-    Of a `span` that isn't whole the rows have what happened in it: packets made, delivered and dropped in it, those under
-    way at its end, and rates over its whole length."""
+    With a `span`, rows have what happened in it: packets created, delivered and dropped in it, those in flight at its end, and
+    rates over its whole length."""
     view: View
     percentiles: Sequence[Percentile] = PERCENTILES
     varied: Optional[str] = None
@@ -96,7 +95,7 @@ class Tables:
         self.span.check(self.view)
 
     def rows(self) -> list[Row]:
-        """All rows of the experiment, its whole last."""
+        """Returns all rows of the experiment, that of the whole last."""
         view = self.view
         rows = [self.sender(name, packets) for name, packets in view.senders]
         rows += [row for pipe, visits in view.visits.pipes() for row in self.pipe(pipe, visits)]
@@ -106,7 +105,7 @@ class Tables:
                  "warnings": view.marks("" if row["sender"] in WHOLE else row["sender"])} for row in rows]
 
     def own(self) -> Row:
-        """What all rows of the experiment carry."""
+        """Returns the columns that all rows of the experiment share."""
         plan, ended = self.view.plan, self.view.ended
         return {"experiment": self.view.name,
                 "seed": plan.seed if plan else None, "budget_packets": plan.budget if plan else None,
@@ -116,12 +115,12 @@ class Tables:
                 **({} if self.span.is_whole() else {"from": self.span.begin, "to": self.until()})}
 
     def until(self) -> int:
-        """The end of the span, ns, or of the experiment if that comes before."""
+        """Returns the end of the span, ns, or of the experiment if that is earlier."""
         last = self.view.ended.moment
         return last if self.span.end is None else min(self.span.end, last)
 
     def over(self, firsts: Ints, lasts: Ints, size: Optional[int]) -> Row:
-        """As `span`, but of a part of the time the rate is over its whole length."""
+        """Like `span`; for a time range, the rate is over its whole length."""
         found = span(firsts, lasts, size)
         if self.span.is_whole():
             return found
@@ -129,13 +128,13 @@ class Tables:
         return {**found, "time": time, "rate": None if size is None else size * 8 * 10**9 // time}
 
     def arrived(self, packets: Ints) -> Ints:
-        """Those of some packets that were delivered, in the span."""
+        """Returns those packets that were delivered in the span."""
         table = self.view.packets
         delivered: Ints = packets[(table.outcome[packets] == DELIVERED) & self.span.has(table.ended[packets])]
         return delivered
 
     def packets(self, of: str, packets: Ints) -> Row:
-        """A row of packets: bytes, last and rate are of what was delivered, first is the first packet's making."""
+        """Returns a row of packets: bytes, last and rate are of deliveries, first is the creation of the first packet."""
         table = self.view.packets
         fate, ended = table.outcome[packets], table.ended[packets]
         delivered, made = self.arrived(packets), packets[self.span.has(table.made[packets])]
@@ -154,8 +153,8 @@ class Tables:
         return {**self.packets(of, packets), **self.useful(packets), **self.progress(of, packets)}
 
     def useful(self, packets: Ints) -> Row:
-        """Bytes that came, each once, and their rate: a flow's without headers, all of a train's packets. What of injected packets was
-        new only their program knows."""
+        """Returns the bytes that arrived, each once, and their rate: for a flow without headers, for a train all packets. For injected
+        packets only their program knows which data was new."""
         table = self.view.packets
         kinds = table.kind[packets]
         packets = packets[(kinds == DATA) | (kinds == PLAIN)]
@@ -167,7 +166,7 @@ class Tables:
         return {"useful": size, "goodput": self.over(table.made[packets], table.ended[once], size)["rate"]}
 
     def progress(self, of: str, packets: Ints) -> Row:
-        """Of a flow how many segments were sent again, and the time from its command to its last missing byte."""
+        """Returns for a flow the number of retransmissions, and the time from its command to its last missing byte."""
         table = self.view.packets
         if int(table.kind[packets[0]]) != DATA or not self.view.is_told:
             return {}
@@ -178,7 +177,7 @@ class Tables:
         return {"retransmissions": again, "fct": int(ended[-1]) - moment if whole else None}
 
     def pipe(self, pipe: int, visits: Ints) -> list[Row]:
-        """The rows of an instance: one, or one for each direction where packets of both came through it."""
+        """Returns the rows of an instance: one, or one for each direction if it had packets of both."""
         back = self.view.is_back[self.view.visits.packet[visits]]
         name = f"pipe {pipe_name(pipe)}"
         if back.all() or not back.any():
@@ -186,10 +185,10 @@ class Tables:
         return [self.visits(name, visits[~back]), self.visits(f"{name} back", visits[back])]
 
     def visits(self, of: str, visits: Ints) -> Row:
-        """A row of an instance: packets that it served, of which `delivered` have left it.
+        """Returns a row of an instance: packets that it served, of which `delivered` have left it.
 
-        Which pipe dropped a packet is told by its arrival there, under `trace 1`; else only of CoDel's drops, by the
-        finish before them."""
+        Which pipe dropped a packet is known from its arrival there, with `trace 1`; otherwise only for CoDel's drops, from the
+        preceding finish."""
         table, packets = self.view.visits, self.view.packets
         finish, left, packet = table.finish[visits], table.exit[visits], table.packet[visits]
         is_served, now = finish >= 0, self.span
@@ -208,8 +207,8 @@ class Tables:
                 **spread(times, self.percentiles, self.with_mean)}
 
     def utilisation(self, of: str, known: Row, size: Optional[int]) -> Optional[float]:
-        """What an instance served by what its rate could have carried from the first arrival to the last finish; None
-        without a rate, or where that isn't known."""
+        """Returns what an instance served divided by what its rate could have carried from the first arrival to the last finish; None
+        without a rate, or if unknown."""
         if size is None or not known["time"]:
             return None
         could, begin, end = 0, known["first"], known["last"]
@@ -226,7 +225,7 @@ class Tables:
         return size * 8 * 10**9 / could if could else None
 
     def whole(self) -> list[Row]:
-        """The row of all packets; bytes, rates and times stand in the rows of both directions where there are two."""
+        """Returns the row of all packets; with two directions, their rows have bytes, rates and times."""
         packets = np.arange(len(self.view.packets))
         back = self.view.is_back
         fair = {"jain": self.fairness()}
@@ -238,7 +237,7 @@ class Tables:
         return [there, behind, {"sender": "all", **sums, **fair}]
 
     def fairness(self) -> Optional[float]:
-        """Jain's index over the flows' goodputs; None where there is no flow or sizes aren't known."""
+        """Returns Jain's index over the flows' goodputs, or None if there is no flow or sizes are unknown."""
         flows = [self.useful(packets) for _, packets in flows_of(self.view)]
         if not flows or not all("goodput" in flow for flow in flows):
             return None

@@ -1,4 +1,4 @@
-"""One experiment of a report, joined with its scenario where there is one, and what may be silently wrong in it."""
+"""An experiment of a report, joined with its scenario if there is one, and its warnings."""
 from dataclasses import dataclass, field
 from functools import cached_property
 from pathlib import Path
@@ -15,7 +15,7 @@ from dnlab.analysis.marks import Refusal, marks_of, refused_of
 from dnlab.analysis.notes import KINDS, NO_SCENARIO, Note
 from dnlab.analysis.packets import Packets, Visits, never_seen, packets_of, visits_of
 from dnlab.analysis.routes import Epoch, epochs_of, headers_of
-from dnlab.errors import Faulty, Refused
+from dnlab.errors import InputError, ParseError
 from dnlab.io.digits import Flags, Ints
 from dnlab.io.lines import ACKNOWLEDGES, DATA, MAKE, OK, PLAIN, RULE
 from dnlab.io.pieces import Piece
@@ -27,24 +27,24 @@ __all__ = ["KINDS", "NO_SCENARIO", "Ended", "Note", "View", "flows_of", "view_of
 
 
 class Ended(NamedTuple):
-    """How an experiment ended: `end` or `spent`, at which moment, and the moment of the scenario's `end` (ns, None where
-    the scenario isn't known)."""
+    """How an experiment ended: `end` or `spent`, at which time, and the time of the scenario's `end` (ns, None if the scenario isn't
+    known)."""
     how: str
     moment: int
     end: Optional[int]
 
     def is_short(self) -> bool:
-        """Whether it was cut short: its steps were spent before its end."""
+        """Returns whether it was cut short: its steps were spent before its end."""
         return self.how == "spent"
 
 
 @dataclass
 class View:
-    """An experiment of a report, joined with its plan where that is known."""
+    """An experiment of a report, joined with its plan if known."""
     experiment: Recorded
     plan: Optional[Plan] = None
     more_notes: list[Note] = field(default_factory=list)
-    # Where the programs that sent its packets left their files, if it is a run of programs.
+    # Where the programs that sent its packets left their files, for a run of programs.
     folder: Optional[Path] = None
 
     def __post_init__(self) -> None:
@@ -53,7 +53,7 @@ class View:
         self.packets: Packets = packets_of(self.experiment, makings)
         if self.plan is not None and makings is not None:
             compare_links(self.experiment, self.plan, self.done, makings, self.packets, self.visits)
-        # Whether it is known of each packet when it was made, how long it is and who sent it.
+        # Whether creation time, size and sender of every packet are known.
         if self.plan is not None:
             check_consistency(self)
         self.is_told = self.plan is not None or bool((self.packets.made >= 0).all())
@@ -70,7 +70,7 @@ class View:
 
     @cached_property
     def visits(self) -> Visits:
-        """The visits of all packets to pipes."""
+        """Returns the visits of all packets to pipes."""
         return visits_of(self.experiment, self.packets)
 
     @cached_property
@@ -82,48 +82,48 @@ class View:
 
     @cached_property
     def last(self) -> int:
-        """The moment of the last line but that of `end`, which may stand long after all else; ns."""
+        """Returns the time of the last line before `end`, which may be much later; ns."""
         columns = self.experiment.columns
         rows = np.flatnonzero((columns.word != OK) & (columns.word < RULE))
         return int(columns.moment[rows[-1]]) if len(rows) else 0
 
     @cached_property
     def senders(self) -> list[tuple[str, Ints]]:
-        """Who sends, in the order of the first packet, with the packets of each."""
+        """Returns the senders, in the order of the first packet, with the packets of each."""
         return self.packets.senders()
 
     @cached_property
     def sends(self) -> dict[str, tuple[int, Sends]]:
-        """The flows and trains of the scenario that were begun, by name, with their moments."""
+        """Returns the flows and trains of the scenario that were started, by name, with their times."""
         return {command.sends.name(): (command.moment, command.sends) for _, command in self.done.plain
                 if command.sends is not None}
 
     @cached_property
     def changes(self) -> dict[int, list[Change]]:
-        """Of each pipe of the scenario its configurations and deletions that were done, in order."""
+        """Returns the executed configurations and deletions of each pipe of the scenario, in order."""
         return changes_of(self.done.plain)
 
     @cached_property
     def is_injected(self) -> Flags:
-        """Of each packet whether a program injected it, so that only that knows what it carries. Shape (packets,)."""
+        """Returns for each packet whether a program injected it, so that only the program knows its content. Shape (packets,)."""
         names = np.array([not name.startswith("train ") for name in self.packets.names] + [True])
         found: Flags = (self.packets.kind == PLAIN) & names[self.packets.who]
         return found
 
     @cached_property
     def headers(self) -> tuple[Ints, Ints]:
-        """The headers that are sent, and of each packet which it has; shapes (n, 5) and (packets,)."""
+        """Returns the headers that are sent, and the index of each packet's; shapes (n, 5) and (packets,)."""
         return headers_of(self)
 
     @cached_property
     def epochs(self) -> list[Epoch]:
-        """The sets of rules that there were, in order."""
+        """Returns the sets of rules, in order."""
         return epochs_of(self)
 
     @cached_property
     def is_back(self) -> Flags:
-        """Of each packet whether it goes back: acknowledgements, and what is sent from flows' receivers to their
-        senders. Shape (packets,)."""
+        """Returns for each packet whether it goes back: acknowledgements, and packets from flows' receivers to their senders. Shape
+        (packets,)."""
         back: NDArray[np.bool_] = self.packets.kind == ACKNOWLEDGES
         flows = [sends for _, sends in self.sends.values() if sends.word == "flow"]
         sources, targets = {one.source for one in flows}, {one.target for one in flows}
@@ -135,12 +135,12 @@ class View:
 
     @cached_property
     def refused(self) -> list[Refusal]:
-        """The commands that were refused, in order."""
+        """Returns the refused commands, in order."""
         return refused_of(self)
 
     @cached_property
     def notes(self) -> list[Note]:
-        """What isn't known, and what may be silently wrong, in the order of the most to the least grave."""
+        """Returns notes about unknown values and possible mistakes, the most serious first."""
         found = marks_of(self)
         if not self.is_told:
             found.append(NO_SCENARIO)
@@ -148,27 +148,27 @@ class View:
 
     @cached_property
     def never_seen(self) -> Ints:
-        """The packets in a pipe that no line names, so that no pipe's queue counts them. Shape (n,)."""
+        """Returns the packets in a pipe that no line names, so that no pipe's queue counts them. Shape (n,)."""
         return never_seen(self.packets, self.visits)
 
     def marks(self, of: str = "") -> str:
-        """The words that a row carries, with spaces between: those of the experiment, and those of a sender."""
+        """Returns the warnings of a row, separated by spaces: those of the experiment, and those of a sender."""
         words = [note.mark for note in self.notes if note.mark and (not note.of or not of or of == note.of)]
         return " ".join(dict.fromkeys(words))
 
 
 def view_of(piece: Piece, plans: Optional[dict[str, Plan]], report: str, scenario: str) -> View:
-    """Reads an experiment and joins it; what is refused is told with the file's name."""
+    """Reads and joins an experiment. Errors have the file's name."""
     if plans is not None and piece.name not in plans:
-        raise Faulty(f"{scenario}: it has no experiment {piece.name}")
+        raise InputError(f"{scenario}: it has no experiment {piece.name}")
     try:
         return View(read_piece(piece), plans[piece.name] if plans is not None else None)
-    except Refused as refused:
-        raise Faulty(f"{report}: {refused}") from None
+    except ParseError as refused:
+        raise InputError(f"{report}: {refused}") from None
 
 
 def flows_of(view: View) -> list[tuple[int, Ints]]:
-    """The flows whose segments the experiment made, by number, with these packets."""
+    """Returns the flows whose segments the experiment created, by number, with these packets."""
     rows = np.flatnonzero(view.packets.kind == DATA)
     flows = view.packets.flow[rows]
     return [(int(flow), rows[flows == flow]) for flow in np.unique(flows)]

@@ -1,10 +1,10 @@
-"""Goes over the experiments of a report, one at a time or by several processes, and says how far it is."""
+"""Processes the experiments of a report, one at a time or with several processes, and shows the progress."""
 import os
 import sys
 from pathlib import Path
 from typing import TYPE_CHECKING, BinaryIO, Callable, Iterable, Iterator, NamedTuple, Optional, Sequence, TypeVar, Union
 
-from dnlab.errors import Faulty, Refused
+from dnlab.errors import InputError, ParseError
 from dnlab.io.packed import unpacked
 from dnlab.io.pieces import Piece, pieces
 from dnlab.io.scenario import read
@@ -15,53 +15,52 @@ if TYPE_CHECKING:
     from dnlab.processes.crew import Crew
 
 T = TypeVar("T")
-# Below so many bytes of report a second process costs more than it saves.
+# For reports below this many bytes a second process costs more than it saves.
 _WORTH = 20_000_000
 
 
 class Given(NamedTuple):
-    """A report and its scenarios, as they are named on a command line; `-` is standard input."""
+    """A report and its scenarios, as named on a command line; `-` is standard input."""
     report: str
     scenarios: tuple[str, ...] = ()
 
     def scenario(self) -> str:
-        """The scenarios' names, for a message."""
+        """Returns the scenarios' names, for a message."""
         return ", ".join(self.scenarios)
 
 
 def cores() -> int:
-    """How many cores this process may use."""
+    """Returns how many cores this process may use."""
     return len(os.sched_getaffinity(0)) if hasattr(os, "sched_getaffinity") else os.cpu_count() or 1
 
 
 def bytes_of(name: str) -> bytes:
-    """The bytes of a file, or of standard input (`-`), unpacked where they are packed by gzip; `Faulty` where they can't be
-    read."""
+    """Returns the bytes of a file, or of standard input (`-`), decompressed if gzip. Raises `InputError` if they can't be read."""
     try:
         return unpacked(sys.stdin.buffer.read() if name == "-" else Path(name).read_bytes())
     except OSError as fault:
-        raise Faulty(f"{name}: {fault.strerror}") from None
-    except Refused as refused:
-        raise Faulty(f"{name}: {refused}") from None
+        raise InputError(f"{name}: {fault.strerror}") from None
+    except ParseError as refused:
+        raise InputError(f"{name}: {refused}") from None
 
 
 def plans_of(names: Sequence[str]) -> Optional[dict[str, Plan]]:
-    """The experiments of some scenario texts, by name; None where no text is named."""
+    """Returns the experiments of some scenarios, by name, or None if no scenario is named."""
     plans: dict[str, Plan] = {}
     for name in names:
         try:
             found = read(bytes_of(name))
-        except Refused as refused:
-            raise Faulty(f"{name}: {refused}") from None
+        except ParseError as refused:
+            raise InputError(f"{name}: {refused}") from None
         for plan in found.values():
             if plan.name in plans:
-                raise Faulty(f"{name}: line {plan.line}: a second experiment {plan.name}")
+                raise InputError(f"{name}: line {plan.line}: a second experiment {plan.name}")
             plans[plan.name] = plan
     return plans if names else None
 
 
 def pieces_of(report: str, wanted: Sequence[str] = ()) -> Iterator[Piece]:
-    """The experiments of a report's file, or of standard input; what is refused is told with the file's name."""
+    """Yields the experiments of a report's file, or of standard input. Errors have the file's name."""
     source: Union[str, BinaryIO] = sys.stdin.buffer if report == "-" else report
     missing = set(wanted)
     try:
@@ -69,27 +68,27 @@ def pieces_of(report: str, wanted: Sequence[str] = ()) -> Iterator[Piece]:
             missing.discard(piece.name)
             yield piece
     except OSError as fault:
-        raise Faulty(f"{report}: {fault.strerror}") from None
-    except Refused as refused:
-        raise Faulty(f"{report}: {refused}") from None
+        raise InputError(f"{report}: {fault.strerror}") from None
+    except ParseError as refused:
+        raise InputError(f"{report}: {refused}") from None
     for name in wanted:
         if name in missing:
-            raise Faulty(f"{report}: it has no experiment {name}")
+            raise InputError(f"{report}: it has no experiment {name}")
 
 
 def lacking(report: str, scenario: str, names: Sequence[str]) -> None:
-    """Refuses a report that lacks some experiments of its scenario."""
+    """Raises `InputError` for a report that lacks experiments of its scenario."""
     if names:
         more = f" and {len(names) - 1} more" if len(names) > 1 else ""
-        raise Faulty(f"{report}: it has no experiment {names[0]}{more}, which {scenario} has: was it cut short? (--experiment"
-                     " takes those that it has)")
+        raise InputError(f"{report}: it has no experiment {names[0]}{more}, which {scenario} has: was it cut short? (--experiment"
+                     " reads those that it has)")
 
 
-class TooMany(Faulty):
-    """A report has more experiments than can be taken: `count` of them, where `most` can be."""
+class TooMany(InputError):
+    """A report has too many experiments: `count` of them, where `most` are allowed."""
 
     def __init__(self, count: str, most: int) -> None:
-        super().__init__(f"{count} experiments are too many, where {most} can be taken")
+        super().__init__(f"{count} experiments are too many ({most} at most)")
         self.count = count
         self.most = most
 
@@ -102,10 +101,12 @@ def _task(function: "Callable[[View], T]", piece: Piece, plans: Optional[dict[st
 
 def over(given: Given, function: "Callable[[View], T]", plans: Optional[dict[str, Plan]], wanted: Sequence[str] = (),
          workers: Optional[int] = None, tool: str = "dnlab", most: Optional[int] = None) -> Iterator[T]:
-    """What a function makes of each experiment, in the report's order, by so many processes (all cores where it isn't
-    given and the report is long). The function must be one that another process finds by its name. Where
-    a file has more than `most` experiments it is refused before one is read."""
-    # Here, since who runs a scenario and reads it needs no processes.
+    """Yields the results of a function for each experiment, in the report's order, using `workers` processes (by default all cores if the
+    report is long).
+
+    Another process must be able to import the function by name. A file with more than `most` experiments is refused before one is
+    read."""
+    # Imported here, because running and reading a scenario needs no processes.
     from dnlab.processes.progress import Progress
 
     found: Iterable[Piece] = pieces_of(given.report, wanted)
@@ -131,8 +132,7 @@ def over(given: Given, function: "Callable[[View], T]", plans: Optional[dict[str
 
 def _by_processes(given: Given, function: "Callable[[View], T]", plans: Optional[dict[str, Plan]],
                   found: Iterable[Piece], workers: int) -> Iterator[T]:
-    """What comes out of order waits for what is before it; a few are given ahead, so that no more texts are kept than
-    are worked on."""
+    """Yields results in order; early ones wait. Only a few jobs are submitted ahead, so that few texts are in memory."""
     from dnlab.processes.crew import Crew
 
     done: dict[int, T] = {}
@@ -150,7 +150,7 @@ def _by_processes(given: Given, function: "Callable[[View], T]", plans: Optional
 
 
 def _in_order(crew: "Crew[int]", done: dict[int, T], head: int) -> Iterator[T]:
-    """The result of the first that hasn't been given yet."""
+    """Returns the result of the first job that has not been returned yet."""
     while head not in done:
         outcome = crew.next()
         done[outcome.token] = outcome.get()

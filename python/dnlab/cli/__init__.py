@@ -1,1 +1,1 @@
-"""The commands of the package, each with a `main` that takes words and gives a status."""
+"""The commands of the package. Each module has a `main` that takes the arguments and returns the exit status."""

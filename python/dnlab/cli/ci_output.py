@@ -1,4 +1,4 @@
-"""The verdict of `dnlab-expect` in the forms that CI services read: JUnit's XML, and annotations of GitHub Actions."""
+"""The verdict of `dnlab-expect` in the formats that CI services read: JUnit XML and GitHub Actions annotations."""
 from __future__ import annotations
 
 import re
@@ -8,12 +8,12 @@ from xml.etree import ElementTree
 if TYPE_CHECKING:
     from dnlab.analysis.bounds import Failing, Judged
 
-# XML 1.0 has no other control characters than these, not even as references.
+# XML 1.0 allows no other control characters, not even as references.
 _NOT_IN_XML = re.compile("[^\t\n\r -\ud7ff\ue000-\ufffd\U00010000-\U0010ffff]")
 
 
 class _Case(NamedTuple):
-    """A bound, or a run that fails by itself: what failed is empty if it holds."""
+    """A bound, or a run that fails by itself. `failed` is the reason, empty if it holds."""
     group: str
     name: str
     failed: str
@@ -30,7 +30,7 @@ def _cases(judged: Sequence[Judged], failed: Sequence[Failing]) -> Iterator[_Cas
 
 
 def junit(judged: Sequence[Judged], failed: Sequence[Failing]) -> bytes:
-    """Returns the verdict as JUnit's XML: a test suite with a test case for each bound, and one for each run that fails by itself."""
+    """Returns the verdict as JUnit XML: a test suite with a test case for each bound and for each run that fails by itself."""
     cases = list(_cases(judged, failed))
     failures = sum(1 for case in cases if case.failed)
     suite = ElementTree.Element("testsuite", name="dnlab-expect", tests=str(len(cases)), failures=str(failures), errors="0", skipped="0")
@@ -53,7 +53,7 @@ def _xml(text: str) -> str:
 
 
 def github_annotations(judged: Sequence[Judged], failed: Sequence[Failing]) -> Iterator[str]:
-    """Returns a workflow command of GitHub Actions for each failure, with its file and line if it has them."""
+    """Returns a GitHub Actions workflow command for each failure, with its file and line if known."""
     for case in _cases(judged, failed):
         if case.failed:
             place = [f"{name}={_property(str(value))}" for name, value in (("file", case.file), ("line", case.line)) if value is not None]

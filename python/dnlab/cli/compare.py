@@ -1,4 +1,4 @@
-"""Says where two reports of dnlab part, with their metrics side by side."""
+"""Compares two reports: where they diverge, and their metrics side by side."""
 import argparse
 import json
 from dataclasses import dataclass, field
@@ -12,7 +12,7 @@ from dnlab.analysis.stored import stored_rows
 from dnlab.analysis.work import lacking, pieces_of, plans_of
 from dnlab.cli.layout import lines_of
 from dnlab.cli.words import count_of, parser_of, percentiles_of
-from dnlab.errors import DIFFERS, INPUT, Faulty, status_of
+from dnlab.errors import DIFFERS, INPUT, InputError, status_of
 from dnlab.io.origin import check_beside
 from dnlab.io.pieces import Piece
 from dnlab.io.scenario_parts import Plan
@@ -22,41 +22,45 @@ if TYPE_CHECKING:
     from dnlab.analysis.parting import Parting
     from dnlab.analysis.view import View
 
-EXAMPLE = """What packets carry decides where the two first part (flow 1 byte 2920, train 9
-packet 5), since serial numbers shift. It prints the moment, the last line that
-both have, and the lines of each from there on. Of each pipe it prints how many
-packets wait (with the one in service) and how many are in the delay line.
+EXAMPLE = """Packets are matched by content (flow 1 byte 2920, train 9 packet 5), because
+serial numbers shift. The output has the time at which the reports diverge, the
+last line that both have, and the lines that follow in each. For each pipe it
+has the number of waiting packets (with the one in service) and of packets in
+the delay line.
 
 Metrics are those of dnlab-expect: goodput, loss, drops.full, delay.p95 ..; the
-ratio is B's by A's. It shows those that differ, with --all every one. Without
---tolerance any difference counts. With some, only the metrics that they name
-are judged; one that no row has, or that has no value, is never within them:
-  delay.p95=5%   by so much of A's value
-  delay.*=1ms    several by a pattern
-  drops=2        by so many packets
-  *=1%           all; what is named twice keeps to the last
+ratio is B / A. Only metrics that differ are shown, unless --all is given.
+Without --tolerance any difference counts. With it, only the metrics that it
+names are judged. A metric that no row has, or that has no value, is never
+within its tolerance:
+  delay.p95=5%   differs by at most 5 % of A's value
+  delay.*=1ms    several metrics by a pattern
+  drops=2        at most 2 packets
+  *=1%           all metrics; if several match, the last one applies
 
-A and B may be packed by gzip. A file of `dnlab-summary --json` serves as A or B
-too, as a small baseline: then rows are compared, and no lines.
+A and B may be compressed with gzip. A or B may also be the output of
+`dnlab-summary --json`, as a small baseline: then only rows are compared.
 
-Experiments are those of the same name; --experiment deep=codel has A's
-experiment deep beside B's codel. A and B may be one file. One scenario serves
-both; of two the first is A's and the second B's. Without it sizes and the
-moments at which packets were made are missing, unless the report was made under
-`trace 1`.
+Experiments are matched by name; --experiment deep=codel compares A's experiment
+deep with B's experiment codel. A and B may be the same file. One scenario
+applies to both reports; of two, the first is A's and the second B's. Without
+it, sizes and the times at which packets were created are missing, unless the
+report was made with `trace 1`.
 
 Example:
   tools/compare before.txt after.txt scenario.txt --tolerance delay.p95=5%
   tools/compare report.txt report.txt scenario.txt --experiment deep=codel
 
 Exit status: 0 the same, or within the tolerances; 1 they differ; 2 wrong usage,
-a metric that no row has, or a faulty input; 3 what this machine lacks (a
-package, room to write)."""
+a metric that no row has, or a faulty input; 3 something is missing on this
+machine (a package, disk space)."""
 
 
 class Part(NamedTuple):
-    """What is found of two experiments, without their columns: how many rows were asked for, metrics, where
-    they part (`moment`, ns, and the first line of each; None where nowhere), and the same for people."""
+    """The comparison of two experiments, without their columns.
+
+    `rows` is the number of selected rows in both, `parted` where they diverge (time in ns, and the first line of each), None if
+    they do not, and `said` the same as lines of text."""
     name: str
     rows: int
     pairs: list[Pair]
@@ -66,8 +70,7 @@ class Part(NamedTuple):
 
 @dataclass
 class Run:
-    """A report with its scenario, and its experiments by name; of a stored summary `stored` has the rows, and no `pieces`
-    are there."""
+    """A report with its scenario, and its experiments by name. For a stored summary, `stored` has the rows and `pieces` is empty."""
     report: str
     scenario: list[str]
     plans: Optional[dict[str, Plan]] = None
@@ -85,7 +88,7 @@ class Run:
         return [*self.pieces] if self.stored is None else [*self.stored]
 
     def view(self, name: str) -> "Optional[View]":
-        """An experiment, joined; None of a stored summary."""
+        """Returns an experiment joined with its plan, or None for a stored summary."""
         if self.stored is not None:
             return None
         from dnlab.analysis.view import view_of
@@ -101,7 +104,7 @@ class Run:
         return self.stored[name]
 
     def has(self, column: str) -> bool:
-        """Whether its rows have a column at all."""
+        """Returns whether all rows have this column."""
         return self.stored is None or not column or all(column in row for rows in self.stored.values() for row in rows)
 
 
@@ -115,41 +118,41 @@ def tolerance(text: str) -> Tolerance:
 def words(given: Sequence[str]) -> argparse.Namespace:
     parser = parser_of("compare", __doc__ or "", EXAMPLE)
     parser.add_argument("a", metavar="A", help="a report, or - for standard input")
-    parser.add_argument("b", metavar="B", help="another, or the same")
+    parser.add_argument("b", metavar="B", help="another report, or the same one")
     parser.add_argument("scenarios", metavar="SCENARIO", nargs="*", help="the scenario of both, or A's and B's")
     parser.add_argument("--experiment", action="append", default=[], metavar="NAME[=OTHER]",
-                        help="only this experiment, beside that one of B; may be said again [all]")
+                        help="only this experiment of A, and OTHER of B (repeatable) [all]")
     parser.add_argument("--of", action="append", default=[], metavar="PATTERN",
-                        help="only these rows, as 'flow 1', 'train *', 'pipe 1.0'; may be said again [all]")
+                        help="only these rows, as 'flow 1', 'train *', 'pipe 1.0' (repeatable) [all]")
     parser.add_argument("--tolerance", action="append", default=[], type=tolerance, metavar="METRIC=VALUE",
-                        help="how far a metric may differ; may be said again")
+                        help="how much a metric may differ (repeatable)")
     parser.add_argument("--percentiles", type=percentiles_of, default=["50", "99"], metavar="P,P..",
-                        help="of the time under way [50,99]")
+                        help="percentiles of the one-way delay [50,99]")
     parser.add_argument("--lines", type=count_of, default=3, metavar="N",
-                        help="how many lines of each are shown where they part [3]")
-    parser.add_argument("--all", action="store_true", help="show metrics that are the same too")
-    parser.add_argument("--exact", action="store_true", help="print all digits of amounts and ratios [three decimals]")
-    parser.add_argument("--json", action="store_true", help="print an object, amounts in ns, bytes and bit/s")
+                        help="number of lines to show from each report where they diverge [3]")
+    parser.add_argument("--all", action="store_true", help="also show metrics that are the same")
+    parser.add_argument("--exact", action="store_true", help="print all digits of values and ratios [three decimals]")
+    parser.add_argument("--json", action="store_true", help="print a JSON object, with values in ns, bytes and bit/s")
     found = parser.parse_intermixed_args(list(given))
     if len(found.scenarios) > 2:
-        parser.error("two scenarios at most: A's and B's")
+        parser.error("at most two scenarios: A's and B's")
     if [found.a, found.b, *found.scenarios].count("-") > 1:
-        parser.error("standard input can't be two texts")
+        parser.error("only one of A, B and SCENARIO can be - (standard input)")
     return found
 
 
 def names_of(wanted: Sequence[str], first: Run, second: Run) -> list[tuple[str, str]]:
-    """The experiments that stand beside each other; `Faulty` where one isn't there."""
+    """Returns the pairs of experiments to compare. Raises `InputError` if one does not exist."""
     asked = [(name.partition("=")[0], name.partition("=")[2] or name) for name in wanted]
     for names in asked:
         for name, run in zip(names, (first, second)):
             if name not in run.names():
-                raise Faulty(f"{run.report}: it has no experiment {name}: it has {', '.join(run.names()[:40])}")
+                raise InputError(f"{run.report}: it has no experiment {name}; its experiments are {', '.join(run.names()[:40])}")
     return asked or [(name, name) for name in first.names() if name in second.names()]
 
 
 def only(first: Optional[Plan], second: Optional[Plan], lines: int) -> list[str]:
-    """Commands that one of two plans has and the other hasn't, in words."""
+    """Returns the settings and commands that only one of two plans has, as lines of text."""
     if first is None or second is None:
         return []
     said = [f"{what} {one} | {other}" for what, one, other in
@@ -164,7 +167,7 @@ def only(first: Optional[Plan], second: Optional[Plan], lines: int) -> list[str]
 
 
 def parts_of(given: argparse.Namespace, first: Run, second: Run) -> Iterator[Part]:
-    """What is found of each two experiments."""
+    """Compares each pair of experiments."""
     from dnlab.analysis.parting import parting
 
     named = [metric for one in given.tolerance for metric in one.metrics]
@@ -178,7 +181,7 @@ def parts_of(given: argparse.Namespace, first: Run, second: Run) -> Iterator[Par
         asked = [metric for metric in metrics(percentiles) if first.has(metric.column) and second.has(metric.column)]
         made = list(pairs(shown, rows[0], rows[1], asked, given.tolerance))
         if one is None or two is None:
-            yield Part(shown, len(rows[0]) + len(rows[1]), made, None, [f"{shown}: rows are compared, since a summary has no lines"])
+            yield Part(shown, len(rows[0]) + len(rows[1]), made, None, [f"{shown}: only rows are compared, since a summary has no lines"])
             continue
         found = parting(one, two)
         yield Part(shown, len(rows[0]) + len(rows[1]), made, parted(shown, found),
@@ -186,7 +189,7 @@ def parts_of(given: argparse.Namespace, first: Run, second: Run) -> Iterator[Par
 
 
 def parted(name: str, found: "Optional[Parting]") -> Optional[dict[str, Any]]:
-    """Where two experiments part, for other programs."""
+    """Returns where two experiments diverge, for JSON."""
     if found is None:
         return None
     lines = {run: one.line(row) if row is not None else None for run, one, row in zip("ab", found.told, found.rows)}
@@ -194,22 +197,22 @@ def parted(name: str, found: "Optional[Parting]") -> Optional[dict[str, Any]]:
 
 
 def told(name: str, found: "Optional[Parting]", differs: Sequence[str], lines: int) -> list[str]:
-    """Where two experiments part, in lines, with what differs in their scenarios."""
+    """Returns where two experiments diverge, and how their scenarios differ, as lines of text."""
     if found is None:
         return [f"{name}: the same, line by line"]
-    said = [f"{name}: they part at {found.moment} ns", *(f"  {text}" for text in differs)]
+    said = [f"{name}: they diverge at {found.moment} ns", *(f"  {text}" for text in differs)]
     equal = found.equal
     said.append("  last equal: " + (f"A {found.told[0].line(equal[0])} | B {found.told[1].line(equal[1])}" if equal
-                                    else "none, they part at the first"))
+                                    else "none, they diverge at the first line"))
     for run, one, rows in zip("AB", found.told, found.following):
-        said += [f"  {run}: {one.line(int(row))}" for row in rows[:lines]] or [f"  {run}: no line more"]
-    cells = [["  packets", "A before", "A behind", "B before", "B behind"],
+        said += [f"  {run}: {one.line(int(row))}" for row in rows[:lines]] or [f"  {run}: no more lines"]
+    cells = [["  packets", "A before", "A after", "B before", "B after"],
              *([f"  at {pipe}", *counts] for pipe, counts in found.queues())]
     return said + (lines_of(cells, (0,)).rstrip("\n").split("\n") if len(cells) > 1 else [])
 
 
 def table(found: Sequence[Pair], everything: bool, exact: bool) -> str:
-    """The metrics that differ, or all, as a table; with how many are the same. What isn't to be exact is rounded to three digits."""
+    """Returns the metrics that differ, or all of them, as a table, with the number of metrics that are the same."""
     kept = [pair for pair in found if everything or not pair.is_same() or pair.is_bad() or pair.judged.startswith("within")]
     cells = [["experiment", "sender", "metric", "A", "B", "B/A", "judged"]]
     cells += [[pair.experiment, pair.of, pair.metric.word, *pair.shown(exact), pair.judged or "-"] for pair in kept]
@@ -227,10 +230,10 @@ def as_json(parts: Sequence[Part], missing: Sequence[str]) -> str:
 
 
 def missing_of(given: argparse.Namespace, first: Run, second: Run) -> list[str]:
-    """The experiments that one run has and the other hasn't; `Faulty` where both lack one of their scenario."""
+    """Returns the experiments that only one of the reports has. Raises `InputError` if both lack one of their scenario."""
     for one in (first, second):
         if not one.names():
-            raise Faulty(f"{one.report}: it has no experiment, so there is nothing to compare")
+            raise InputError(f"{one.report}: it has no experiment, so there is nothing to compare")
     if given.experiment:
         return []
     known = {*first.names(), *second.names()}
@@ -241,7 +244,7 @@ def missing_of(given: argparse.Namespace, first: Run, second: Run) -> list[str]:
 
 
 def untold(given: argparse.Namespace, runs: Sequence[Run], found: Sequence[Pair]) -> Optional[str]:
-    """Why a tolerance judges nothing; None where each judges something."""
+    """Returns why a tolerance judges nothing, or None if each tolerance judges a metric."""
     for one in given.tolerance:
         own = [pair for pair in found if pair.metric in one.metrics]
         if not any(not pair.is_untold() for pair in own):
@@ -249,17 +252,17 @@ def untold(given: argparse.Namespace, runs: Sequence[Run], found: Sequence[Pair]
             without = [run.report for run in runs if not run.has(metric.column)]
             why = (f"{without[0]} was made without it (dnlab-summary --json --percentiles 50,95,99)" if without
                    else own[0].judged.partition(": ")[2] if own else metric.only())
-            return f"--tolerance {one.text}: no row has it, so nothing is judged: {why}"
+            return f"--tolerance {one.text}: no row has this metric, so nothing is judged: {why}"
     return None
 
 
 def tell_unjudged(given: argparse.Namespace, found: Sequence[Pair]) -> None:
-    """Says on standard error which metrics that a pattern names no row tells, for want of the scenario."""
+    """Reports on standard error the metrics of a pattern that no row has without the scenario."""
     told = {pair.metric for pair in found}
     names = dict.fromkeys(metric.word for one in given.tolerance if one.is_pattern for metric in one.metrics
                           if metric not in told and metric.kind in ("time", "rate", "size"))
     if names and not given.scenarios:
-        say("compare", f"without the scenario no row tells {', '.join(names)}, so these are not judged")
+        say("compare", f"without the scenario no row has {', '.join(names)}, so these are not judged")
 
 
 def main(words_given: Sequence[str]) -> int:
@@ -270,12 +273,12 @@ def main(words_given: Sequence[str]) -> int:
         second.open()
         missing = missing_of(given, first, second)
         parts = list(parts_of(given, first, second))
-    except Faulty as faulty:
+    except InputError as faulty:
         say("compare", faulty)
         return status_of(faulty)
     found = [pair for part in parts for pair in part.pairs]
     if parts and not any(part.rows for part in parts):
-        say("compare", f"no row is like {' or '.join(given.of)}: dnlab-summary shows the rows")
+        say("compare", f"no row matches {' or '.join(given.of)}; dnlab-summary shows the rows")
         return INPUT
     said = untold(given, (first, second), found) if parts else None
     if said is not None:

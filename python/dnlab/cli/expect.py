@@ -1,4 +1,4 @@
-"""Says whether a report of dnlab keeps to bounds, as 'train 9: delay.p95 < 50ms'."""
+"""Checks a report against bounds such as 'train 9: delay.p95 < 50ms'."""
 import argparse
 import json
 import os
@@ -16,84 +16,85 @@ from dnlab.analysis.work import Given, bytes_of, plans_of
 from dnlab.cli.ci_output import github_annotations, junit
 from dnlab.cli.streams import shown
 from dnlab.cli.words import add_names, add_span, add_texts, count_of, listed, parser_of, span_in, taken
-from dnlab.errors import DIFFERS, MACHINE, Failed, Faulty, Lacking, status_of
+from dnlab.errors import DIFFERS, MACHINE, InputError, ProgramError, ResourceError, status_of
 from dnlab.io.outputs import whole_file
 from dnlab.programs import say
 from dnlab.units import UNITS, named
 
 EXAMPLE = f"""A bound is {FORM}.
   WHO     a row of dnlab-summary, 'flow 1', 'train 9', 'pipe 1.0', 'all', or a
-          pattern, 'flow *'; 'codel/train 9' only of this experiment. A bound
-          must hold in every row that it names; 'flow *' names flows, and not
-          their acknowledgements (these are 'flow * acks')
+          pattern, 'flow *'; 'codel/train 9' is a row of one experiment. A bound
+          must hold in every row that it names; 'flow *' matches flows, but not
+          their acknowledgements (use 'flow * acks')
   METRIC  {listed(WORDS)}
-          (N up to 100). loss is drops of what was made, jitter that of RFC
-          3550. utilisation of a pipe is what it served by what its rate could
-          have carried; refused is how many commands were, ended `end` or
-          `spent`
+          (N up to 100). loss is the share of created packets that were dropped,
+          jitter that of RFC 3550, utilisation of a pipe the bytes it served
+          divided by what its rate could have carried, refused the number of
+          refused commands, ended is `end` or `spent`
   SIGN    < <= > >= == !=
   VALUE   a number with its unit:
           {listed((named(kind) for kind in UNITS if kind not in ('count', 'index', 'ending')), '; ')};
-          counts of packets, jain and endings have none
-A file has one bound per line, and comments after #. It prints each bound with
-what was measured, and by how much it holds: the value nearest to the bound if
-it names several rows. A value that can't be computed fails, and so does a bound
-that holds whatever happens (`vacuous`: loss >= 0%, jain of one flow, a row that
-only some experiments have). A run in which commands were `refused`, whose steps
-were `spent`, in which packets were dropped for the `budget` or `end` cut a
-sender off (`unsent`) fails too. --allow names what shouldn't.
+          counts of packets, jain and ended have no unit
+A file has one bound per line, and comments after #. Each bound is printed with
+the measured value, and with its margin: the value nearest to the bound if it
+names several rows. A value that can't be computed fails, and so does a bound
+that always holds (`vacuous`: loss >= 0%, jain of one flow, a row that only some
+experiments have). A run also fails if commands were `refused`, if the steps
+were `spent`, if packets were dropped for the `budget`, or if `end` cut off a
+sender (`unsent`). Use --allow to permit these.
 
 Example:
   tools/expect --run scenario.txt --bounds bounds.txt
   ./dnlab alone < scenario.txt | tools/expect - scenario.txt \\
     'train 9: delay.p95 < 50ms' 'all: drops.budget == 0'
 
-Exit status: 0 all hold, 1 one doesn't, 2 wrong usage, what is no bound of this
-report, or a faulty input, 3 what this machine lacks (a package, room to write)."""
+Exit status: 0 all hold, 1 one doesn't, 2 wrong usage, not a bound for this
+report, or a faulty input, 3 something is missing on this machine (a package,
+disk space)."""
 
 
 def words(given: Sequence[str]) -> argparse.Namespace:
     parser = parser_of("expect", __doc__ or "", EXAMPLE)
     is_run = any(word == "--run" or word.startswith("--run=") for word in given)
     add_texts(parser, is_run)
-    parser.add_argument("--run", metavar="SCENARIO", type=a_file, help="run this scenario and judge its report, in place of REPORT")
+    parser.add_argument("--run", metavar="SCENARIO", type=a_file, help="run this scenario and judge its report, instead of REPORT")
     add_names(parser)
     parser.add_argument("--bounds", action="append", default=[], metavar="FILE",
-                        help="a file of bounds; may be said again. Bounds stand also among the words, each in quotes")
-    parser.add_argument("--first", action="store_true", help="look at none after the first that fails")
-    parser.add_argument("--all", action="store_true", help="look at all bounds, as it does anyhow")
+                        help="a file of bounds (repeatable); bounds can also be arguments, each in quotes")
+    parser.add_argument("--first", action="store_true", help="stop at the first bound that fails")
+    parser.add_argument("--all", action="store_true", help="judge all bounds (the default)")
     parser.add_argument("--allow", action="append", default=[], type=allowed, metavar="MARK,..",
                         help=f"don't fail for this: {', '.join(FAILING)}")
     parser.add_argument("-q", "--quiet", action="store_true", help="print only what fails")
     parser.add_argument("--junit", metavar="FILE", help="also write the verdict as JUnit's XML")
     parser.add_argument("--github", action="store_true", help="also print annotations for GitHub Actions, with file and line")
     parser.add_argument("--color", choices=("auto", "always", "never"), default="auto", help="colour the verdicts [on a terminal, unless NO_COLOR is set]")
-    parser.add_argument("--json", action="store_true", help="print an object, amounts in ns, bytes, bit/s, or as shares of 1")
+    parser.add_argument("--json", action="store_true", help="print a JSON object, with values in ns, bytes, bit/s, or as fractions")
     add_span(parser)
     parser.add_argument("--workers", type=count_of, metavar="N",
-                        help="how many processes [all cores if the report is long]")
+                        help="number of processes [all cores if the report is long]")
     said = [word for before, word in zip(["", *given], given) if is_bound(word, before)]
     found = taken(parser, [word for before, word in zip(["", *given], given) if not is_bound(word, before)])
     found.said = said
     found.allow = [word for words in found.allow for word in words]
     if is_run and found.report is not None:
-        parser.error("--run is in place of REPORT and SCENARIO")
+        parser.error("--run replaces REPORT and SCENARIO: leave them out")
     if found.json and found.github:
-        parser.error("--json and --github can't be both")
+        parser.error("--json and --github can't be combined")
     if found.all and found.first:
-        parser.error("--all and --first can't be both")
+        parser.error("--all and --first can't be combined")
     span_in(parser, found)
     if not said and not found.bounds:
-        parser.error(f"no bound: {FORM}")
+        parser.error(f"no bound is given; a bound is {FORM}")
     if [found.report, *found.scenarios, *found.bounds].count("-") > 1:
-        parser.error("standard input can't be two texts")
+        parser.error("standard input can be only one of the files")
     return found
 
 
 def a_file(text: str) -> str:
-    """A scenario's file, which is read twice."""
+    """Returns the name of a scenario file; standard input is refused, since the file is read twice."""
     if text == "-":
-        raise argparse.ArgumentTypeError("it takes a file")
+        raise argparse.ArgumentTypeError("a file is required, since it is read twice")
     return text
 
 
@@ -105,7 +106,7 @@ def allowed(text: str) -> list[str]:
 
 
 def is_bound(word: str, before: str = "") -> bool:
-    """Whether a word is meant as a bound, right or wrong, and not as a file, nor as a name by `--name` before it.
+    """Returns whether an argument is meant as a bound, right or wrong, and not as a file or as the value of `--name`.
 
     >>> is_bound("all: drops < 3"), is_bound("all: drops 3"), is_bound("runs/report.txt"), is_bound("--bounds=a")
     (True, True, False, False)
@@ -117,7 +118,7 @@ def is_bound(word: str, before: str = "") -> bool:
 
 
 def bounds_of(given: argparse.Namespace) -> list[Bound]:
-    """The bounds of the words, then those of the files."""
+    """Returns the bounds of the command line, then those of the files."""
     found = [bound_of(text, f"bound {number}") for number, text in enumerate(given.said, 1)]
     for name in given.bounds:
         found += bounds_in(name, bytes_of(name).decode("utf-8", "replace"))
@@ -125,7 +126,7 @@ def bounds_of(given: argparse.Namespace) -> list[Bound]:
 
 
 def show(judged: Sequence[Judged], failed: Sequence[Failing], given: argparse.Namespace) -> None:
-    """Prints the verdict, and writes it in the other forms that were requested."""
+    """Prints the verdict, and writes it in the other requested formats."""
     if given.junit is not None:
         with whole_file(Path(given.junit)) as file:
             file.write(junit(judged, failed))
@@ -145,33 +146,33 @@ def show(judged: Sequence[Judged], failed: Sequence[Failing], given: argparse.Na
 
 
 def show_line(line: str, holds: bool, is_coloured: bool) -> None:
-    """Prints a line, with its first word in green or red if it is coloured."""
+    """Prints a line, with its first word in green or red if colours are on."""
     if not is_coloured:
         print(line)
         return
     verdict, space, rest = line.partition(" ")
-    # A terminal's stream escapes control characters, except on its way `direct`.
+    # The stream escapes control characters on a terminal, but not what is written to `direct`.
     print(f"\x1b[{32 if holds else 31}m{verdict}\x1b[0m{space}{shown(rest)}", file=getattr(sys.stdout, "direct", sys.stdout))
 
 
 def ran(given: argparse.Namespace) -> Report:
-    """Runs the scenario of `--run`, whose report lives as long as what is returned; from then on it is the report that is judged."""
-    # Here, since only this needs a program.
+    """Runs the scenario of `--run` and returns its report, which becomes the report to judge and lives as long as the result."""
+    # Imported here, because only --run needs a program.
     from dnlab.sweeps.runs import run
 
     try:
         report = run(Path(given.run))
     except OSError as fault:
-        raise Faulty(f"{given.run}: {fault.strerror}") from None
-    except Failed as failed:
-        raise (Lacking if failed.status == MACHINE else Faulty)(f"{given.run}: {failed.said}") from None
+        raise InputError(f"{given.run}: {fault.strerror}") from None
+    except ProgramError as failed:
+        raise (ResourceError if failed.status == MACHINE else InputError)(f"{given.run}: {failed.said}") from None
     given.report, given.scenarios = report.given.report, [given.run]
     return report
 
 
 def main(words_given: Sequence[str]) -> int:
     given = words(words_given)
-    # Here, since the help takes no numpy.
+    # Imported here, so that --help works without numpy.
     from dnlab.analysis.summing import summed, tell
 
     try:
@@ -181,10 +182,10 @@ def main(words_given: Sequence[str]) -> int:
         found = list(summed(Given(given.report, tuple(given.scenarios)), plans, given.experiment,
                             percentiles_for(bounds), workers=given.workers, span=Span(given.begin, given.end)))
         if not found:
-            raise Faulty(f"{given.report}: it has no experiment, so no bound can hold")
+            raise InputError(f"{given.report}: it has no experiment, so no bound can hold")
         judged = list(judge(bounds, [row for one in found for row in one.rows], given.first, given.allow))
         del kept
-    except Faulty as faulty:
+    except InputError as faulty:
         say("expect", faulty)
         return status_of(faulty)
     notes = [(one.name, note) for one in found for note in one.notes]

@@ -12,7 +12,7 @@ from dnlab.emulation import guest_plan, kernel_cache, network_check, run, shell
 from dnlab.emulation.experiment import Experiment
 from dnlab.emulation.terminal import Terminal
 from dnlab.emulation.verdict import Options
-from dnlab.errors import Failed, Faulty, Lacking, status_of
+from dnlab.errors import InputError, ProgramError, ResourceError, status_of
 from dnlab.processes import ending
 from dnlab.processes.rooms import Room
 from dnlab.programs import say
@@ -47,17 +47,17 @@ def parser_of_words() -> argparse.ArgumentParser:
     parser.add_argument("--clock", choices=run.CLOCKS, default="simulated",
                         help="simulated time, or the wall clock of this machine [simulated]")
     parser.add_argument("--limit", type=count_of, metavar="SECONDS",
-                        help="end the run after so much real time [600, or the file's]")
+                        help="end the run after this much real time [600, or the file's]")
     parser.add_argument("--late-bound", type=time_of, default=10**6, metavar="TIME",
-                        help="by the wall clock: the greatest 99th percentile of lateness [1ms]")
+                        help="with --clock wall: the largest allowed 99th percentile of lateness [1ms]")
     parser.add_argument("--verify", action=argparse.BooleanOptionalAction, default=True,
-                        help="run the transcript by `dnlab alone` and compare the reports")
+                        help="run the transcript with `dnlab alone` and compare the reports")
     other = parser.add_mutually_exclusive_group()
     other.add_argument("--check", action="store_true", help="check FILE and run nothing")
     other.add_argument("--table", metavar="RUN", type=Path,
                        help="print a table of a run's traffic, by host and port")
     other.add_argument("--shell", metavar="WORDS",
-                       help="by the wall clock: open a shell behind a link with these words of `pipe config`")
+                       help="open a shell behind a link with these options of `pipe config`, in real time")
     other.add_argument("--kernel", action="store_true",
                        help="build the guest's kernel if need be, and print its folder")
     return parser
@@ -70,22 +70,22 @@ def words(given: Sequence[str]) -> argparse.Namespace:
     if needs_file and found.file is None:
         parser.error("the following arguments are required: FILE")
     if not needs_file and found.file is not None:
-        parser.error("--table, --shell and --kernel take no FILE")
+        parser.error("--table, --shell and --kernel don't go with FILE")
     if needs_file and not found.check and found.out is None:
         parser.error("the following arguments are required: --out RUN")
     return found
 
 
 def read_file(name: str) -> Experiment:
-    """Returns the experiment of a file, its network checked, after its warnings were printed."""
-    # Here, since the help takes no yaml.
+    """Returns the experiment of a file with its network checked, and prints its warnings."""
+    # Imported here, so that --help works without yaml.
     from dnlab.emulation import hosts_file
 
     try:
         experiment = (hosts_file.experiment_of(sys.stdin.buffer.read(), "standard input", Path("."))
                       if name == "-" else hosts_file.read(Path(name)))
     except OSError as fault:
-        raise Faulty(f"{name}: {fault.strerror}") from None
+        raise InputError(f"{name}: {fault.strerror}") from None
     for warning in network_check.check(experiment):
         say("hosts", warning)
     return experiment
@@ -109,9 +109,9 @@ def run_file(given: argparse.Namespace) -> int:
 
 
 def open_shell(link: str) -> int:
-    """Opens a shell behind a link, by the wall clock."""
+    """Opens a shell behind a link, in real time."""
     if not re.fullmatch(r"[ -~]+", link):
-        raise Faulty(f"--shell {link!r}: expected words of `pipe config`, as 'bw 10Mbit/s delay 20'")
+        raise InputError(f"--shell {link!r}: expected options of `pipe config`, as 'bw 10Mbit/s delay 20'")
     ending.tells(lambda: "the shell was ended")
     with Room() as room, Terminal() as terminal:
         experiment = shell.experiment_of(link, os.environ.get("SHELL") or "/bin/sh", terminal.path)
@@ -122,13 +122,13 @@ def print_table(folder: Path) -> int:
     """Prints the table of a run's traffic."""
     for module in "numpy", "dpkt":
         if importlib.util.find_spec(module) is None:
-            raise Lacking(f"{module} is missing (Debian: apt-get install python3-{module})")
+            raise ResourceError(f"{module} is missing (Debian: apt-get install python3-{module})")
     from dnlab.cli.layout import lines_of, milliseconds
     from dnlab.emulation.traffic import PERCENTILES, rows
 
     found = rows(folder)
     if not found:
-        raise Faulty(f"{folder}: no host sent a packet")
+        raise InputError(f"{folder}: no host sent a packet")
     cells = [["traffic", "protocol", "packets", "lost", *(f"delay p{it} ms" for it in PERCENTILES),
               "throughput Mbit/s", "goodput Mbit/s"]]
     for row in found:
@@ -155,11 +155,11 @@ def main(words_given: Sequence[str]) -> int:
     given = words(words_given)
     try:
         return hosts(given)
-    except (Faulty, OSError) as fault:
+    except (InputError, OSError) as fault:
         said, status = str(fault), status_of(fault)
         if isinstance(fault, OSError) and fault.filename:
             said = f"{fault.filename}: {fault.strerror}"
-    except Failed as failed:
+    except ProgramError as failed:
         said, status = failed.said, failed.status
     say("hosts", said)
     return status

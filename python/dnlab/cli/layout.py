@@ -1,4 +1,4 @@
-"""Rows as a text with columns under each other."""
+"""Rows as text tables with aligned columns."""
 import math
 import re
 from typing import Optional, Sequence
@@ -10,12 +10,12 @@ from dnlab.units import FOR_PEOPLE
 
 
 _COUNTS = ("packets", "delivered", "in_flight", "bytes")
-# Columns of times in ns, and what `grouped` makes of them.
+# Columns with times in ns, also with the suffixes that `grouped` adds.
 _TIME = re.compile(r"^(p[0-9.]+|min|max|mean|jitter|time|first|last|begin|end|fct|ended_at)( mean| ci95)?$")
 
 
 def milliseconds(value: Optional[int], exact: bool = True) -> str:
-    """Nanoseconds as milliseconds, with all digits or with three behind the point (halves upwards).
+    """Returns nanoseconds as milliseconds, with all digits or rounded to three decimals (halves up).
 
     >>> milliseconds(1234567), milliseconds(1234567, exact=False), milliseconds(999500, exact=False)
     ('1.234567', '1.235', '1.000')
@@ -29,7 +29,7 @@ def milliseconds(value: Optional[int], exact: bool = True) -> str:
 
 
 def plain(value: object, exact: bool = True) -> str:
-    """A value as it stands in a table; a fraction with three digits behind the point unless it is to be exact.
+    """Returns a value as shown in a table; fractions have three decimals unless `exact`.
 
     >>> plain(None), plain(0.123456789), plain(7), plain(0.123456789, exact=False)
     ('-', '0.123457', '7', '0.123')
@@ -40,13 +40,13 @@ def plain(value: object, exact: bool = True) -> str:
 
 
 def loss_of(row: Row) -> str:
-    """The drops by cause, in words; of a pipe only CoDel's may be known."""
+    """Returns the drops by cause as text. For pipes only CoDel's drops may be known."""
     parts = [f"{cause}:{row[cause]}" for cause in CAUSES if row[cause] or (cause == "codel" and row["full"] is None)]
     return " ".join(parts) or "none"
 
 
 def ended_of(row: Row, exact: bool) -> str:
-    """How the experiment ended, with both moments where it was cut short."""
+    """Returns how the experiment ended, with both times if it was cut short."""
     if row["ended"] == "end":
         return "end"
     of = "" if row["end"] is None else f" of {milliseconds(row['end'], exact)}"
@@ -54,7 +54,7 @@ def ended_of(row: Row, exact: bool) -> str:
 
 
 def lines_of(cells: Sequence[Sequence[str]], left: Sequence[int]) -> str:
-    """Cells as lines, the first the heading; the columns in `left` are flush left, the others right."""
+    """Returns cells as lines of text, the first the heading. Columns in `left` are left-aligned, the others right-aligned."""
     widths = [max(len(line[place]) for line in cells) for place in range(len(cells[0]))]
     lines = []
     for line in cells:
@@ -65,8 +65,8 @@ def lines_of(cells: Sequence[Sequence[str]], left: Sequence[int]) -> str:
 
 
 def table(rows: Sequence[Row], percentiles: Sequence[Percentile] = PERCENTILES, exact: bool = False) -> str:
-    """The rows of a summary under the names of its columns; times in ms, and fractions, with three digits behind the point
-    unless they are to be exact. All drops stand in one column."""
+    """Returns the rows of a summary as a table. Times are in ms; fractions have three decimals unless `exact`; all drops share one
+    column."""
     times = times_of(percentiles)
     names = ["experiment", "sender", *_COUNTS, "time", "rate", "drops", *times, "goodput", "retransmissions", "fct", "jain", "ended",
              "warnings"]
@@ -82,7 +82,7 @@ def table(rows: Sequence[Row], percentiles: Sequence[Percentile] = PERCENTILES, 
 
 
 def heading(name: str) -> str:
-    """A column's name as it stands above a printed table: with the unit, if that isn't the column's own.
+    """Returns a column's heading in a printed table, with the unit if that differs from the column's own.
 
     >>> heading("p50"), heading("p50 mean"), heading("p50 n"), heading("goodput")
     ('p50 ms', 'p50 mean ms', 'p50 n', 'goodput')
@@ -91,14 +91,14 @@ def heading(name: str) -> str:
 
 
 def _shown(name: str, value: object, exact: bool) -> str:
-    """A value of a column as it is printed."""
+    """Returns a value of a column as printed."""
     if value is None or not _TIME.match(name):
         return plain(value, exact)
     return milliseconds(value, exact) if isinstance(value, int) else plain(float(str(value)) / 10**6, exact)
 
 
 def bare_table(rows: Sequence[Row], exact: bool = False) -> str:
-    """Any rows, with their own names of columns; times, and means of times, in ms; rounded as in `table`."""
+    """Returns any rows with their own column names; times, and means of times, are in ms and rounded as in `table`."""
     names = list(rows[0])
     cells = [[heading(name) for name in names], *([_shown(name, row[name], exact) for name in names] for row in rows)]
     texts = [place for place, name in enumerate(names) if all(isinstance(row[name], str) for row in rows)]
@@ -106,8 +106,8 @@ def bare_table(rows: Sequence[Row], exact: bool = False) -> str:
 
 
 def estimated(row: Row, exact: bool = False) -> str:
-    """A mean with its interval, in the units for people, to two digits of the interval's half width, or to nine behind the
-    point; that of the bootstrap by its ends, since they aren't as far from the mean.
+    """Returns a mean with its confidence interval, in units for people: two significant digits of the interval's half-width, or nine
+    decimals if `exact`. Bootstrap intervals are shown by their ends, since they are not symmetric about the mean.
 
     >>> row = {"unit": "ns", "mean": 31270001.0, "low": 31190001.0, "high": 31350001.0, "method": "t"}
     >>> estimated(row), estimated(row, exact=True)
@@ -130,8 +130,8 @@ def estimated(row: Row, exact: bool = False) -> str:
 
 
 def sweep_table(rows: Sequence[Row], settings: Sequence[str], exact: bool = False) -> str:
-    """The rows of a sweep's table, a line for each setting, a column for each of and stat; times in ms. Marks, if there
-    are any, stand at the end of their line."""
+    """Returns the rows of a sweep as a table: one line per setting, one column per sender and statistic, times in ms. Warnings are
+    at the end of their line."""
     columns = {(row["sender"], row["stat"]): FOR_PEOPLE.get(row["unit"], (row["unit"], 1))[0] for row in rows}
     lines: dict[tuple[str, ...], dict[tuple[str, str], str]] = {}
     marks: dict[tuple[str, ...], dict[str, None]] = {}

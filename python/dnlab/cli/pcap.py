@@ -6,7 +6,7 @@ from typing import TYPE_CHECKING, Iterable, Sequence
 
 from dnlab.analysis.work import Given, pieces_of, plans_of
 from dnlab.cli.words import add_texts, parser_of, taken
-from dnlab.errors import Faulty, Lacking, status_of
+from dnlab.errors import InputError, ResourceError, status_of
 from dnlab.io.outputs import whole_file
 from dnlab.io.pieces import Piece
 from dnlab.programs import say
@@ -15,19 +15,19 @@ if TYPE_CHECKING:
     from dnlab.analysis.view import View
     from dnlab.io.digits import Flags
 
-EXAMPLE = """The scenario must have `@0 trace 1` as the first command of the experiment, and
-leave it on: only then the report has every packet's addresses and size. What
-else a capture has is made up: Ethernet, no SYN and no FIN, sequence numbers
+EXAMPLE = """The first command of the experiment must be `@0 trace 1`, and tracing must stay
+on: only then the report has the addresses and the size of every packet. The
+rest of the capture is made up: Ethernet, no SYN and no FIN, sequence numbers
 from 1 (byte 0 of a flow), the receiver's window (the flow's `window`, if the
-scenario is given). Checksums are over payloads of zeros, of which only the
-headers are kept. A packet's serial number is its IP identification (modulo
-65536); moment 0 is 1970, times are nanoseconds.
+scenario is given). Checksums are computed over payloads of zeros, of which only
+the headers are stored. A packet's serial number is its IP identification
+(modulo 65536); time 0 is 1970, and times are nanoseconds.
 
---at sender has what a capture beside the senders would: segments as they are
-made (also those that are dropped later), acknowledgements as they arrive. So
-counts are those of dnlab-summary: packets, again, and delivered of the
-acknowledgements. --at receiver has segments that arrive, and acknowledgements
-as they are made.
+--at sender captures next to the senders: segments when they are created (also
+those that are dropped later), acknowledgements when they arrive. Its counts
+are those of dnlab-summary: packets, retransmissions, and delivered for
+acknowledgements. --at receiver captures segments when they arrive, and
+acknowledgements when they are created.
 
 It needs python3-dpkt (Debian).
 
@@ -45,14 +45,14 @@ def words(given: Sequence[str]) -> argparse.Namespace:
     parser = parser_of("pcap", __doc__ or "", EXAMPLE)
     add_texts(parser)
     parser.add_argument("--of", action="append", default=[], metavar="PATTERN",
-                        help="only what these send, as 'flow 1', 'flow 1 acks', 'train *'; may be said again [all]")
-    parser.add_argument("--at", choices=("sender", "receiver"), default="sender", help="where it is taken [sender]")
-    parser.add_argument("--out", metavar="FILE", help="what is written, - for standard output [NAME.pcap of each experiment]")
+                        help="only packets of these senders, as 'flow 1', 'flow 1 acks', 'train *' (repeatable) [all]")
+    parser.add_argument("--at", choices=("sender", "receiver"), default="sender", help="where to capture [sender]")
+    parser.add_argument("--out", metavar="FILE", help="the output file, - for standard output [NAME.pcap for each experiment]")
     return taken(parser, list(given))
 
 
 def wanted(view: "View", patterns: Sequence[str]) -> "Flags":
-    """Which packets are of senders of some names. Shape (packets,)."""
+    """Returns which packets belong to the senders that match. Shape (packets,), bool."""
     import numpy as np
 
     found = np.full(len(view.packets), not patterns, dtype=np.bool_)
@@ -61,7 +61,7 @@ def wanted(view: "View", patterns: Sequence[str]) -> "Flags":
         known.append(name)
         found[packets] |= any(fnmatchcase(name, pattern) for pattern in patterns)
     if patterns and not found.any():
-        raise Faulty(f"experiment {view.name}: nothing is sent by {' or '.join(patterns)}: there are {', '.join(known)}")
+        raise InputError(f"experiment {view.name}: no sender matches {' or '.join(patterns)}; the senders are {', '.join(known)}")
     return found
 
 
@@ -78,13 +78,13 @@ def write_one(given: argparse.Namespace, view: "View") -> None:
         with whole_file(name) as file:
             count = capture.write(view, given.at, packets, file)
     except OSError as fault:
-        raise Lacking(f"{name}: {fault.strerror}") from None
+        raise ResourceError(f"{name}: {fault.strerror}") from None
     print(f"{name}: packets: {count}, at the {given.at}")
 
 
 def main(words_given: Sequence[str]) -> int:
     given = words(words_given)
-    # Here, since the help takes no numpy.
+    # Imported here, so that --help works without numpy.
     from dnlab.analysis.summing import tell, whole
     from dnlab.analysis.view import view_of
 
@@ -96,18 +96,18 @@ def main(words_given: Sequence[str]) -> int:
         if given.out:
             pieces = list(pieces)
             if len(pieces) > 1:
-                raise Faulty(f"{given.report}: it has several experiments, and {given.out} takes one: name it by"
+                raise InputError(f"{given.report}: it has several experiments, but {given.out} holds one: choose it with"
                              " --experiment")
         texts = Given(given.report, tuple(given.scenarios))
         for piece in whole(texts, plans, given.experiment, pieces, lambda one: one.name):
             total += 1
             view = view_of(piece, plans, given.report, ", ".join(given.scenarios))
             write_one(given, view)
-            # It converts and doesn't judge: what is said is what the capture lacks.
+            # A conversion judges nothing: the notes say what the capture lacks.
             notes += [(view.name, note) for note in view.notes if note.kind == "spent"]
         if not total:
-            raise Faulty(f"{given.report}: it has no experiment, so there is nothing to write")
-    except Faulty as faulty:
+            raise InputError(f"{given.report}: it has no experiment, so there is nothing to write")
+    except InputError as faulty:
         say("pcap", faulty)
         return status_of(faulty)
     tell("pcap", notes, total)

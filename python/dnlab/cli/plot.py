@@ -1,4 +1,4 @@
-"""Draws a report of dnlab over time: windows, queues, one-way delays, drops."""
+"""Draws a report over time: windows, queues, one-way delays, drops."""
 import argparse
 from functools import partial
 from typing import TYPE_CHECKING, NamedTuple, Optional, Sequence
@@ -11,38 +11,38 @@ from dnlab.analysis.spans import Span
 from dnlab.analysis.work import Given, TooMany, over, plans_of
 from dnlab.cli.design_words import add_design, design_of, picture
 from dnlab.cli.words import add_names, add_texts, count_of, moment_of, parser_of, taken, time_of
-from dnlab.errors import Faulty, status_of
+from dnlab.errors import InputError, status_of
 from dnlab.programs import say
 
 if TYPE_CHECKING:
     from dnlab.analysis.series import Panel
     from dnlab.analysis.view import View
 
-EXAMPLE = """A column for each experiment, a panel for each of --what:
+EXAMPLE = """The picture has a column for each experiment and a panel for each of --what:
   window     congestion window and ssthresh of each flow, at most 16, in
              segments, with losses (x) and timeouts (triangle)
   queue      packets that wait at each pipe, without the one in service, and
              the limit of its queue
   sojourn    one-way delay of each packet, at its delivery
   delivered  data delivered and data through each pipe, cumulative (its former
-             name, rate, is understood)
+             name, rate, still works)
   drops      dropped packets by cause, cumulative
 and on request:
   flight     packets in flight
-  throughput      what was delivered in each --bin of time, Mbit/s, and the
-                  rates of the pipes
+  throughput      data delivered in each --bin of time, Mbit/s, and the rates
+                  of the pipes
   cdf:sojourn, cdf:throughput
                   distribution of the values (CDF)
   box:sojourn, box:throughput
-                  quartiles and median, lines from the 5th to the 95th
+                  quartiles and median, whiskers from the 5th to the 95th
                   percentile, minimum and maximum
-With --overlay all experiments are in one column, each line with its
-experiment's name. --effective adds the effective window, the lesser of cwnd
-and the flow's `window`, as a wide band. --acks adds acknowledgements.
+With --overlay all experiments share one column, and each line has the name of
+its experiment. --effective adds the effective window, the minimum of cwnd and
+the flow's `window`, as a wide band. --acks adds acknowledgements.
 
-Sizes and the moments at which packets were made stand in no line of a report.
-They are worked out from the scenario, and compared with every line; without it
-the panels that need them say so.
+Reports don't contain sizes and the times at which packets are created. They are
+computed from the scenario, and checked against every line; without it, the
+panels that need them say so.
 Long series are thinned without a visible change: each of 1500 intervals of time
 keeps its first, minimum, maximum and last value.
 It needs matplotlib (Debian: apt-get install python3-matplotlib).
@@ -57,13 +57,13 @@ Example:
 
 Exit status: 0 drawn, 2 wrong usage or a faulty input, 3 a file that can't be
 written, or a package that is missing."""
-# More columns than this are wider than any picture that is looked at; more experiments have too many lines.
+# With more columns the picture would be too wide to read; with more experiments it would have too many lines.
 _MOST = 20
 _MOST_OVER = 250
 
 
 class Drawn(NamedTuple):
-    """What one experiment gives to a picture."""
+    """The part of one experiment in a picture."""
     name: str
     panels: "list[Panel]"
     notes: list[Note]
@@ -73,7 +73,7 @@ def chosen(text: str) -> list[str]:
     names = text.split(",")
     for name in names:
         if name not in (*WHAT, *MORE, *ALIASES):
-            raise argparse.ArgumentTypeError(f"{name!r} is none of {','.join((*WHAT, *MORE))}")
+            raise argparse.ArgumentTypeError(f"{name!r} is not one of {','.join((*WHAT, *MORE))}")
     return names
 
 
@@ -82,28 +82,28 @@ def words(given: Sequence[str]) -> argparse.Namespace:
     add_texts(parser)
     add_names(parser)
     parser.add_argument("--only", action="append", default=[], type=lambda text: text.split(","),
-                        metavar="NAME,..", help="only these experiments, with commas between")
+                        metavar="NAME,..", help="only these experiments, separated by commas")
     parser.add_argument("--what", type=chosen, default=list(WHAT),
-                        help=f"panels, with commas between [{','.join(WHAT)}]")
+                        help=f"panels, separated by commas [{','.join(WHAT)}]")
     parser.add_argument("--of", action="append", default=[], metavar="PATTERN",
-                        help="only these senders, as 'flow 1' or 'train *' (not in queue, flight, drops); may be said again")
+                        help="only these senders, as 'flow 1' or 'train *' (not in queue, flight, drops; repeatable)")
     parser.add_argument("--from", type=moment_of, default=0, dest="begin", metavar="TIME",
-                        help="the moment from which on is drawn, as 500ms [0s]")
-    parser.add_argument("--to", type=moment_of, dest="end", metavar="TIME", help="the moment up to which is drawn [the last]")
+                        help="start of the time axis, as 500ms [0s]")
+    parser.add_argument("--to", type=moment_of, dest="end", metavar="TIME", help="end of the time axis [the last event]")
     parser.add_argument("--bin", type=time_of, metavar="TIME",
-                        help="the length of an interval of throughput [1, 2 or 5 with zeros: 50 or more, fewer if packets are few]")
+                        help="length of an interval of throughput [a round number, for 50 intervals or more; fewer if there are few packets]")
     parser.add_argument("--overlay", action="store_true", help="all experiments in one column of panels")
     parser.add_argument("--effective", action="store_true", help="draw effective windows too, as wide bands")
     parser.add_argument("--acks", action="store_true", help="draw acknowledgements too, and pipes that carry nothing else")
     parser.add_argument("--out", type=picture, default="plot.svg", metavar="FILE",
-                        help="what is written, .svg, .png or .pdf [plot.svg]")
+                        help="the output file, .svg, .png or .pdf [plot.svg]")
     add_design(parser, "a sender, a pipe or an experiment, as 'train 9=the call'")
     parser.add_argument("--workers", type=count_of, metavar="N",
-                        help="how many processes [all cores if the report is long]")
+                        help="number of processes [all cores if the report is long]")
     found = taken(parser, list(given))
     found.experiment += [name for names in found.only for name in names]
     if found.end is not None and found.end <= found.begin:
-        parser.error("--to: it must be later than --from")
+        parser.error("--to must be later than --from")
     if found.effective and "window" not in found.what:
         parser.error("--effective goes with --what window")
     if found.bin is not None and not any("throughput" in what for what in found.what):
@@ -113,17 +113,17 @@ def words(given: Sequence[str]) -> argparse.Namespace:
 
 def draw_one(view: "View", what: Sequence[str], span: Span, every: Optional[int], patterns: Sequence[str], effective: bool,
              acks: bool) -> Drawn:
-    """The panels of one experiment, for another process."""
+    """Returns the panels of one experiment. Runs in another process."""
     from dnlab.analysis.series import panel_of
 
     names = [name for name, _ in view.senders]
-    # Of all senders, so before some are chosen.
+    # Computed before --of selects senders, so that it covers all of them.
     notes = view.notes
     if patterns:
         view.senders = [(name, packets) for name, packets in view.senders
                         if any(is_named(name, pattern) for pattern in patterns)]
         if not view.senders:
-            view.more_notes.append(Note("senders", f"--of {' '.join(map(repr, patterns))}: it has {', '.join(names)}"))
+            view.more_notes.append(Note("senders", f"--of {' '.join(map(repr, patterns))}: no sender matches; the senders are {', '.join(names)}"))
     panels = [panel_of(view, one, span, every, effective, acks) for one in what]
     for panel in panels if patterns else []:
         panel.series = [one for one in panel.series if not one.label.startswith("through ")]
@@ -147,19 +147,19 @@ def draw(given: argparse.Namespace) -> list[Drawn]:
             if len(drawn) > most:
                 raise TooMany(f"more than {most}", most)
     except TooMany as many:
-        advice = "name some by --only a,b"
+        advice = "choose some with --only a,b"
         if not given.overlay:
-            advice += ", or lay them over one another by --overlay; tools/summary and tools/sweep compare more by numbers"
+            advice += ", or draw them over one another with --overlay; tools/summary and tools/sweep compare more in numbers"
         where = "in one panel" if given.overlay else "side by side"
-        raise Faulty(f"{given.report}: {many.count} experiments are too many {where} ({most} at most): {advice}") from None
+        raise InputError(f"{given.report}: {many.count} experiments are too many {where} ({most} at most): {advice}") from None
     if not drawn:
-        raise Faulty(f"{given.report}: it has no experiment, so there is nothing to draw")
+        raise InputError(f"{given.report}: it has no experiment, so there is nothing to draw")
     return drawn
 
 
 def main(words_given: Sequence[str]) -> int:
     given = words(words_given)
-    # Here, since the help takes no numpy.
+    # Imported here, so that --help works without numpy.
     from dnlab.analysis.shares import overlaid
     from dnlab.analysis.summing import tell
     from dnlab.plot import pictures
@@ -176,12 +176,12 @@ def main(words_given: Sequence[str]) -> int:
             notes += more
         figure = pictures.figure_of_panels(names, columns, Span(given.begin, given.end), design)
         save(figure, given.out)
-    except Faulty as faulty:
+    except InputError as faulty:
         say("plot", faulty)
         return status_of(faulty)
     except OSError as fault:
         say("plot", f"{given.out}: {fault.strerror}")
         return status_of(fault)
     tell("plot", notes, len(drawn))
-    print(f"{given.out}: experiments: {len(drawn)}, panels of each: {len(given.what)}")
+    print(f"{given.out}: experiments: {len(drawn)}, panels per experiment: {len(given.what)}")
     return 0

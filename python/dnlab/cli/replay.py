@@ -1,4 +1,4 @@
-"""Sends the packets of a capture through a link, and writes it as it leaves."""
+"""Sends the packets of a capture through a link, and writes them as they leave."""
 import argparse
 import itertools
 import sys
@@ -8,7 +8,7 @@ from typing import TYPE_CHECKING, BinaryIO, Callable, Iterator, Optional, Sequen
 
 from dnlab.cli.from_ipfw import traffic_of
 from dnlab.cli.words import moment_of, parser_of, time_of
-from dnlab.errors import Failed, Faulty, cause_of, status_of
+from dnlab.errors import InputError, ProgramError, cause_of, status_of
 from dnlab.io.outputs import whole_file
 from dnlab.io.scenario import Judged
 from dnlab.programs import program, say
@@ -17,19 +17,20 @@ if TYPE_CHECKING:
     from dnlab.io.arrivals import Arrival, Left
     from dnlab.session.replaying import Fate
 
-EXAMPLE = """FILE is a capture (pcap or pcapng; tcp and udp over IPv4) or a table of arrivals
-(CSV, whose first line names the columns: moment in ns or seconds, size, and if
-they are there protocol, source, source_port, target, target_port). Several are
-merged by their moments.
+EXAMPLE = """FILE is a capture (pcap or pcapng; TCP and UDP over IPv4) or a table of arrivals
+(CSV, whose first line names the columns: moment in ns or seconds, size, and
+optionally protocol, source, source_port, target, target_port). Several files
+are merged by time.
 
---link is one pipe for all packets, in the words of `pipe config`. --scenario
-FILE has pipes and rules of your own, whose moments count from the first packet,
-and may have other senders. The ending of --out decides what comes out: a
-capture of nanoseconds (.pcap), with each packet as it came but for its moment,
-or a table (.csv) with what became of each packet. Say --out twice for both.
+--link is one pipe for all packets, with the options of `pipe config`.
+--scenario FILE has pipes and rules of your own, whose times count from the
+first packet, and may have other senders. The extension of --out selects the
+output: a capture with nanoseconds (.pcap), with every packet unchanged except
+for its time, or a table (.csv) with the outcome of each packet. Use --out twice
+for both.
 
-Packets go through `dnlab live` one by one, so the limit is 10000000 steps, some
-3 million packets. --inject writes them as `inject` lines instead, for a
+Packets go through `dnlab live` one by one, so the limit is 10000000 steps,
+about 3 million packets. --inject writes them as `inject` lines instead, for a
 scenario of at most 16777216 bytes.
 
 Example:
@@ -37,70 +38,70 @@ Example:
     --out received.pcap
   tools/replay call.pcap --scenario link.txt --out left.pcap --out fates.csv
 
-Exit status: 0 written, 2 wrong usage or a faulty input, 3 what this machine or
-the program lacks."""
+Exit status: 0 written, 2 wrong usage or a faulty input, 3 something is missing
+on this machine or in the program."""
 
 
 def words(given: Sequence[str]) -> argparse.Namespace:
     parser = parser_of("replay", __doc__ or "", EXAMPLE)
     parser.add_argument("files", nargs="+", metavar="FILE", help="a capture, or a table of arrivals")
     link = parser.add_mutually_exclusive_group(required=True)
-    link.add_argument("--link", metavar="WORDS", help="the pipe that all packets go through, as 'bw 10Mbit/s delay 20 queue 100 codel'")
-    link.add_argument("--scenario", metavar="FILE", help="pipes and rules, each with its moment, or a scenario that has them")
+    link.add_argument("--link", metavar="WORDS", help="the pipe for all packets, as 'bw 10Mbit/s delay 20 queue 100 codel'")
+    link.add_argument("--scenario", metavar="FILE", help="pipes and rules, each with its time, or a scenario that has them")
     out = parser.add_mutually_exclusive_group(required=True)
     out.add_argument("--out", metavar="FILE", action="append", type=out_of,
-                     help="what leaves the link: FILE.pcap or FILE.csv, or - (a capture on standard output); may be said again")
-    out.add_argument("--inject", metavar="FILE", help="a scenario with the packets as `inject` lines; nothing is run")
-    parser.add_argument("--large", choices=("refuse", "cut", "split"), default="refuse", help="what becomes of packets above 1500 bytes [refuse]")
-    parser.add_argument("--align", action="store_true", help="each file begins at the same moment, whatever its clock says")
-    parser.add_argument("--tail", type=time_of, default=10 * 10**9, metavar="TIME", help="how long is waited for the last packets [10s]")
-    parser.add_argument("--begin", type=moment_of, default=0, metavar="TIME", help="the moment of the first packet on the link [0]")
+                     help="the output of the link: FILE.pcap or FILE.csv, or - for a capture on standard output (repeatable)")
+    out.add_argument("--inject", metavar="FILE", help="write a scenario with the packets as `inject` lines; run nothing")
+    parser.add_argument("--large", choices=("refuse", "cut", "split"), default="refuse", help="what to do with packets above 1500 bytes [refuse]")
+    parser.add_argument("--align", action="store_true", help="start all files at the same time, whatever their clocks say")
+    parser.add_argument("--tail", type=time_of, default=10 * 10**9, metavar="TIME", help="how long to wait for the last packets [10s]")
+    parser.add_argument("--begin", type=moment_of, default=0, metavar="TIME", help="the time of the first packet on the link [0]")
     parser.add_argument("--seed", type=int, default=1, help="of losses [1]")
-    parser.add_argument("--budget", type=int, default=65535, help="how many packets may be under way [65535]")
+    parser.add_argument("--budget", type=int, default=65535, help="maximum number of packets in flight [65535]")
     found = parser.parse_args(list(given))
     if len(set(found.out or ())) < len(found.out or ()):
-        parser.error("--out: a file twice; a capture and a table may be asked for, each of a name of its own")
+        parser.error("--out: at most one capture and one table, with different names")
     return found
 
 
 def out_of(text: str) -> str:
-    """A file that is written, whose ending says what.
+    """Returns the name of an output file, after checking its extension.
 
     >>> out_of("left.pcap"), out_of("fates.csv"), out_of("-")
     ('left.pcap', 'fates.csv', '-')
     """
     if text != "-" and not text.endswith((".pcap", ".csv")):
-        raise argparse.ArgumentTypeError(f"{text!r} ends neither in .pcap (a capture) nor in .csv (a table)")
+        raise argparse.ArgumentTypeError(f"{text!r} must end in .pcap (a capture) or .csv (a table)")
     return text
 
 
 def link_of(given: argparse.Namespace, head: str) -> list[tuple[int, str]]:
-    """The commands of the link, judged as the program would."""
+    """Returns the commands of the link, each with its time, after checking them as the program would."""
     if given.scenario is not None:
         return traffic_of(given.scenario)
     commands = [(0, f"pipe 1 config {given.link}"), (0, "add 100 pipe 1 ip from any to any")]
     text = "".join([head + "\n", *(f"@{moment} {command}\n" for moment, command in commands), "@0 end\n"])
     fault = Judged(text.encode("ascii", "replace")).fault if given.link.isprintable() else (2, "badcharacter")
     if fault:
-        raise Faulty("--link: " + ("a word is wrong" if fault[0] == 2 else "the experiment's seed or budget is wrong")
-                     + f" ({fault[1]}): it takes the words behind `pipe config`, as 'bw 10Mbit/s delay 20 queue 100'")
+        raise InputError("--link: " + ("an option is wrong" if fault[0] == 2 else "the experiment's seed or budget is wrong")
+                     + f" ({fault[1]}): expected options of `pipe config`, as 'bw 10Mbit/s delay 20 queue 100'")
     return commands
 
 
 def came(given: argparse.Namespace, left: "Left") -> "tuple[int, Iterator[Arrival]]":
-    """The moment of the first packet, and all of them, by their moments."""
+    """Returns the time of the first packet (ns), and all packets in order of time."""
     from dnlab.io import arrivals
 
     files = [arrivals.of_file(name, left) for name in given.files]
     found = arrivals.fitting(arrivals.merged(files, given.align), given.large, left)
     first = next(found, None)
     if first is None:
-        raise Faulty(f"{', '.join(given.files)}: no packet of tcp or udp over IPv4 in it" + (f" ({left.told()})" if left else ""))
+        raise InputError(f"{', '.join(given.files)}: no TCP or UDP packet over IPv4" + (f" ({left.told()})" if left else ""))
     return first.moment, itertools.chain([first], found)
 
 
 def run(given: argparse.Namespace, head: str, left: "Left") -> str:
-    """Sends the packets through the link; what is said of them."""
+    """Sends the packets through the link and returns a summary."""
     from dnlab.session import replaying
 
     link = link_of(given, head)
@@ -135,7 +136,7 @@ def _writer(given: argparse.Namespace, name: str, begin: int, stack: ExitStack) 
 
 def main(words_given: Sequence[str]) -> int:
     given = words(words_given)
-    # Here, since the help takes no dpkt.
+    # Imported here, so that --help works without dpkt.
     from dnlab.io.arrivals import Left
     from dnlab.session import replaying
 
@@ -152,8 +153,8 @@ def main(words_given: Sequence[str]) -> int:
             with whole_file(given.inject) as file:
                 file.write(text.encode("ascii"))
             said = f"{text.count(' inject ')} packets"
-    except (Faulty, Failed, OSError) as fault:
+    except (InputError, ProgramError, OSError) as fault:
         say("replay", cause_of(fault))
-        return 3 if isinstance(fault, Failed) else status_of(fault)
+        return 3 if isinstance(fault, ProgramError) else status_of(fault)
     say("replay", f"{said}" + (f"; {left.told()}" if left else ""))
     return 0

@@ -1,4 +1,4 @@
-"""Runs scenarios in parts, here, on other machines by ssh or as a Slurm array."""
+"""Runs scenarios in parts: here, on other machines by ssh, or as a Slurm array."""
 import argparse
 import os
 import shutil
@@ -8,12 +8,12 @@ from pathlib import Path
 from typing import Iterator, Mapping, Optional, Sequence
 
 from dnlab.cli.words import parser_of
-from dnlab.errors import Failed, Refused, cause_of
+from dnlab.errors import ParseError, ProgramError, cause_of
 from dnlab.io.origin import Origin, origin_of, write_beside
 from dnlab.io.outputs import with_name
 from dnlab.io.packed import unpacked
 from dnlab.io.scenario import Judged, read
-from dnlab.io.scenario_parts import MOST_BYTES, MAX_EXPERIMENTS, Plan
+from dnlab.io.scenario_parts import MOST_BYTES, MOST_EXPERIMENTS, Plan
 from dnlab.io.splitting import Fault, Part, experiments_in, heading_fault, lines_in, repeated, shares, texts_of
 from dnlab.processes import children, ending
 from dnlab.processes.crew import Crew
@@ -24,21 +24,21 @@ from dnlab.sweeps.engines import failure, going, put_together
 from dnlab.sweeps.jobs import How, Job, Stop
 
 
-EXAMPLE = """The scenarios are split at their experiments into N parts, each with about as
-many commands. `dnlab alone` runs each part; its report is read and judged
-beside its text. The reports are put together in order: the bytes of
-`dnlab alone < SCENARIO`. Scenarios may be packed by gzip.
+EXAMPLE = """The scenarios are split at their experiments into N parts with about the same
+number of commands. `dnlab alone` runs each part, and each report is checked
+against its scenario. The reports are joined in order, which gives the bytes of
+`dnlab alone < SCENARIO`. Scenarios may be compressed with gzip.
 
-A text may have more than 256 experiments and 16777216 bytes, which `dnlab`
-itself refuses: then there are as many parts as it takes. `dnlab check` reads
-the whole text first, so a fault has the line of the whole text; of several
-texts it has its text's name before it. The report is written when it is whole,
-or not at all. REPORT.json keeps beside it what made it, by which the other
-tools know its scenario again. The program is that of the environment variable
-DNLAB, else the proved one of the repository, else a checked build of its
-sources. By ssh the engine is GNU parallel (Debian: parallel, and rsync on both
-sides). SIGINT, SIGTERM and SIGHUP end it and all that it began; parts that are
-done are kept. docs/howto/many_machines.md says more.
+A scenario may have more than 256 experiments and 16777216 bytes, the limits of
+`dnlab` itself: there are then as many parts as needed. `dnlab check` reads all
+of it first, so a fault has its line in the whole file, after the file's name if
+there are several. The report is written completely or not at all. REPORT.json,
+next to it, records what made it; the other tools use it to recognise the
+scenario. The program is that of the environment variable DNLAB, else the proved
+one of the repository, else a checked build of its sources. --ssh uses GNU
+parallel (Debian: parallel, and rsync on both sides). SIGINT, SIGTERM and SIGHUP
+end the tool and all processes that it started; finished parts are kept. See
+docs/howto/many_machines.md.
 
 Example:
   tools/spread scenario.txt --parts 8 --out report.txt
@@ -46,8 +46,8 @@ Example:
     --out report.txt
 
 Exit status: 0 done; 1 a fault in the scenario (`line L: CAUSE`); 2 wrong usage;
-3 a part failed, a report isn't that of its text, memory was refused, or a read
-or write failed. Ended by a signal, that signal's."""
+3 a part failed, a report doesn't match its scenario, memory ran out, or a read
+or write failed. If a signal ends it, the status is that signal's."""
 
 
 def parser_of_words() -> argparse.ArgumentParser:
@@ -55,16 +55,16 @@ def parser_of_words() -> argparse.ArgumentParser:
     parser.allow_abbrev = False
     parser.add_argument("scenarios", metavar="SCENARIO", nargs="+", help="a scenario, or - for standard input")
     parser.add_argument("--parts", type=int, default=16, metavar="N",
-                        help="how many parts (16), at most as many as there are experiments")
+                        help="number of parts [16], at most the number of experiments")
     parser.add_argument("--jobs", type=int, metavar="J",
-                        help="how many at once: on each machine (its cores), or of the array (as Slurm grants)")
+                        help="parts to run at once: on each machine [its cores], or in the array [as Slurm grants]")
     engine = parser.add_mutually_exclusive_group()
-    engine.add_argument("--ssh", metavar="HOSTS", help="machines, as parallel's --sshlogin has them: 4/alpha,beta")
-    engine.add_argument("--slurm", action="store_true", help="as an array of Slurm; needs --out or --work")
-    parser.add_argument("--program", metavar="PATH", help="where dnlab is on the other machines (as here)")
-    parser.add_argument("--out", metavar="REPORT", help="the report's file; else standard output")
-    parser.add_argument("--work", metavar="FOLDER", help="where the parts are (REPORT.parts, else a temporary one)")
-    parser.add_argument("--resume", action="store_true", help="keep the parts of the folder that are done")
+    engine.add_argument("--ssh", metavar="HOSTS", help="machines, in the form of parallel's --sshlogin: 4/alpha,beta")
+    engine.add_argument("--slurm", action="store_true", help="run as a Slurm array; needs --out or --work")
+    parser.add_argument("--program", metavar="PATH", help="path of dnlab on the other machines [as here]")
+    parser.add_argument("--out", metavar="REPORT", help="the report's file [standard output]")
+    parser.add_argument("--work", metavar="FOLDER", help="folder for the parts [REPORT.parts, or a temporary one]")
+    parser.add_argument("--resume", action="store_true", help="reuse the finished parts in the folder")
     return parser
 
 
@@ -74,19 +74,19 @@ def words(given: Sequence[str]) -> argparse.Namespace:
     args.given = list(given)
     for name, number in ("--parts", args.parts), ("--jobs", args.jobs):
         if number is not None and number < 1:
-            parser.error(f"{name} {number}: 1 or more are needed")
+            parser.error(f"{name} {number}: must be at least 1")
     if args.scenarios.count("-") > 1:
-        parser.error("standard input can't be two scenarios")
+        parser.error("only one scenario can be - (standard input)")
     if args.work is None and args.out is not None:
         args.work = args.out + ".parts"
     if args.work is None and (args.slurm or args.resume):
         parser.error("--slurm and --resume need --out or --work")
     if args.program is not None and not (args.slurm or args.ssh):
-        parser.error("--program goes with --ssh or --slurm (here DNLAB names the program)")
+        parser.error("--program goes with --ssh or --slurm (on this machine, DNLAB names the program)")
     if args.out is not None and os.path.exists(args.out) and not os.path.isfile(args.out):
-        parser.error(f"--out {args.out}: it is no regular file")
+        parser.error(f"--out {args.out}: not a regular file")
     if args.out is not None and not os.path.isdir(os.path.dirname(args.out) or "."):
-        parser.error(f"--out {args.out}: its folder isn't there")
+        parser.error(f"--out {args.out}: its folder does not exist")
     fault = how_of(args).fault()
     if fault is not None:
         parser.error(fault)
@@ -94,23 +94,24 @@ def words(given: Sequence[str]) -> argparse.Namespace:
 
 
 def how_of(args: argparse.Namespace) -> How:
-    """How the words have it run."""
+    """Returns the options of the run."""
     return How(args.parts, args.jobs, args.ssh, args.slurm, args.program, args.work, args.resume)
 
 
 def text_of(name: str) -> bytes:
     try:
-        # Descriptor 0 itself, since Python has no standard input where it is closed.
+        # Opens descriptor 0 itself, because Python has no standard input if it is closed.
         with open(0 if name == "-" else name, "rb") as file:
             return unpacked(file.read())
     except OSError as error:
         raise Stop(3, f"spread: {name}: {error.strerror}\n") from error
-    except Refused as refused:
+    except ParseError as refused:
         raise Stop(2, f"spread: {name}: {refused}\n") from None
 
 
 def counted(program: str, text: bytes) -> "Fault | tuple[int, int]":
-    """How many experiments and commands the program finds, or the fault; what isn't either ends the run."""
+    """Returns the number of experiments and commands, as counted by `dnlab check`, or the fault. Raises `Stop` for any other
+    answer."""
     done = children.run([program, "check"], text)
     said = done.said()
     number, _, cause = said[5:].partition(": ")
@@ -125,9 +126,9 @@ def counted(program: str, text: bytes) -> "Fault | tuple[int, int]":
 
 
 def judged(program: str, text: bytes, parts: Sequence[Part], names: set[str]) -> "Fault | tuple[int, int]":
-    """The same of a text of any length: it is checked in as many texts as the program takes. A name that another text
-    has is a fault too."""
-    if len(text) <= MOST_BYTES and len(parts) <= MAX_EXPERIMENTS:
+    """Like `counted`, for a scenario of any length, which is checked in as many pieces as the program's limits require. An experiment
+    name that another file has is also a fault."""
+    if len(text) <= MOST_BYTES and len(parts) <= MOST_EXPERIMENTS:
         found = counted(program, text)
         return first_of(found, repeated(parts, names))
     head = Judged(text[:next(lines_in(text), (len(text), b"", 0))[0]], limited=False).fault
@@ -143,7 +144,7 @@ def judged(program: str, text: bytes, parts: Sequence[Part], names: set[str]) ->
         if isinstance(found, Fault):
             found = Fault(found.line + piece[0].line - 1, found.cause)
             if found.cause == "noend" and place + 1 < len(pieces):
-                # The heading behind it: its own words are judged before that an `end` is missing.
+                # The next heading: its own options are checked before a missing `end`.
                 found = Fault(found.line, heading_fault(pieces[place + 1][0].text) or "noend")
         found = first_of(found, repeated(piece, names))
         if isinstance(found, Fault):
@@ -153,14 +154,14 @@ def judged(program: str, text: bytes, parts: Sequence[Part], names: set[str]) ->
 
 
 def first_of(found: "Fault | tuple[int, int]", again: Optional[Part]) -> "Fault | tuple[int, int]":
-    """The first of a fault that was found and a name that stood before."""
+    """Returns the first of a fault and a repeated name."""
     if again is None or (isinstance(found, Fault) and found.line <= again.line):
         return found
     return Fault(again.line, "samename")
 
 
 def experiments_of(args: argparse.Namespace, program: str) -> list[Part]:
-    """The experiments of all texts; a fault ends the run with its line, and its text's name where there are several."""
+    """Returns the experiments of all files. Raises `Stop` with the line of a fault, after the file's name if there are several."""
     everything: list[Part] = []
     names: set[str] = set()
     for name in args.scenarios:
@@ -172,7 +173,7 @@ def experiments_of(args: argparse.Namespace, program: str) -> list[Part]:
             raise Stop(1, said if len(args.scenarios) == 1 else f"{name}: {said}")
         own = len(parts), sum(part.commands for part in parts)
         if own != found:
-            raise Stop(3, f"spread: {program} counts {found[0]} experiments and {found[1]} commands, spread others\n")
+            raise Stop(3, f"spread: {program} counts {found[0]} experiments and {found[1]} commands, but spread counts others\n")
         everything += parts
     return everything
 
@@ -189,17 +190,17 @@ def judged_part(whole: str, text: str) -> Optional[str]:
         for piece in pieces(whole):
             name = f"experiment {piece.name}"
             try:
-                # pieces() counts the report's lines, and people look at one experiment.
+                # pieces() counts lines of the whole report, but the message has the line in one experiment.
                 View(read_piece(piece), plans[piece.name])
-            except Refused as refused:
+            except ParseError as refused:
                 return f"{name}: line {refused.line - piece.line + 1} of its report: {refused.cause}"
-    except Refused as refused:
+    except ParseError as refused:
         return f"{name}: {refused}"
     return None
 
 
 def check(how: How, jobs: Sequence[Job], folder: Path) -> None:
-    """Reads all parts' reports as every other tool does; one that can't be its text's is a part that failed."""
+    """Reads the reports of all parts as the other tools do. A report that cannot belong to its scenario is a failed part."""
     from dnlab.analysis.work import cores
 
     wrong: dict[int, str] = {}
@@ -213,13 +214,13 @@ def check(how: How, jobs: Sequence[Job], folder: Path) -> None:
     for job in jobs:
         if job.number in wrong:
             job.file("whole").unlink()
-            job.wrong = f"its report isn't its text's: {wrong[job.number]}"
+            job.wrong = f"its report does not match its scenario: {wrong[job.number]}"
     if wrong:
         raise failure(how, jobs, [job for job in jobs if job.number in wrong], folder)
 
 
 class Plans(Mapping[str, Plan]):
-    """The experiments of all texts by name, each read when it is asked for: of long texts all take much memory."""
+    """The experiments of all files by name. Each is read on demand, because all of them together can take much memory."""
 
     def __init__(self, parts: Sequence[Part]) -> None:
         self.texts = {part.name: part.text for part in parts}
@@ -235,29 +236,29 @@ class Plans(Mapping[str, Plan]):
 
 
 def origin(args: argparse.Namespace, program: str, parts: Sequence[Part]) -> Origin:
-    """What made the report. Of a program on other machines only the words are known."""
+    """Returns what made the report. For a program on other machines only the command line is known."""
     made = origin_of(Plans(parts), program, ["dnlab-spread", *args.given])
     return made._replace(program="", version="") if args.ssh or args.slurm else made
 
 
 def run_all(how: How, program: str, jobs: Sequence[Job], folder: Path) -> None:
-    """Runs the parts that aren't done, and says how far it is."""
+    """Runs the unfinished parts, and shows the progress."""
     progress: Optional[Progress] = None
     if how.work is not None:
-        ending.tells(lambda: f"{progress.done if progress else 0} of {len(jobs)} parts are kept in {folder}; the same words"
-                             " with --resume run the others")
+        ending.tells(lambda: f"{progress.done if progress else 0} of {len(jobs)} parts are kept in {folder}; the same command"
+                             " with --resume runs the others")
     groups = going(how, program, jobs, folder)
-    # The first group was done before, so it has no part in how long the rest takes.
+    # The first group was finished before, so it does not count for the estimated time.
     with Progress("spread", len(jobs), len(next(groups)), "parts") as progress:
         for finished in groups:
             progress.step(len(finished))
 
 
 def spread(args: argparse.Namespace, named: Optional[str] = None) -> None:
-    """Runs the scenarios in parts, by the program that is named, else that of `dnlab.programs.program`; `Stop` says what went wrong."""
+    """Runs the scenarios in parts, with the named program or that of `dnlab.programs.program`. Raises `Stop` if it fails."""
     try:
         program = named or program_of()
-    except Failed as failed:
+    except ProgramError as failed:
         raise Stop(failed.status, f"spread: {failed.said}\n") from failed
     with with_name(tempfile.gettempdir()):
         how, everything = how_of(args), experiments_of(args, program)
@@ -285,7 +286,7 @@ def main(words_given: Sequence[str]) -> int:
     except Stop as stop:
         sys.stderr.write(str(stop))
         return stop.status
-    except Failed as failed:
+    except ProgramError as failed:
         sys.stderr.write(f"spread: {failed.said}\n")
         return failed.status
     except OSError as error:

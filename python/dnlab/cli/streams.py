@@ -1,16 +1,16 @@
-"""The standard streams of a command: control characters are escaped on their way out, and closed streams fail instead of vanishing."""
+"""The standard streams of a command. Control characters are escaped in the output, and closed streams fail instead of vanishing."""
 import os
 import re
 import sys
 from contextlib import contextmanager
 from typing import Any, Iterator, TextIO, cast
 
-# What steers a terminal: C0 and C1 but tab and line feed, and what turns the direction of the text.
+# Characters that control a terminal: C0 and C1 except tab and line feed, and those that change the direction of text.
 _STEERING = re.compile("[\x00-\x08\x0b-\x1f\x7f-\x9f\u200e\u200f\u2028-\u202e\u2066-\u2069]")
 
 
 def shown(text: str) -> str:
-    r"""Returns a text with each control character as an escape of Python.
+    r"""Returns a text in which each control character is replaced by Python's escape.
 
     >>> shown("a\x1b[2Jb\n")
     'a\\x1b[2Jb\n'
@@ -19,7 +19,7 @@ def shown(text: str) -> str:
 
 
 class _Shown:
-    """A stream of text; `direct` is the stream itself, for what moves the cursor on purpose."""
+    """A text stream that escapes control characters; `direct` is the stream itself, for output that moves the cursor on purpose."""
 
     def __init__(self, direct: TextIO) -> None:
         self.direct = direct
@@ -33,12 +33,13 @@ class _Shown:
 
 
 def _fill() -> None:
-    """Opens what is closed of 0, 1 and 2, so that no file gets their numbers: reading from 0 and writing to 1 is an error then."""
+    """Opens those of 0, 1 and 2 that are closed, so that no file gets their numbers. Reading from 0 and writing to 1 or 2 then
+    fail."""
     for number, mode in ((0, os.O_WRONLY), (1, os.O_RDONLY), (2, os.O_WRONLY)):
         try:
             os.fstat(number)
         except OSError:
-            # The lowest number that is free is this one.
+            # os.open uses the lowest free number, which is this one.
             os.open(os.devnull, mode)
 
 
@@ -54,5 +55,5 @@ def guarded() -> Iterator[None]:
     try:
         yield
     finally:
-        # What was closed stays guarded, for Python's own flush at the end.
+        # Streams that were closed stay guarded, for Python's own flush at exit.
         sys.stdin, sys.stdout, sys.stderr = before[0] or sys.stdin, before[1] or sys.stdout, before[2] or sys.stderr

@@ -1,4 +1,4 @@
-"""Runs a template of a scenario with each setting and each seed, and prints means with their intervals."""
+"""Runs a template with each setting and each seed, and prints means with confidence intervals."""
 from __future__ import annotations
 
 import argparse
@@ -13,7 +13,7 @@ from dnlab.analysis.stats import USUAL, Ask
 from dnlab.cli.layout import plain, sweep_table
 from dnlab.cli.summary import print_csv, print_json
 from dnlab.cli.sweep_words import is_of_programs, look_of, pair_in, words
-from dnlab.errors import Failed, Faulty, status_of
+from dnlab.errors import InputError, ProgramError, status_of
 from dnlab.io.outputs import whole_file
 from dnlab.processes import ending
 from dnlab.programs import say
@@ -27,17 +27,17 @@ if TYPE_CHECKING:
 
 
 def lacking(given: argparse.Namespace) -> str | None:
-    """What a file that is asked for would need and isn't there."""
+    """Returns which package a requested file needs and is missing, or None."""
     is_parquet = given.parquet is not None or any(str(name).endswith(".parquet") for name in (given.each, given.long))
     if is_parquet and importlib.util.find_spec("pyarrow") is None:
-        return "pyarrow is missing, so no Parquet can be written (pip install pyarrow); --csv and --json need nothing"
+        return "pyarrow is missing, so Parquet can't be written (pip install pyarrow); --csv and --json work without it"
     if given.plot is not None and importlib.util.find_spec("matplotlib") is None:
         return "matplotlib is missing (Debian: apt-get install python3-matplotlib)"
     return None
 
 
 def records_of(frame: pd.DataFrame) -> list[dict[str, Any]]:
-    """The rows of a frame, with None for what isn't known."""
+    """Returns the rows of a frame, with None for unknown values."""
     import pandas as pd
 
     return [{name: None if value is pd.NA or value != value else value for name, value in row.items()}
@@ -45,7 +45,7 @@ def records_of(frame: pd.DataFrame) -> list[dict[str, Any]]:
 
 
 def write(frame: pd.DataFrame, name: str, form: str, settings: Sequence[str] = ()) -> None:
-    """Writes a table under its name when it is whole; - is standard output. In CSV settings stand as they were given."""
+    """Writes a table to a file, completely or not at all; - is standard output. In CSV, settings are written as they were given."""
     if form == "csv":
         frame = frame.assign(**{one: [shown(value) for value in frame[one]] for one in settings}).astype(dict.fromkeys(settings, object))
     if name == "-":
@@ -56,7 +56,7 @@ def write(frame: pd.DataFrame, name: str, form: str, settings: Sequence[str] = (
         with whole_file(name) as file:
             write_form(frame, file, form)
     except OSError as fault:
-        raise Failed(3, f"{name}: {fault.strerror}") from None
+        raise ProgramError(3, f"{name}: {fault.strerror}") from None
 
 
 def write_form(frame: pd.DataFrame, file: BinaryIO, form: str) -> None:
@@ -74,7 +74,7 @@ def write_form(frame: pd.DataFrame, file: BinaryIO, form: str) -> None:
 
 
 def write_all(made: Sweep, table: pd.DataFrame, given: argparse.Namespace) -> None:
-    """Writes what is asked for: the table first, then files, and the picture last."""
+    """Writes the requested outputs: the table first, then the files, and the picture last."""
     if "-" not in (given.csv, given.json):
         sys.stdout.write(sweep_table(records_of(table), made.settings, given.exact))
         if given.pairs is not None:
@@ -95,20 +95,21 @@ def write_all(made: Sweep, table: pd.DataFrame, given: argparse.Namespace) -> No
         try:
             design.save(figure, given.plot)
         except OSError as fault:
-            raise Failed(3, f"{given.plot}: {fault.strerror}") from None
+            raise ProgramError(3, f"{given.plot}: {fault.strerror}") from None
 
 
 def pairs_of(made: Sweep, given: argparse.Namespace) -> str:
-    """How the values of a setting differ, as a table for people: a line for each of them, with the other settings."""
+    """Returns how the values of a setting differ, as a table with a line for each value and each combination of the other
+    settings."""
     along, base = pair_in(given.pairs)
     rows = records_of(made.compare(along, base, given.ci, given.interval))
     others = [name for name in made.settings if name != along]
-    return sweep_table([{**row, along: f"{plain(row[along])} less {plain(row['base'])}"} for row in rows], [*others, along],
+    return sweep_table([{**row, along: f"{plain(row[along])} - {plain(row['base'])}"} for row in rows], [*others, along],
                        given.exact)
 
 
 def say_needed(made: Sweep, table: pd.DataFrame, within: float) -> None:
-    """Says how many seeds the intervals take that are wanted, and of whom the most."""
+    """Prints how many seeds the requested intervals need, and which statistic needs the most."""
     seeds = len({case.seed for case in made.cases})
     known = table[table["needed"].notna()]
     untold = len(table) - len(known)
@@ -116,17 +117,17 @@ def say_needed(made: Sweep, table: pd.DataFrame, within: float) -> None:
     if len(short):
         worst = short.loc[short["needed"].astype(float).idxmax()]
         of = ", ".join([str(worst["sender"]), *(f"{name}={worst[name]}" for name in made.settings)])
-        say("sweep", f"--within {within:.3g}: {len(short)} of {len(table)} means need more than the {seeds} seeds here; the"
+        say("sweep", f"--within {within:.3g}: {len(short)} of {len(table)} means need more than the {seeds} seeds of this sweep; the"
               f" most, {worst['needed']}, {worst['stat']} of {of}")
     else:
         say("sweep", f"--within {within:.3g}: {seeds} seeds are enough for {len(known)} of {len(table)} means")
     if untold:
-        say("sweep", f"--within {within:.3g}: of {untold} means it can't be told: fewer than two seeds tell them, they are 0,"
-              " or 10^6 seeds wouldn't do")
+        say("sweep", f"--within {within:.3g}: the number of seeds is unknown for {untold} of {len(table)} means: they have a value under"
+              " fewer than two seeds, are 0, or need more than 10^6 seeds")
 
 
 def say_all(made: Sweep, table: pd.DataFrame) -> None:
-    """Says what there is to say of the experiments and of what is kept."""
+    """Prints the notes, warnings and counts of the sweep."""
     from dnlab.analysis.summing import tell
 
     rows = records_of(table)
@@ -134,19 +135,20 @@ def say_all(made: Sweep, table: pd.DataFrame) -> None:
     seeds = len({case.seed for case in made.cases})
     fewer = [row for row in rows if row["n"] < seeds and not (made.unseeded and row["n"] == 1)]
     if fewer:
-        more = f" (and {len(fewer) - 1} more like it)" if len(fewer) > 1 else ""
-        of = ", ".join([str(fewer[0]["sender"]), *(f"{name}={fewer[0][name]}" for name in made.settings)])
-        say("sweep", f"{fewer[0]['stat']} of {of}: {fewer[0]['n']} of {seeds} experiments tell it{more}")
+        first, others = fewer[0], len(fewer) - 1
+        of = ", ".join(f"{name}={plain(first[name])}" for name in made.settings)
+        more = f"; {others} more means lack values" if others > 1 else "; one more mean lacks values" * others
+        say("sweep", f"{first['stat']} of {first['sender']} has no value in {seeds - first['n']} of {seeds} experiments with {of}{more}")
     for said in filter(None, [made.changeless(), *told_of(rows, made.settings)]):
         say("sweep", said)
     if made.kept.damaged:
-        say("sweep", f"{made.kept.damaged} answers in {made.kept.path} were damaged, and these experiments were run again")
+        say("sweep", f"{made.kept.damaged} results in {made.kept.path} were damaged; these experiments were run again")
     kept = f"{len(made.cases) - made.ran} were kept" + (f" in {made.kept.path}" if made.kept.path else "")
     say("sweep", f"{len(made.cases)} experiments: {made.ran} were run, {kept}")
 
 
 def sweep_of(given: argparse.Namespace) -> tuple[Sweep, str | None]:
-    """The sweep of the words, and the file that keeps its answers, if one does."""
+    """Returns the sweep of the command line, and the file that caches its results, if there is one."""
     from dnlab.sweeps.sweeping import Sweep
 
     asks = [Ask(ask.of, ask.stats or USUAL) for ask in given.asks]
@@ -165,7 +167,7 @@ def sweep_of(given: argparse.Namespace) -> tuple[Sweep, str | None]:
 
 
 def judge(given: argparse.Namespace, made: Sweep) -> None:
-    """Refuses a picture or pairs that the settings don't have, before anything is run."""
+    """Raises `InputError` for a picture or pairs that do not fit the settings, before anything runs."""
     import pandas as pd
 
     from dnlab.analysis.seeds import compared
@@ -186,15 +188,15 @@ def sweep(given: argparse.Namespace) -> int:
     made, kept = sweep_of(given)
     if given.dry_run:
         sys.stdout.write(made.text(made.cases[0]))
-        say("sweep", f"{len(made.cases)} experiments; this is the text of {made.cases[0].told()}")
+        say("sweep", f"{len(made.cases)} experiments; this is the scenario of {made.cases[0].told()}")
         return 0
     judge(given, made)
     ending.tells(lambda: far(made, kept))
     ending.add(made.kept.close)
     try:
         made.run()
-    except Failed as failed:
-        raise Failed(failed.status, f"{failed.said}; {far(made, kept)}") from None
+    except ProgramError as failed:
+        raise ProgramError(failed.status, f"{failed.said}; {far(made, kept)}") from None
     table = made.table(given.ci, given.interval, given.within)
     write_all(made, table, given)
     say_all(made, table)
@@ -204,11 +206,11 @@ def sweep(given: argparse.Namespace) -> int:
 
 
 def far(made: Sweep, kept: str | None) -> str:
-    """How many experiments are done, and where."""
+    """Returns how many experiments are done, and where their results are."""
     done = f"{len(made.found)} of {len(made.cases)} experiments"
     if any(isinstance(stat, Own) for stat in made.stats()):
-        return f"{done} were done; what functions of one's own answer isn't kept, so the same words begin anew"
-    return f"{done} are kept in {kept}; the same words go on" if kept is not None else f"{done} were done, and none is kept"
+        return f"{done} were done; results of your own functions are not kept, so the same command starts again"
+    return f"{done} are kept in {kept}; the same command continues" if kept is not None else f"{done} were done; none is kept"
 
 
 def main(words_given: Sequence[str]) -> int:
@@ -217,11 +219,11 @@ def main(words_given: Sequence[str]) -> int:
     said = lacking(given)
     try:
         if said is not None:
-            raise Failed(3, said)
+            raise ProgramError(3, said)
         return sweep(given)
-    except Faulty as faulty:
+    except InputError as faulty:
         say("sweep", faulty)
         return status_of(faulty)
-    except Failed as failed:
+    except ProgramError as failed:
         say("sweep", failed.said)
         return 3

@@ -1,4 +1,4 @@
-"""The words of `dnlab-sweep`, and what they mean."""
+"""The arguments of `dnlab-sweep`."""
 import argparse
 import os
 from typing import Any, Callable, Mapping, Optional, Sequence, TypeVar
@@ -14,43 +14,43 @@ from dnlab.sweeps.values import value_of
 
 ABOUT = "Runs a template with each setting and seed, and prints means with intervals."
 T = TypeVar("T")
-EXAMPLE = f"""TEMPLATE is a scenario of one experiment in Jinja2 (Debian: python3-jinja2),
-which begins with
+EXAMPLE = f"""TEMPLATE is a scenario of one experiment in Jinja2 (Debian: python3-jinja2)
+that begins with
   experiment {{{{ name }}}} seed {{{{ seed }}}} budget 1000
-It has each setting by its name, and besides
-  name, seed      the experiment's own; the name is made of settings and seed
-  rng             drawn from the seed alone, the same on every machine:
+Each setting is a variable in it. So are
+  name, seed      of the experiment; the name consists of settings and seed
+  rng             random numbers, the same for a seed on every machine:
                   rng.whole(a, b) (a to b, both included),
                   rng.uniform(a, b), rng.exponential(mean),
                   rng.arrivals(mean, end), rng.pareto(shape, least),
                   rng.choice(list, weights), rng.sample(list, n),
                   rng.shuffled(list), rng.random()
-  20 | ms         whole nanoseconds; also s and us
-A value of --set is a number if it can be read as one, else a word; a float is
+  20 | ms         a time in nanoseconds; also s and us
+A value of --set is a number if it can be read as one, else text; floats are
 written without an exponent.
 
 --of     flows (all segments together), trains, 'flow 1', 'flow *' (each flow,
          without its acknowledgements), 'flow 1 acks', 'flow * acks',
-         'train 9', 'train *', injected, 'pipe 1.0', there, back, all;
-         without any: flows, each train and the injected packets
---stat   of the --of before it, with commas between:
+         'train 9', 'train *', injected, 'pipe 1.0', there, back, all
+         [flows, each train and the injected packets]
+--stat   for the --of before it, separated by commas:
          {listed(STATS, indent=9)}
          (N from 1 to 100)
-         without any: {",".join(USUAL)}
-         delay is the time from being made to delivery (of a pipe: in it), lost
-         all drops, drops.lost those by plr; or FILE.py:NAME, a function of
-         one's own, which is given the run (a dnlab.Experiment) and the name,
-         or the run alone, and gives a number
+         [{",".join(USUAL)}]
+         delay is the time from creation to delivery (for pipes: in the pipe),
+         lost all drops, drops.lost those by plr. FILE.py:NAME is a function
+         of your own: it takes the run (a dnlab.Experiment) and optionally the
+         sender's name, and returns a number
 
-What an experiment answered is kept in TEMPLATE.kept by the checksums of its
-text, of the program and of this package. So the same words go on where they
-were broken off, and a new setting, or a template that is changed for some of
-them, runs alone. An experiment with a command that was refused ends the sweep,
-which names it with the line and the reason; so does one whose steps were spent
-before its end. --allow refused, or --allow spent, goes on and marks its rows.
+Results are cached in TEMPLATE.kept, by the checksums of the experiment's text,
+the program and this package. The same command therefore continues after an
+interruption, and only new settings, or those that a changed template affects,
+are run. An experiment with a refused command ends the sweep, with the line and
+the reason; so does one whose steps are spent before its end. With --allow
+refused or --allow spent the sweep continues, and the rows have a warning.
 
---on 4/alpha,beta runs by ssh, --on slurm as an array, and
---on dask tcp://HOST:8786 by a Dask scheduler's workers.
+--on 4/alpha,beta runs through ssh, --on slurm as an array, and
+--on dask tcp://HOST:8786 on the workers of a Dask scheduler.
 
 Example:
   tools/sweep python/examples/bottleneck.tmpl --set queue=10,25,50,100,200 \\
@@ -61,28 +61,28 @@ Example:
     --plot tradeoff.svg --kind tradeoff --label 'train 9=the call'
   tools/sweep python/examples/bottleneck.tmpl --set queue=50 --dry-run
 
-Exit status: 0 done; 2 wrong usage, a fault in the template, in a text made of
-it or in what is asked, an experiment that wasn't run as it is written; 3 the
-program failed, or something is missing. SIGINT, SIGTERM and SIGHUP end it, and
-all that it began, by that signal's status; what was done is kept."""
+Exit status: 0 done; 2 wrong usage, a fault in the template, in a scenario
+made from it or in the arguments, an experiment that did not run as written; 3
+the program failed, or something is missing. SIGINT, SIGTERM and SIGHUP end it
+and all processes that it started, with the signal's status; results are kept."""
 
 
 class Asked(argparse.Action):
-    """Keeps --of and --stat in the order in which they stand: a --stat is about the --of before it."""
+    """Collects --of and --stat in order: each --stat applies to the --of before it."""
 
     def __call__(self, parser: argparse.ArgumentParser, given: argparse.Namespace, value: Any,
                  option: Optional[str] = None) -> None:
         if option == "--of":
             given.asks = [*given.asks, Ask(value, ())]
         elif not given.asks:
-            parser.error(f"--stat {','.join(value)}: the --of that it is about stands before it")
+            parser.error(f"--stat {','.join(value)}: put the --of that it applies to before it")
         else:
             *before, last = given.asks
             given.asks = [*before, Ask(last.of, last.stats + value)]
 
 
 def kind_of(function: Callable[[str], T]) -> Callable[[str], T]:
-    """A reader of words whose refusals argparse tells as they are."""
+    """Returns a converter whose `ValueError` argparse reports with its own text."""
     def read(text: str) -> T:
         try:
             return function(text)
@@ -97,12 +97,12 @@ def level_of(text: str) -> float:
     except ValueError:
         level = 0
     if not 0 < level < 100:
-        raise argparse.ArgumentTypeError(f"{text!r} is no level between 0 and 100, as 95")
+        raise argparse.ArgumentTypeError(f"{text!r} is not a level between 0 and 100, as 95")
     return int(level) if level.is_integer() else level
 
 
 def share_of(text: str) -> float:
-    """A share of 1, as `5%`.
+    """Returns a percentage as a fraction.
 
     >>> share_of("5%"), share_of("0.5")
     (0.05, 0.005)
@@ -112,29 +112,29 @@ def share_of(text: str) -> float:
     except ValueError:
         share = 0
     if not 0 < share < 1:
-        raise argparse.ArgumentTypeError(f"{text!r} is no share between 0% and 100%, as 5%")
+        raise argparse.ArgumentTypeError(f"{text!r} is not a percentage between 0% and 100%, as 5%")
     return share
 
 
-# As `dnlab.plot.looks.KINDS`, which needs matplotlib.
+# Equal to `dnlab.plot.looks.KINDS`, which needs matplotlib.
 PICTURES = ("means", "tradeoff", "ecdf", "box")
 
 
 def add_look(parser: argparse.ArgumentParser) -> None:
-    """The picture and how it is laid out."""
-    parser.add_argument("--plot", type=picture, metavar="FILE", help="a picture, .svg, .png or .pdf")
+    """Adds the options for the picture and its layout."""
+    parser.add_argument("--plot", type=picture, metavar="FILE", help="the picture to write, .svg, .png or .pdf")
     parser.add_argument("--kind", choices=PICTURES, default="means",
-                        help="what it shows: means with their intervals over a setting, one of two statistics against the other,"
-                        " or how the values of the seeds are distributed (ECDF, box plot) [means]")
+                        help="what it shows: means with their intervals over a setting, one statistic against another,"
+                        " or the distribution of the values of the seeds (ECDF, box plot) [means]")
     parser.add_argument("--along", metavar="NAME", help="the setting on the horizontal axis [the first with several values]")
-    parser.add_argument("--rows", metavar="NAME", help="a row of panels for each value of this setting [one row], of each stat")
+    parser.add_argument("--rows", metavar="NAME", help="a row of panels for each value of this setting [one row for each statistic]")
     parser.add_argument("--columns", metavar="NAME", help="a column of panels for each value of this setting")
     parser.add_argument("--log", type=lambda text: text.split(","), default=[], metavar="x,y", help="logarithmic axes")
     add_design(parser, "a setting, a value of it (queue:codel=CoDel), a statistic or a sender")
 
 
 def look_of(given: argparse.Namespace, known: Mapping[str, str] = {}) -> Any:
-    """How the picture is laid out; settings have the labels that are known, unless --label says others."""
+    """Returns the layout of the picture. `known` has labels for settings; --label overrides them."""
     from dnlab.plot.looks import Look
 
     made = design_of(given)
@@ -146,46 +146,46 @@ def parser_of_words() -> argparse.ArgumentParser:
     parser = parser_of("sweep", ABOUT, EXAMPLE)
     parser.add_argument("template", metavar="TEMPLATE", nargs="?",
                         help="the template's file, or - for standard input; FILE.yaml is a hosts file (see tools/hosts)")
-    parser.add_argument("--run", metavar="COMMAND", help="in place of TEMPLATE: a command line with {{ settings }}, which"
+    parser.add_argument("--run", metavar="COMMAND", help="instead of TEMPLATE: a command line with {{ settings }} that"
                         " leaves transcript.txt and report.txt in its current folder")
     parser.add_argument("--set", action="append", default=[], type=kind_of(setting_of), metavar="NAME=VALUE,..",
-                        help="a setting and its values; may be said again, and each is run with each")
+                        help="a setting and its values (repeatable; all combinations are run)")
     parser.add_argument("--seeds", type=kind_of(seeds_of), default=[1], metavar="A-B,C",
-                        help="each setting is run with each seed [1]")
-    parser.add_argument("--of", action=Asked, dest="asks", default=[], metavar="NAME", help="of whom; may be said again")
+                        help="the seeds to run each setting with [1]")
+    parser.add_argument("--of", action=Asked, dest="asks", default=[], metavar="NAME", help="the sender or pipe to measure (repeatable)")
     parser.add_argument("--stat", action=Asked, dest="asks", type=kind_of(stats_of), metavar="STAT,..",
-                        help="which figures of the --of before it")
+                        help="the statistics of the --of before it")
     add_span(parser)
-    parser.add_argument("--ci", type=level_of, default=95, metavar="LEVEL", help="of the intervals, in percent [95]")
+    parser.add_argument("--ci", type=level_of, default=95, metavar="LEVEL", help="confidence level of the intervals, in percent [95]")
     parser.add_argument("--interval", choices=KINDS, default="t",
-                        help="Student's t, or the bootstrap if values are far from normal [t]")
+                        help="Student's t, or the bootstrap for values that are far from normal [t]")
     parser.add_argument("--exact", action="store_true",
-                        help="print means and intervals with nine decimals [two digits of the interval's half width]")
+                        help="print means and intervals with nine decimals [two digits of the interval's half-width]")
     for form, more in ("csv", ", or - for standard output"), ("json", ", or - too"), ("parquet", " (it needs pyarrow)"):
-        parser.add_argument(f"--{form}", metavar="FILE", help=f"the table, a row for each setting, of and stat{more}")
-    parser.add_argument("--each", metavar="FILE", help="a row for each experiment and of, as .csv, .json or .parquet")
-    parser.add_argument("--long", metavar="FILE", help="a row for each experiment, of and stat, in the same forms")
-    parser.add_argument("--pairs", metavar="NAME[=VALUE]", help="print how the values of this setting differ from VALUE [the"
-                        " first], seed by seed, with the interval of the differences; --csv and the others have the means")
+        parser.add_argument(f"--{form}", metavar="FILE", help=f"the table, with one row per setting, sender and statistic{more}")
+    parser.add_argument("--each", metavar="FILE", help="one row per experiment and sender, as .csv, .json or .parquet")
+    parser.add_argument("--long", metavar="FILE", help="one row per experiment, sender and statistic, in the same formats")
+    parser.add_argument("--pairs", metavar="NAME[=VALUE]", help="compare the values of this setting with VALUE [the"
+                        " first], seed by seed, and print the differences with their intervals; --csv and the others have the means")
     parser.add_argument("--within", type=share_of, metavar="PERCENT",
-                        help="say how many seeds an interval of at most so much of the mean to both sides takes, as 5%%")
+                        help="estimate how many seeds you need for an interval of at most +-PERCENT of the mean, as 5%%")
     add_look(parser)
-    parser.add_argument("--dry-run", action="store_true", help="print the first experiment's text, and run nothing")
-    parser.add_argument("--kept", metavar="FILE", help="where answers are kept [TEMPLATE.kept]")
-    parser.add_argument("--anew", action="store_true", help="run all, whatever is kept")
-    parser.add_argument("--workers", type=count_of, metavar="N", help="how many processes [all cores]")
+    parser.add_argument("--dry-run", action="store_true", help="print the scenario of the first experiment, and run nothing")
+    parser.add_argument("--kept", metavar="FILE", help="the file that caches results [TEMPLATE.kept]")
+    parser.add_argument("--anew", action="store_true", help="run all experiments again, whatever is cached")
+    parser.add_argument("--workers", type=count_of, metavar="N", help="number of processes [all cores]")
     parser.add_argument("--on", metavar="HOSTS", help="run on other machines, as 4/alpha,beta (see tools/spread --ssh),"
-                        " as an array of `slurm`, or by `dask ADDRESS`")
-    parser.add_argument("--program", metavar="PATH", help="where dnlab is on the other machines")
+                        " as an array of `slurm`, or with `dask ADDRESS`")
+    parser.add_argument("--program", metavar="PATH", help="path of dnlab on the other machines")
     parser.add_argument("--parts", type=count_of, metavar="N",
-                        help="with --on: in how many parts [each takes about a minute, by ssh 10 s]")
+                        help="with --on: number of parts [parts of about a minute, with ssh 10 s]")
     parser.add_argument("--allow", action="append", choices=STOPPING, default=[],
-                        help="go on if commands were refused, or steps were spent; may be said again")
+                        help="continue if commands were refused, or steps were spent (repeatable)")
     return parser
 
 
 def joined(given: Sequence[str]) -> list[str]:
-    """The words with `--on dask ADDRESS` as one, since an option has one word.
+    """Returns the arguments with `--on dask ADDRESS` joined to one value, because an option has one.
 
     >>> joined(["--on", "dask", "tcp://a:8786", "x"])
     ['--on', 'dask:tcp://a:8786', 'x']
@@ -199,16 +199,16 @@ def joined(given: Sequence[str]) -> list[str]:
 
 
 def is_of_programs(found: argparse.Namespace) -> bool:
-    """Whether programs are run, and not scenarios."""
+    """Returns whether programs are run, instead of scenarios."""
     return found.run is not None or str(found.template).endswith((".yaml", ".yml"))
 
 
 def check_source(parser: argparse.ArgumentParser, found: argparse.Namespace) -> None:
-    """Refuses words without a template or with two, and what programs don't go with."""
+    """Reports a usage error unless there is exactly one source, and for options that don't go with programs."""
     if (found.run is None) == (found.template is None):
-        parser.error("one of TEMPLATE and --run COMMAND is needed" if found.run is None else "--run COMMAND takes no TEMPLATE")
+        parser.error("give TEMPLATE or --run COMMAND" if found.run is None else "--run COMMAND replaces TEMPLATE: leave one out")
     if is_of_programs(found) and (found.on or found.kept or found.anew):
-        parser.error("--on, --kept and --anew don't go with programs: they run here, and their answers are not cached")
+        parser.error("--on, --kept and --anew don't go with programs: they run on this machine, and their results are not cached")
 
 
 def words(given: Sequence[str]) -> argparse.Namespace:
@@ -216,13 +216,13 @@ def words(given: Sequence[str]) -> argparse.Namespace:
     found = parser.parse_args(joined(given))
     names = [name for name, _ in found.set]
     if len(set(names)) < len(names):
-        parser.error("--set: a name twice; its values stand in one, with commas between")
+        parser.error("--set: a name is given twice; put all its values into one --set, separated by commas")
     span_in(parser, found)
     check_source(parser, found)
     if (found.program or found.parts) and not found.on:
-        parser.error("--program and --parts go with --on (here DNLAB names the program)")
+        parser.error("--program and --parts go with --on (on this machine, DNLAB names the program)")
     if found.on in ("dask", DASK):
-        parser.error("--on dask: the scheduler's address stands behind it, as tcp://alpha:8786")
+        parser.error("--on dask: the scheduler's address must follow, as tcp://alpha:8786")
     if (found.csv, found.json).count("-") > 1:
         parser.error("standard output can't be both --csv and --json")
     for option in "csv", "json", "parquet", "each", "long", "plot", "kept":
@@ -230,13 +230,13 @@ def words(given: Sequence[str]) -> argparse.Namespace:
         if name is None or name == "-":
             continue
         if not os.path.isdir(os.path.dirname(name) or "."):
-            parser.error(f"--{option} {name}: its folder isn't there")
+            parser.error(f"--{option} {name}: its folder does not exist")
         if os.path.exists(name) and not os.path.isfile(name):
-            parser.error(f"--{option} {name}: it is no regular file")
+            parser.error(f"--{option} {name}: not a regular file")
     for option in "each", "long":
         name = getattr(found, option)
         if name is not None and name.rsplit(".", 1)[-1] not in ("csv", "json", "parquet"):
-            parser.error(f"--{option} {name}: it ends neither in .csv nor in .json nor in .parquet")
+            parser.error(f"--{option} {name}: the name must end in .csv, .json or .parquet")
     if not found.plot and (found.along or found.rows or found.columns or found.log or found.kind != "means" or is_designed(found)):
         parser.error("--kind, --along, --rows, --columns, --log, --title, --label, --size, --font, --style and --legend go with"
                      " --plot")
@@ -244,7 +244,7 @@ def words(given: Sequence[str]) -> argparse.Namespace:
 
 
 def pair_in(text: str) -> tuple[str, Any]:
-    """The words of `--pairs`: a setting, and the value that the others are compared with (None: the first).
+    """Returns the parts of `--pairs`: a setting, and the value that the others are compared with (None: the first).
 
     >>> pair_in("queue=10"), pair_in("disc")
     (('queue', 10), ('disc', None))

@@ -5,7 +5,7 @@ from typing import TYPE_CHECKING, Iterator, Sequence, cast
 from dnlab.analysis.notes import Note
 from dnlab.analysis.work import Given, TooMany, over, plans_of
 from dnlab.cli.words import add_texts, count_of, parser_of, taken
-from dnlab.errors import Faulty, status_of
+from dnlab.errors import InputError, status_of
 from dnlab.programs import say
 
 if TYPE_CHECKING:
@@ -14,7 +14,8 @@ if TYPE_CHECKING:
 EXAMPLE = """The page has, over one axis of time: the bytes of a flow (sent, sent again,
 acknowledged, dropped), windows, the packets at each pipe, delays, and rates
 with those of the pipes. In the page you choose the experiment, a second one
-beside it, a flow, which changes every panel, and windows in bytes or segments.
+beside it, a flow, which changes every panel, windows in bytes or segments, and
+whether acknowledgements are drawn.
 Zoom by dragging, by its buttons or by the keys + - left right 0; a double click
 shows all. Pointing at a packet shows its journey, a click keeps it; so does its
 serial number in the field `packet`. What has more points than the page has dots
@@ -76,7 +77,7 @@ def main(words_given: Sequence[str]) -> int:
             notes.extend((names[-1], note) for note in own)
             yield found
         if not names:
-            raise Faulty(f"{given.report}: it has no experiment, so there is nothing to draw")
+            raise InputError(f"{given.report}: it has no experiment, so there is nothing to draw")
 
     title = "standard input" if given.report == "-" else given.report
     try:
@@ -84,7 +85,7 @@ def main(words_given: Sequence[str]) -> int:
     except TooMany as many:
         say("view", f"{given.report}: {many}: name some by --experiment")
         return 2
-    except Faulty as faulty:
+    except InputError as faulty:
         say("view", faulty)
         return status_of(faulty)
     except OSError as fault:

@@ -5,7 +5,7 @@ from collections import defaultdict
 from pathlib import Path
 from typing import Iterator, NamedTuple
 
-from dnlab.errors import Faulty
+from dnlab.errors import InputError
 from dnlab.io import arrivals
 from dnlab.io.arrivals import Arrival, Left
 
@@ -54,9 +54,9 @@ def ends_of(packet: Arrival) -> Ends:
 
 
 def received(path: Path, address: str) -> Iterator[Arrival]:
-    """Returns the packets of a capture that were delivered to an address; `Faulty` if it is no capture."""
+    """Returns the packets of a capture that were delivered to an address. Raises `InputError` if it is not a capture."""
     if not path.is_file():
-        raise Faulty(f"{path} is missing: name the folder of a run")
+        raise InputError(f"{path} is missing: name the folder of a run")
     return (packet for packet in arrivals.of_file(str(path), Left()) if packet.target == address)
 
 

@@ -13,7 +13,7 @@ from dnlab.emulation import guest_plan
 from dnlab.emulation.experiment import Experiment
 from dnlab.emulation.kernel_cache import Kernel
 from dnlab.emulation.terminal import Terminal
-from dnlab.errors import Lacking
+from dnlab.errors import ResourceError
 from dnlab.processes import children
 from dnlab.processes.progress import Progress
 
@@ -44,7 +44,7 @@ def run_by_wall_clock(kernel: Kernel, out: Path, limit_s: int, terminal: Optiona
 
     A shell among the programs has a terminal."""
     if not os.access(_TUN, os.R_OK | os.W_OK):
-        raise Lacking(f"{_TUN} cannot be opened, so there are no devices for the hosts: run as root, or type:"
+        raise ResourceError(f"{_TUN} cannot be opened, so there are no devices for the hosts: run as root, or type:"
                       f" chmod 666 {_TUN}")
     words = [str(kernel.file("link")), guest_plan.LINK, guest_plan.PLAN]
     if os.geteuid() != 0:

@@ -8,7 +8,7 @@ from pathlib import Path
 from typing import Iterator
 
 from dnlab.emulation.experiment import Experiment, Host
-from dnlab.errors import Faulty
+from dnlab.errors import InputError
 
 LINK, PLAN = "guest/link.conf", "guest/plan"
 # What the guest leaves.
@@ -94,14 +94,14 @@ def _set_times(out: Path, moment: int) -> None:
 
 
 def empty_folder(out: Path, is_forced: bool) -> None:
-    """Makes the output folder; one that has files is refused (`Faulty`), or emptied if that is forced.
+    """Creates the output folder. Raises `InputError` if it has files, unless `is_forced`, which empties it.
 
-    Only what a run has made is removed: a folder without guest/plan in it is refused in any case."""
+    Removes only what a run has written: a folder without guest/plan in it is refused in any case."""
     if out.is_dir() and any(out.iterdir()):
         if not is_forced:
-            raise Faulty(f"{out} is not empty; name another folder by --out, or overwrite it by --force")
+            raise InputError(f"{out} is not empty; name another folder by --out, or overwrite it by --force")
         if not (out / PLAN).is_file():
-            raise Faulty(f"{out} is not the folder of a run, so --force does not remove it; name another by"
+            raise InputError(f"{out} is not the folder of a run, so --force does not remove it; name another by"
                          " --out")
         for it in out.iterdir():
             shutil.rmtree(it) if it.is_dir() and not it.is_symlink() else it.unlink()

@@ -1,6 +1,6 @@
 """Reads a hosts file (YAML): Shadow's keys where they mean the same, and lines of a scenario as the network.
 
-Every fault is a `Faulty` that begins with FILE:LINE and has the cause and what is expected.
+Every fault is an `InputError` that begins with FILE:LINE and has the cause and what is expected.
 """
 import re
 from pathlib import Path
@@ -29,7 +29,7 @@ _OWN_FILES = ("transcript.txt", "report.txt", "summary.json")
 
 
 def read(path: Path) -> Experiment:
-    """Returns the experiment of a file. `Faulty` for what is wrong, `OSError` if it cannot be read."""
+    """Returns the experiment of a file. Raises `InputError` if it is faulty, `OSError` if it cannot be read."""
     return experiment_of(path.read_bytes(), str(path), path.parent)
 
 

@@ -15,7 +15,7 @@ from contextlib import contextmanager, suppress
 from pathlib import Path
 from typing import Iterator, NamedTuple
 
-from dnlab.errors import Lacking
+from dnlab.errors import ResourceError
 from dnlab.io.outputs import whole_file
 from dnlab.processes import children
 from dnlab.processes.progress import Progress
@@ -50,9 +50,9 @@ class Kernel(NamedTuple):
 
 
 def kernel() -> Kernel:
-    """Returns the kernel of these sources, built if need be. `Lacking` says what is missing.
+    """Returns the kernel of these sources, built if necessary. Raises `ResourceError` with what is missing.
 
-    A line on standard error says if its libdnlab is not proved."""
+    Prints a line on standard error if its libdnlab is not proved."""
     found = _found()
     if found.is_proved is False:
         say("hosts", "libdnlab is the checked build of the sources, not proved: run ./dnlab prove to build"
@@ -65,7 +65,7 @@ def _found() -> Kernel:
     if named:
         return _given(Path(named))
     if not BUILD.is_file():
-        raise Lacking("the sources of the guest's kernel are not here: run tools/hosts of the repository, or"
+        raise ResourceError("the sources of the guest's kernel are not here: run tools/hosts of the repository, or"
                       " name a folder with a built kernel by the environment variable DNLAB_KERNEL")
     cache = cache_folder()
     sources = _fingerprint()
@@ -84,7 +84,7 @@ def _found() -> Kernel:
 
 def _given(folder: Path) -> Kernel:
     if not _is_whole(folder):
-        raise Lacking(f"{folder}, which DNLAB_KERNEL names, has not {', '.join(FILES)}: name a folder that"
+        raise ResourceError(f"{folder}, which DNLAB_KERNEL names, has not {', '.join(FILES)}: name a folder that"
                       " hosts/kernel/build has filled")
     return Kernel(folder.resolve(), hashlib.sha256((folder / "linux").read_bytes()).hexdigest(), None)
 
@@ -94,7 +94,7 @@ def _is_whole(folder: Path) -> bool:
 
 
 def cache_folder() -> Path:
-    """Returns the folder for kernels; says in a line on standard error if it is not the usual one."""
+    """Returns the folder for kernels. Prints a line on standard error if it is not the usual one."""
     named = os.environ.get("XDG_CACHE_HOME", "")
     base = Path(named) if named.startswith("/") else Path(os.environ.get("HOME") or "/nonexistent") / ".cache"
     with suppress(OSError):
@@ -102,7 +102,7 @@ def cache_folder() -> Path:
     try:
         found = _writable(Path(tempfile.gettempdir()) / f"dnlab-hosts-{os.getuid()}")
     except OSError as fault:
-        raise Lacking(f"{fault.filename}: {fault.strerror}: the kernel needs a folder; name one by"
+        raise ResourceError(f"{fault.filename}: {fault.strerror}: the kernel needs a folder; name one by"
                       " XDG_CACHE_HOME") from None
     say("hosts", f"{base} cannot be written, so the kernel is kept in {found}")
     return found
@@ -160,14 +160,14 @@ def _library(prefix: Path) -> tuple[Path, bool | None]:
     In the repository it is made below `prefix`; else it is the installed one, of which that is not known."""
     if not is_repository():
         if not any(place.is_file() for place in _ARCHIVES):
-            raise Lacking(f"{_ARCHIVES[0]} is missing: install dnlab with its library for C (Debian: libdnlab-dev)")
+            raise ResourceError(f"{_ARCHIVES[0]} is missing: install dnlab with its library for C (Debian: libdnlab-dev)")
         return _INSTALLED, None
     words = [str(ROOT / "tools" / "library"), str(prefix)]
     if children.run(words).status == 0:
         return prefix, True
     done = children.run([*words, "--unproved"])
     if done.status:
-        raise Lacking(f"libdnlab cannot be made: {_last(done.errors.decode(errors='replace'))}")
+        raise ResourceError(f"libdnlab cannot be made: {_last(done.errors.decode(errors='replace'))}")
     return prefix, False
 
 
@@ -176,16 +176,16 @@ def _last(said: str) -> str:
     return lines[-1] if lines else "it gave no cause"
 
 
-def _lacking(said: str) -> Lacking:
+def _lacking(said: str) -> ResourceError:
     missing = [line for line in said.splitlines() if line.startswith("missing: ")]
     if missing:
         names = missing[0].removeprefix("missing: ")
-        return Lacking(f"the guest's kernel needs Debian packages; type: apt-get install {names}")
-    return Lacking(f"the guest's kernel cannot be built: {_last(said)}")
+        return ResourceError(f"the guest's kernel needs Debian packages; type: apt-get install {names}")
+    return ResourceError(f"the guest's kernel cannot be built: {_last(said)}")
 
 
 def _build(prefix: Path, work: Path, folder: Path) -> None:
-    """Builds into a working folder, and gives the result its name when it is whole."""
+    """Builds in a working folder, and renames the result when it is complete."""
     say("hosts", "building the guest's kernel, once for these sources: about five minutes on four cores")
     work.mkdir()
     with tempfile.TemporaryFile() as errors, Progress("hosts", 100, unit="% of the kernel") as progress:
@@ -202,7 +202,7 @@ def _build(prefix: Path, work: Path, folder: Path) -> None:
             raise _lacking(errors.read().decode(errors="replace"))
     if not _is_whole(work):
         absent = ", ".join(name for name in FILES if not (work / name).is_file())
-        raise Lacking(f"the guest's kernel cannot be built: {BUILD} left no {absent}")
+        raise ResourceError(f"the guest's kernel cannot be built: {BUILD} left no {absent}")
     partial = folder.with_name(f".{folder.name}.{os.getpid()}")
     partial.mkdir()
     try:

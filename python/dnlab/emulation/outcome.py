@@ -1,4 +1,4 @@
-"""What became of a run's processes, and summary.json."""
+"""The results of a run's processes, and summary.json."""
 import json
 from dataclasses import dataclass
 from pathlib import Path
@@ -37,7 +37,7 @@ class Outcome:
 
     @property
     def is_expected(self) -> bool:
-        """Whether it ended as expected_final_state has it."""
+        """Returns whether it ended as expected_final_state requires."""
         return self.end is not None and self.end.ending == self.process.expected
 
 
@@ -61,7 +61,7 @@ def counts(out: Path) -> dict[str, int]:
 
 
 def told(outcome: Outcome, out: Path) -> str:
-    """Returns in words how a process ended that was expected to end otherwise, with its last lines."""
+    """Returns how a process ended that was expected to end otherwise, with its last lines, as text."""
     process = outcome.process
     got = str(outcome.end.ending) if outcome.end else "did not end"
     if outcome.end and outcome.end.ending == Ending("exited", 127):
@@ -99,7 +99,7 @@ def _rows(found: list[Outcome], host: Host) -> Iterator[dict[str, Any]]:
 
 def summary(experiment: Experiment, kernel: Kernel, ran: Ran, out: Path, clock: str,
             is_repeated: Optional[bool]) -> dict[str, Any]:
-    """Returns what summary.json has. Times are ns (`_ns`) or seconds (`_s`), memory MiB."""
+    """Returns the content of summary.json. Times are ns (`_ns`) or seconds (`_s`), memory MiB."""
     settings, found = experiment.settings, outcomes(experiment, out)
     return {
         "version": VERSION, "file": Path(experiment.file).name, "clock": clock, "seed": experiment.seed,

@@ -5,7 +5,7 @@ from pathlib import Path
 from typing import IO, Iterator
 
 from dnlab.emulation import guest_plan
-from dnlab.errors import Failed
+from dnlab.errors import ProgramError
 from dnlab.io.scenario import MOST_BYTES
 from dnlab.processes import children
 from dnlab.programs import program
@@ -24,7 +24,7 @@ def is_repeated(out: Path) -> bool:
         if status:
             errors.seek(0)
             said = errors.read().decode(errors="replace").strip()
-            raise Failed(3, f"dnlab {command} ended with status {status}: {said}")
+            raise ProgramError(3, f"dnlab {command} ended with status {status}: {said}")
         made.seek(0)
         with open(out / guest_plan.REPORT, "rb") as report:
             parts = _blocks(made) if command == "alone" else _report_lines(made)

@@ -1,4 +1,4 @@
-"""A shell behind a link, by the wall clock."""
+"""A shell behind a link, in real time."""
 import os
 from pathlib import Path
 
@@ -6,7 +6,7 @@ from dnlab.emulation import guest, guest_plan, network_check, outcome, verdict
 from dnlab.emulation.experiment import Experiment, Host, NetworkLine, Process
 from dnlab.emulation.kernel_cache import Kernel
 from dnlab.emulation.terminal import Terminal
-from dnlab.errors import MACHINE, Faulty
+from dnlab.errors import MACHINE, InputError
 from dnlab.programs import say
 
 _LIMIT_S = 10**6
@@ -15,7 +15,7 @@ _LIMIT_S = 10**6
 def experiment_of(link: str, shell: str, terminal: str) -> Experiment:
     """Returns an experiment for a shell on the host `client`, behind a link to the host `server`.
 
-    The link has these words of `pipe config` in each direction; `Faulty` if they are none. The shell opens a
+    The link has these options of `pipe config` in each direction; raises `InputError` if they are invalid. The shell opens a
     terminal by its name, which becomes its controlling terminal."""
     lines = (f"pipe 1 config {link}", f"pipe 2 config {link}", "add 100 pipe 1 ip from 10.0.0.1 to any",
              "add 200 pipe 2 ip from any to 10.0.0.1")
@@ -26,8 +26,8 @@ def experiment_of(link: str, shell: str, terminal: str) -> Experiment:
     made = Experiment("--shell", 10**15, 1, tuple(NetworkLine(0, line, 1) for line in lines), hosts)
     try:
         network_check.check(made)
-    except Faulty as fault:
-        raise Faulty(f"--shell {link!r}: {str(fault).split('network: ', 1)[-1]}") from None
+    except InputError as fault:
+        raise InputError(f"--shell {link!r}: {str(fault).split('network: ', 1)[-1]}") from None
     return made
 
 

@@ -13,7 +13,7 @@ from dnlab.analysis.view import View
 from dnlab.emulation import guest_plan
 from dnlab.emulation.captures import Delivered, Ends, delivered
 from dnlab.emulation.outcome import SUMMARY, VERSION
-from dnlab.errors import Faulty, Refused
+from dnlab.errors import InputError, ParseError
 from dnlab.io import report, scenario
 from dnlab.io.report import Recorded
 from dnlab.io.scenario_parts import Plan
@@ -45,15 +45,15 @@ class Row(NamedTuple):
 
 
 def summary_of(folder: Path) -> dict[str, Any]:
-    """Returns a run's summary; `Faulty` if the folder has none that this version reads."""
+    """Returns a run's summary. Raises `InputError` if the folder has none that this version reads."""
     try:
         found: dict[str, Any] = json.loads((folder / SUMMARY).read_text())
         version = found["version"]
     except (OSError, ValueError, KeyError, TypeError):
-        raise Faulty(f"{folder}/{SUMMARY} is not there or is not a summary: name the folder of a run that"
+        raise InputError(f"{folder}/{SUMMARY} is not there or is not a summary: name the folder of a run that"
                      " ended") from None
     if version != VERSION:
-        raise Faulty(f"{folder}/{SUMMARY} is of version {version}, and this program reads version {VERSION}:"
+        raise InputError(f"{folder}/{SUMMARY} is of version {version}, and this program reads version {VERSION}:"
                      " run the file again")
     return found
 
@@ -89,15 +89,15 @@ def _joined(folder: Path, names: dict[str, str]) -> tuple[View, dict[Ends, Pair]
 
 
 def _read(folder: Path) -> tuple[Plan, Recorded]:
-    """Reads the transcript and the report; `Faulty` if one of them is incomplete."""
+    """Reads the transcript and the report. Raises `InputError` if one of them is incomplete."""
     name = guest_plan.TRANSCRIPT
     try:
         plan = next(iter(scenario.read((folder / name).read_bytes()).values()))
         name = guest_plan.REPORT
         return plan, next(report.read(folder / name))
-    except (Refused, StopIteration, OSError) as fault:
+    except (ParseError, StopIteration, OSError) as fault:
         cause = str(fault) or "it has no experiment"
-        raise Faulty(f"{folder}/{name}: {cause}: name the folder of a run that ended") from None
+        raise InputError(f"{folder}/{name}: {cause}: name the folder of a run that ended") from None
 
 
 def _add(pairs: dict[Ends, Pair], ends: Ends, names: dict[str, str]) -> None:

@@ -59,7 +59,7 @@ def console(out: Path) -> list[str]:
 
 
 def judge(experiment: Experiment, ran: Ran, out: Path, options: Options) -> int:
-    """Prints how a run ended; returns 1 if a process did not end as expected, or the link was late."""
+    """Prints how a run ended. Returns 1 if a process did not end as expected, or the link was late."""
     counts, found = outcome.counts(out), outcome.outcomes(experiment, out)
     wrong = [one for one in found if not one.is_expected]
     for one in wrong:

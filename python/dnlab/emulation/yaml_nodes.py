@@ -1,6 +1,6 @@
 """Reads YAML with the line of each value, so that every fault has one.
 
-A `Faulty` begins with `FILE:LINE: `, the line counted from 1. The text of a value is taken as it is written:
+An `InputError` begins with `FILE:LINE: `, the line counted from 1. The text of a value is taken as it is written:
 `no` is a word and `1:30` is not a number of seconds.
 """
 import difflib
@@ -9,7 +9,7 @@ from typing import Any, Callable, Iterable, Iterator, Mapping, NoReturn, Optiona
 
 import yaml
 
-from dnlab.errors import Faulty
+from dnlab.errors import InputError
 
 T = TypeVar("T")
 _NULL = "tag:yaml.org,2002:null"
@@ -28,8 +28,8 @@ class Value:
         return int(self.node.start_mark.line) + 1
 
     def refuse(self, cause: str, line: Optional[int] = None) -> NoReturn:
-        """Raises `Faulty` with the file, the line and the cause."""
-        raise Faulty(f"{self.file}:{line or self.line}: {self.where + ': ' if self.where else ''}{cause}")
+        """Raises `InputError` with the file, the line and the cause."""
+        raise InputError(f"{self.file}:{line or self.line}: {self.where + ': ' if self.where else ''}{cause}")
 
     def is_empty(self) -> bool:
         """Returns true if nothing is written, or null."""
@@ -158,11 +158,11 @@ def root_of(file: str, text: bytes) -> Value:
         documents: Any = list(yaml.compose_all(text.decode(), Loader=yaml.SafeLoader))
     except UnicodeDecodeError as fault:
         line = text[:fault.start].count(b"\n") + 1
-        raise Faulty(f"{file}:{line}: the byte 0x{text[fault.start]:02x} is not UTF-8; expected a text in"
+        raise InputError(f"{file}:{line}: the byte 0x{text[fault.start]:02x} is not UTF-8; expected a text in"
                      " UTF-8") from None
     except yaml.reader.ReaderError as fault:
         line = text.decode()[:fault.position].count("\n") + 1
-        raise Faulty(f"{file}:{line}: the character #x{_code(fault.character):04x} is not allowed in YAML;"
+        raise InputError(f"{file}:{line}: the character #x{_code(fault.character):04x} is not allowed in YAML;"
                      " expected a text") from None
     except yaml.MarkedYAMLError as fault:
         mark = fault.problem_mark or fault.context_mark
@@ -171,11 +171,11 @@ def root_of(file: str, text: bytes) -> Value:
         begun = context.line + 1 if context and mark and context.line != mark.line else 0
         hint = ("; expected spaces, not tabs, before a key" if "'\\t'" in cause
                 else f" (begun on line {begun}); expected its end" if begun else "; expected YAML")
-        raise Faulty(f"{file}:{mark.line + 1 if mark else 1}: {cause}{hint}") from None
+        raise InputError(f"{file}:{mark.line + 1 if mark else 1}: {cause}{hint}") from None
     except RecursionError:
-        raise Faulty(f"{file}:1: values are nested too deeply; expected general, network and hosts") from None
+        raise InputError(f"{file}:1: values are nested too deeply; expected general, network and hosts") from None
     if len(documents) != 1:
         line = documents[1].start_mark.line + 1 if documents else 1
         cause = "a second document begins" if documents else "the file is empty"
-        raise Faulty(f"{file}:{line}: {cause}; expected one with general, network and hosts")
+        raise InputError(f"{file}:{line}: {cause}; expected one with general, network and hosts")
     return Value(file, documents[0], "")

@@ -1,1 +1,1 @@
-"""Files: scenarios and reports, captures, traces of rates, configurations of ipfw and tc."""
+"""File formats: scenarios and reports, captures, rate traces, configurations of ipfw and tc."""

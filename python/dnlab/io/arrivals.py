@@ -1,7 +1,7 @@
-"""Packets that came somewhere: of a capture (pcap, pcapng; Debian: python3-dpkt) or of a table of arrivals (CSV), as a link takes them.
+"""Arriving packets for a link: from a capture (pcap, pcapng; Debian: python3-dpkt) or a table of arrivals (CSV).
 
-A link takes tcp and udp over IPv4, 40 to 1500 bytes. What is neither is left out and counted; what is shorter counts as 40 bytes;
-what is longer is refused, cut or split, as it is asked for.
+A link accepts TCP and UDP over IPv4, 40 to 1500 bytes. Other packets are left out and counted; shorter ones count as 40 bytes;
+longer ones are refused, cut or split, as requested.
 """
 import csv
 import heapq
@@ -13,23 +13,22 @@ from typing import BinaryIO, Iterable, Iterator, NamedTuple, Optional, Sequence,
 
 import dpkt
 
-from dnlab.errors import Faulty
+from dnlab.errors import InputError
 
 LEAST, MOST = 40, 1500
 ETHERNET, RAW = 1, 101
-# Frames of a capture may stand a few places from where their moments would have them.
-# In ns; what clocks say since 1970 is below it.
+# Frames of a capture may be a few places out of order.
 _LATEST = 2**63
 _DISORDER = 4096
-# Where IP begins behind other links: (the place of its protocol's number, that number's IPv4, where IP begins).
+# Where IP starts on other link types: (offset of the protocol number, its value for IPv4, offset of IP).
 _LINKS = {113: (14, 0x0800, 16), 276: (0, 0x0800, 20)}
 _COLUMNS = ("moment", "seconds", "size", "protocol", "source", "source_port", "target", "target_port")
 _NUMBERS = {6: "tcp", 17: "udp"}
 
 
 class Arrival(NamedTuple):
-    """A packet: its moment in ns (since 1970 in a capture), whom it goes from and to, its size in bytes with the header of IP, and what
-    was kept of it: its bytes from IP on, and those of the link before them (both empty in a table)."""
+    """A packet: its time in ns (since 1970 in a capture), source and target, its size in bytes with the IP header, and its captured bytes:
+    from IP on, and the link header before it (both empty in a table)."""
     moment: int
     protocol: str
     source: str
@@ -41,7 +40,7 @@ class Arrival(NamedTuple):
     before: bytes = b""
 
     def command(self) -> str:
-        """As a scenario has it, without its moment.
+        """Returns it in scenario syntax, without its time.
 
         >>> Arrival(5, "udp", "10.0.0.1", 1000, "10.0.1.1", 2000, 1500).command()
         'inject udp 10.0.0.1 1000 10.0.1.1 2000 1500'
@@ -51,15 +50,15 @@ class Arrival(NamedTuple):
 
 
 class Left(Counter[str]):
-    """How many packets of each kind weren't taken as they are."""
+    """Counts packets that were changed or left out, by kind."""
 
     def told(self) -> str:
-        """In words; '' where all were."""
+        """Returns the counts as text, '' if there are none."""
         return ", ".join(f"{count} {what}" for what, count in sorted(self.items()))
 
 
 def of_file(path: str, left: Left) -> Iterator[Arrival]:
-    """The packets of a capture or of a table, whichever the file is, by their moments. `Faulty` with the packet or line."""
+    """Yields the packets of a capture or a table, in order of time. Raises `InputError` with the packet or line."""
     try:
         with open(path, "rb") as file:
             magic = file.read(4)
@@ -70,13 +69,13 @@ def of_file(path: str, left: Left) -> Iterator[Arrival]:
         with open(path, encoding="utf-8", newline="") as text:
             yield from _in_order(_tabled(text, path), path)
     except OSError as fault:
-        raise Faulty(f"{path}: {fault.strerror}") from None
+        raise InputError(f"{path}: {fault.strerror}") from None
     except UnicodeDecodeError:
-        raise Faulty(f"{path}: it is no capture (pcap or pcapng), and no CSV") from None
+        raise InputError(f"{path}: it is neither a capture (pcap or pcapng) nor CSV") from None
 
 
 def link_of(path: str) -> int:
-    """The link of a capture, by libpcap's numbers; `RAW` of a table."""
+    """Returns the link type of a capture, as libpcap's number; `RAW` for a table."""
     with open(path, "rb") as file:
         begin = file.read(24)
         file.seek(0)
@@ -88,13 +87,13 @@ def link_of(path: str) -> int:
 
 
 def _in_order(arrivals: Iterator[Arrival], path: str) -> Iterator[Arrival]:
-    """By moments, where they are out of order by a few places."""
+    """Yields packets in order of time, if they are only a few places out of order."""
     waiting: list[tuple[int, int, Arrival]] = []
     last = 0
     for number, one in enumerate(arrivals, 1):
         if one.moment < last:
-            raise Faulty(f"{path}: packet {number} came {last - one.moment} ns before one that stands {_DISORDER} places before it: sort"
-                         " it (a capture by reordercap)")
+            raise InputError(f"{path}: packet {number} came {last - one.moment} ns before the packet {_DISORDER} places earlier: sort"
+                         " it (a capture with reordercap)")
         heapq.heappush(waiting, (one.moment, number, one))
         if len(waiting) > _DISORDER:
             last, _, first = heapq.heappop(waiting)
@@ -104,26 +103,26 @@ def _in_order(arrivals: Iterator[Arrival], path: str) -> Iterator[Arrival]:
 
 
 class _Whole:
-    """A file of which dpkt reads: what is cut off within a packet is an error, where dpkt would take the rest for a packet."""
+    """A file for dpkt to read. A packet that is cut off raises an error, where dpkt would accept the rest as a packet."""
 
     def __init__(self, file: BinaryIO, header: int) -> None:
         self._file, self._header = file, header
 
     def read(self, size: int) -> bytes:
-        """So many bytes, or none where another packet would begin."""
+        """Returns this many bytes, or none at the end of the file."""
         data = self._file.read(size)
         if len(data) < size and (data or size != self._header):
-            raise ValueError(f"{size} bytes should follow, and {len(data)} do")
+            raise ValueError(f"{size} bytes should follow, but only {len(data)} do")
         return data
 
 
 def _captured(file: BinaryIO, is_new: bool, path: str, left: Left) -> Iterator[Arrival]:
-    """The packets of a capture, in its order."""
+    """Yields the packets of a capture, in its order."""
     number = 0
     try:
         whole = _Whole(file, 8 if is_new else 16)
         reader = dpkt.pcapng.Reader(whole) if is_new else dpkt.pcap.Reader(whole)
-        # Moments are exact in whole nanoseconds, where a float isn't.
+        # Exact in whole nanoseconds, unlike a float.
         reader._divisor = Decimal(int(reader._divisor))
         link = int(reader.datalink())
         for number, (moment, frame) in enumerate(reader, 1):
@@ -131,11 +130,11 @@ def _captured(file: BinaryIO, is_new: bool, path: str, left: Left) -> Iterator[A
             if found is not None:
                 yield found
     except (dpkt.UnpackError, struct.error, ValueError) as fault:
-        raise Faulty(f"{path}: behind packet {number} it is no capture any more, or is cut off: {fault}") from None
+        raise InputError(f"{path}: after packet {number} it is damaged or cut off: {fault}") from None
 
 
 def _start(link: int, frame: bytes) -> Optional[int]:
-    """Where IPv4 begins in a frame; None where there is none."""
+    """Returns where IPv4 starts in a frame, or None."""
     if link == ETHERNET:
         place = 12
         while frame[place:place + 2] in (b"\x81\x00", b"\x88\xa8"):
@@ -148,7 +147,7 @@ def _start(link: int, frame: bytes) -> Optional[int]:
         return 4
     if link in (12, 14, RAW, 228):
         return 0
-    raise ValueError(f"its link (number {link} of libpcap) isn't known: Ethernet, Linux' cooked ones, loopback and raw IP are")
+    raise ValueError(f"its link (number {link} of libpcap) is not supported: Ethernet, Linux cooked capture, loopback and raw IP are")
 
 
 def _packet(moment: int, link: int, frame: bytes, left: Left) -> Optional[Arrival]:
@@ -170,23 +169,23 @@ def _packet(moment: int, link: int, frame: bytes, left: Left) -> Optional[Arriva
 
 
 def _tabled(text: TextIO, path: str) -> Iterator[Arrival]:
-    """The packets of a table: `moment` (ns) or `seconds`, `size`, and where they aren't the same for all addresses and ports."""
+    """Yields the packets of a table: `moment` (ns) or `seconds`, `size`, and optionally addresses and ports."""
     rows = csv.DictReader(text)
     names = [name.strip() for name in rows.fieldnames or ()]
     rows.fieldnames = names
     unknown = [name for name in names if name not in _COLUMNS]
     if unknown or "size" not in names or ("moment" in names) == ("seconds" in names):
-        raise Faulty(f"{path}: line 1: its first line names the columns: moment (ns) or seconds, size, and where they are there protocol,"
+        raise InputError(f"{path}: line 1: the first line must name the columns: moment (ns) or seconds, size, and optionally protocol,"
                      f" source, source_port, target, target_port{'; not ' + unknown[0] if unknown else ''}")
     try:
         row: "dict[str, str]" = {}
         for row in rows:
             yield _row(row)
     except csv.Error as fault:
-        raise Faulty(f"{path}: line {rows.line_num}: it is no CSV: {fault}") from None
+        raise InputError(f"{path}: line {rows.line_num}: it is not CSV: {fault}") from None
     except (ValueError, ArithmeticError, OSError, TypeError, AttributeError):
-        raise Faulty(f"{path}: line {rows.line_num}: {','.join(str(value) for value in row.values())[:80]!r} is no arrival: a moment, a"
-                     " size in bytes, addresses in numbers, ports up to 65535") from None
+        raise InputError(f"{path}: line {rows.line_num}: {','.join(str(value) for value in row.values())[:80]!r} is not an arrival: expected a time,"
+                     " a size in bytes, numeric addresses, ports up to 65535") from None
 
 
 def _row(row: "dict[str, str]") -> Arrival:
@@ -194,7 +193,7 @@ def _row(row: "dict[str, str]") -> Arrival:
     moment = Decimal(word["moment"]) if "moment" in word else Decimal(word["seconds"]) * 10**9
     ports = [int(word.get(name, default)) for name, default in (("source_port", "1000"), ("target_port", "2000"))]
     ends = [word.get(name, default) for name, default in (("source", "10.0.0.1"), ("target", "10.0.1.1"))]
-    # It is compared before it is a whole number, which may have any number of digits.
+    # Compared before the conversion to an integer, which may have any number of digits.
     if not 0 <= moment <= _LATEST or moment != int(moment) or not all(0 <= port <= 65535 for port in ports):
         raise ValueError
     protocol = word.get("protocol", "udp")
@@ -207,7 +206,7 @@ def _row(row: "dict[str, str]") -> Arrival:
 
 
 def merged(files: Sequence[Iterable[Arrival]], align: bool) -> Iterator[Arrival]:
-    """The packets of several files by their moments; with `align` each file begins at 0, else their clocks are one."""
+    """Yields the packets of several files in order of time. With `align` each file starts at 0, else they share a clock."""
     return iter(heapq.merge(*(_aligned(one) if align else one for one in files), key=lambda one: one.moment))
 
 
@@ -219,13 +218,13 @@ def _aligned(arrivals: Iterable[Arrival]) -> Iterator[Arrival]:
 
 
 def fitting(arrivals: Iterable[Arrival], large: str, left: Left) -> Iterator[Arrival]:
-    """The packets with those above 1500 bytes refused, cut or split (`large`)."""
+    """Yields the packets; those above 1500 bytes are refused, cut or split (`large`)."""
     for number, one in enumerate(arrivals, 1):
         if one.size <= MOST:
             yield one
         elif large == "refuse":
-            raise Faulty(f"packet {number} has {one.size} bytes, and a link takes {MOST}: --large cut takes so many of it, --large split"
-                         " makes several of it, as the sender's card does")
+            raise InputError(f"packet {number} has {one.size} bytes, but a link accepts {MOST}: --large cut shortens it, --large split"
+                         " makes several packets, as a network card does")
         elif large == "cut":
             left[f"cut to {MOST} bytes"] += 1
             yield one._replace(size=MOST, kept=_part(one.kept, MOST, 0, 0, True))
@@ -235,7 +234,7 @@ def fitting(arrivals: Iterable[Arrival], large: str, left: Left) -> Iterator[Arr
 
 
 def _split(one: Arrival) -> Iterator[Arrival]:
-    """Packets of 1500 bytes at most, each with the headers, whose payloads are the packet's."""
+    """Yields packets of at most 1500 bytes, each with the headers, which together have the packet's payload."""
     headers = 40 if one.protocol == "tcp" else 28
     if one.kept:
         begin = (one.kept[0] & 15) * 4
@@ -249,8 +248,8 @@ def _split(one: Arrival) -> Iterator[Arrival]:
 
 
 def _part(kept: bytes, size: int, number: int, place: int, is_last: bool) -> bytes:
-    """What is kept of a part of a packet: its length, number and first byte are its own, and so is the checksum of IP; that of what is
-    within is 0, since not all of it need be there."""
+    """Returns the captured bytes of a part of a packet: its length, identification and first byte are its own, and so is the IP checksum.
+    The inner checksum is 0, because not all bytes may have been captured."""
     if len(kept) < 20:
         return kept
     begin = (kept[0] & 15) * 4

@@ -1,8 +1,8 @@
-"""Reads numbers and words out of an array of bytes, many at once.
+"""Parses numbers and words in an array of bytes, many at once.
 
-A `Text` is a block of bytes with an array of where its words end. Eight bytes are taken at a time as one 64-bit
-number (the first byte lowest), so that a column of numbers costs some twenty operations on whole arrays, however
-many digits it has. All arrays of places are int64 and have the shape (n,) of the words that are asked for.
+A `Text` is a block of bytes with an array of the ends of its words. Eight bytes are processed at a time as one 64-bit number
+(the first byte lowest), so a column of numbers costs about twenty operations on whole arrays, however many digits it has. All
+arrays of positions are int64 and have the shape (n,) of the words to parse.
 """
 from typing import Any, Optional
 
@@ -14,7 +14,7 @@ Bytes = NDArray[np.uint8]
 Words = NDArray[np.uint64]
 Flags = NDArray[np.bool_]
 
-# The most digits of a number that a report has: a moment below 2 * 10^15.
+# The maximum number of digits of a number in a report: a time below 2 * 10^15.
 MOST_DIGITS = 16
 _ZEROS = np.uint64(0x3030303030303030)
 _HIGH = np.uint64(0xF0F0F0F0F0F0F0F0)
@@ -33,31 +33,30 @@ _FILLS = np.array([0x3030303030303030 & ((1 << (8 * (8 - n))) - 1) for n in rang
 class Text:
     """A block of whole lines, with its words.
 
-    `ends` are the places of the spaces and line ends, in order, int64, and with `points` those of points too; a word
-    begins behind the end before.
-    """
+    `ends` are the positions of spaces and line ends, in order, int64, and with `points` also those of points; a word starts after
+    the previous end."""
 
     def __init__(self, block: bytes, points: bool = False) -> None:
         self.block = block
         self.bytes: Bytes = np.frombuffer(block, dtype=np.uint8)
         padded = np.frombuffer(block + bytes(24), dtype=np.uint8)
-        # The eight bytes at each place, overlapping: a view of the same bytes, with a stride of one.
+        # The eight bytes at each position, overlapping: a view of the same bytes with a stride of one.
         self._eights: Any = np.lib.stride_tricks.as_strided(
             padded[:8].view("<u8"), shape=(len(block) + 16,), strides=(1,), writeable=False)
         self.ends: Ints = np.flatnonzero((self.bytes <= 32) | (self.bytes == ord(".")) if points else self.bytes <= 32)
 
     def eight(self, places: Ints) -> Words:
-        """The eight bytes from each place on, as numbers; bytes past the block are 0. Shape (n,), uint64."""
+        """Returns the eight bytes from each position on, as numbers; bytes after the block are 0. Shape (n,), uint64."""
         eights: Words = self._eights[places]
         return eights
 
     def words(self, begins: Ints, lengths: Ints) -> Words:
-        """Words of at most eight bytes as numbers, to be compared with `word_key`. Longer ones are cut."""
+        """Returns words of at most eight bytes as numbers, to be compared with `word_key`. Longer ones are cut."""
         words: Words = self.eight(begins) & _KEEP[np.minimum(lengths, 8)]
         return words
 
     def numbers(self, begins: Ints, ends: Ints) -> tuple[Ints, Flags]:
-        """The decimal numbers between places, and of each whether it is one: 1 to 16 digits without a zero in front."""
+        """Returns the decimal numbers between positions, and whether each is valid: 1 to 16 digits without a leading zero."""
         lengths = ends - begins
         if not len(lengths):
             return lengths, np.ones(0, dtype=np.bool_)
@@ -84,7 +83,7 @@ class Text:
 
 
 def _eight_digits(eights: Words, lengths: Ints) -> tuple[Ints, Flags]:
-    """The numbers of the first `lengths` bytes (0 to 8) of each eight, and whether these are digits."""
+    """Returns the numbers in the first `lengths` bytes (0 to 8) of each eight, and whether these are digits."""
     value = eights << _SHIFTS[lengths]
     value |= _FILLS[lengths]
     empty = lengths == 0
@@ -94,7 +93,7 @@ def _eight_digits(eights: Words, lengths: Ints) -> tuple[Ints, Flags]:
 
 
 def _digits(value: Words) -> tuple[Ints, Flags]:
-    """The numbers that eight digits each are, and whether they are digits; the array is used up."""
+    """Returns the numbers that eight digits each form, and whether they are digits; overwrites the array."""
     check = value + _SIXES
     check &= _HIGH
     check >>= _FOUR
@@ -115,7 +114,7 @@ def _digits(value: Words) -> tuple[Ints, Flags]:
 
 
 def word_key(word: str) -> int:
-    """A word of at most eight bytes as `Text.words` gives it.
+    """Returns a word of at most eight bytes as `Text.words` does.
 
     >>> hex(word_key("ok"))
     '0x6b6f'
@@ -124,7 +123,7 @@ def word_key(word: str) -> int:
 
 
 def line_of(block: bytes, place: int) -> tuple[int, Optional[str]]:
-    """How many lines stand before a place of a block, and the line there (None where it isn't ASCII)."""
+    """Returns the number of lines before a position of a block, and the line there (None if it isn't ASCII)."""
     begin = block.rfind(b"\n", 0, place) + 1
     end = block.find(b"\n", place)
     line = block[begin:end if end >= 0 else len(block)]

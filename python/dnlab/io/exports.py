@@ -1,8 +1,8 @@
-"""What of a scenario is a setting of a machine: its pipes, rules and `one_pass`, and who sends through them."""
+"""The configuration of a machine in a scenario: its pipes, rules and `one_pass`, and its senders."""
 import re
 from typing import NamedTuple, Optional, Sequence
 
-from dnlab.errors import Faulty
+from dnlab.errors import InputError
 from dnlab.io.scenario_parts import Command, Plan
 from dnlab.io.settings import Config, config_of
 
@@ -11,8 +11,8 @@ _UNSEEN = ("show", "trace", "end")
 
 
 class Rule(NamedTuple):
-    """A rule: its number, its action (`allow`, `deny`, `count`, `skipto`, `pipe`) with the number behind it (0 where there is
-    none), the protocol, and addresses and ports of source and destination ('' is any port)."""
+    """A rule: its number, its action (`allow`, `deny`, `count`, `skipto`, `pipe`) with its argument (0 if it has none), the protocol, and
+    addresses and ports of source and destination ('' is any port)."""
     number: int
     action: str
     value: int
@@ -23,14 +23,14 @@ class Rule(NamedTuple):
     target_ports: str
 
     def text(self) -> str:
-        """As it stands in a scenario, without `add`."""
+        """Returns it in scenario syntax, without `add`."""
         action = f"{self.action} {self.value}" if self.value else self.action
         ends = (f"{self.source} {self.source_ports}".strip(), f"{self.target} {self.target_ports}".strip())
         return f"{self.number} {action} {self.protocol} from {ends[0]} to {ends[1]}"
 
 
 def rule_of(text: str) -> Rule:
-    """Reads an `add` command, whose words must be right.
+    """Parses a valid `add` command.
 
     >>> rule_of("add 100 pipe 1 tcp from 10.0.0.0/24 1-9 to any").text()
     '100 pipe 1 tcp from 10.0.0.0/24 1-9 to any'
@@ -47,17 +47,17 @@ def rule_of(text: str) -> Rule:
 
 
 class Setting(NamedTuple):
-    """The commands that set a machine up, in order, and those that send."""
+    """The commands that configure a machine, in order, and those that send."""
     plan: Plan
     sets: tuple[Command, ...]
     sends: tuple[Command, ...]
 
     def rules(self) -> list[Rule]:
-        """In the order in which they are searched."""
+        """Returns the rules in search order."""
         return sorted((rule_of(one.text) for one in self.sets if one.word == "add"), key=lambda rule: rule.number)
 
     def pipes(self) -> dict[int, tuple[Config, str]]:
-        """Of each pipe its last `config`, read and in words."""
+        """Returns the last `config` of each pipe, parsed and as text."""
         return {one.pipe: (config_of(one.line, one.text), one.text) for one in self.sets if one.pipe is not None}
 
     def one_pass(self) -> bool:
@@ -66,27 +66,27 @@ class Setting(NamedTuple):
 
 
 def setting_of(plan: Plan, timed: bool) -> Setting:
-    """What of an experiment sets a machine up. `Faulty` of what comes later than its begin, unless that is asked for, and of
-    what is deleted at its begin."""
+    """Returns the configuration of an experiment. Raises `InputError` for commands after its start, unless `timed`, and for deletions at
+    its start."""
     sets = [one for one in plan.commands if one.word not in (*_SENDS, *_UNSEEN) and one.text != "pipe show"]
     late = next((one for one in sets if one.moment > 0), None)
     if late is not None and not timed:
-        raise Faulty(f"line {late.line}: @{late.moment} {late.text}: only what is set at @0 is written")
+        raise InputError(f"line {late.line}: @{late.moment} {late.text}: only commands at @0 are written")
     return Setting(plan, tuple(sets), tuple(one for one in plan.commands if one.word in _SENDS))
 
 
 def chosen(plans: "dict[str, Plan]", name: Optional[str], file: str) -> Plan:
-    """The experiment that is asked for; `Faulty` where that isn't one."""
+    """Returns the selected experiment. Raises `InputError` if there isn't exactly one."""
     if name is not None and name in plans:
         return plans[name]
     known = ", ".join(plans) or "none"
     if name is not None or len(plans) != 1:
-        raise Faulty(f"{file}: name one experiment by --experiment: it has {known}")
+        raise InputError(f"{file}: choose an experiment with --experiment: it has {known}")
     return next(iter(plans.values()))
 
 
 def iperf_of(sends: Sequence[Command]) -> list[str]:
-    """Commands of iperf3 for flows and for trains of UDP, as comments: of a receiver and of a sender each."""
+    """Returns iperf3 commands for flows and UDP trains, as comments: one for the receiver and one for the sender of each."""
     found = []
     for command in sends:
         one = command.sends
@@ -107,7 +107,7 @@ def iperf_of(sends: Sequence[Command]) -> list[str]:
 
 
 def number_behind(word: str, text: str) -> Optional[str]:
-    """The word behind a word.
+    """Returns the word after a word, or None.
 
     >>> number_behind("target", "pipe 1 config codel target 5ms")
     '5ms'
@@ -117,7 +117,7 @@ def number_behind(word: str, text: str) -> Optional[str]:
 
 
 def printable(text: str) -> str:
-    """A file's name as a comment of a script may have it: one line.
+    """Returns a file's name for a comment of a script: one line.
 
     >>> printable("a\\nrm b")
     'a?rm b'

@@ -1,7 +1,7 @@
-"""Reads lines that inject packets by NumPy, many at once: `@M inject PR A PORT A PORT SIZE`, without needless spaces.
+"""Parses `inject` lines with NumPy, many at once: `@M inject PR A PORT A PORT SIZE`, without extra spaces.
 
-Only lines that docs/reference/scenario.md certainly accepts are taken. All others, and so all faults, are left to
-`dnlab.io.scenario`, which reads them one by one.
+Accepts only lines that are certainly valid (docs/reference/scenario.md). All others, and so all faults, are left to
+`dnlab.io.scenario`, which parses them one by one.
 """
 from typing import Iterator, Union
 
@@ -10,9 +10,9 @@ import numpy as np
 from dnlab.io.digits import Flags, Ints, Text, word_key
 from dnlab.io.scenario_parts import MOMENTS, Run
 
-# How much is read in columns at once, in bytes.
+# How much to read in columns at once, in bytes.
 _BLOCK = 1 << 18
-# What follows each word of such a line, where the numbers of an address are words too, and the range of each number.
+# The character after each word of such a line (the numbers of an address are words too), and the range of each number.
 _ENDS = b"   ...  ...  \n"
 _RANGES = {3: 255, 4: 255, 5: 255, 6: 255, 7: 65535, 8: 255, 9: 255, 10: 255, 11: 255, 12: 65535, 13: 1500}
 _LEAST = 40
@@ -20,8 +20,8 @@ _INJECT, _TCP, _UDP = (np.uint64(word_key(word)) for word in ("inject", "tcp", "
 
 
 def parts_of(text: bytes) -> Iterator[tuple[int, Union[bytes, Run]]]:
-    """Yields the lines of a text of whole lines, in order, each with its number from 1: those that inject together, each other one
-    by itself, but no empty ones."""
+    """Yields the lines of a text of whole lines, in order, each with its number from 1: runs of `inject` lines together, each other line by
+    itself, without empty ones."""
     begin, number = 0, 1
     while begin < len(text):
         end = text.find(b"\n", min(begin + _BLOCK, len(text) - 1)) + 1
@@ -47,7 +47,7 @@ def _without_empty(lines: bytes) -> bytes:
 
 
 def columns_of(text: bytes) -> Ints:
-    """Returns the columns of lines that all inject, as `Run` has them."""
+    """Returns the columns of lines that all inject, as in `Run`."""
     return _read(text)[2] if text else np.zeros((7, 0), dtype=np.int64)
 
 
@@ -72,7 +72,7 @@ def _read(block: bytes) -> tuple[Ints, Flags, Ints]:
 
 
 def _values(text: Text, begins: list[Ints], ends: list[Ints]) -> tuple[Ints, Flags]:
-    """Returns the columns of lines by their words, and which lines have these words and numbers in range."""
+    """Returns the columns of lines by their words, and which lines have valid words and numbers."""
     moment, good = text.numbers(begins[0] + 1, ends[0])
     good &= (text.bytes[begins[0]] == ord("@")) & (moment <= MOMENTS[1])
     good &= text.words(begins[1], ends[1] - begins[1]) == _INJECT

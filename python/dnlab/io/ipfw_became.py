@@ -1,4 +1,4 @@
-"""What lines of ipfw became, and the scenario of it."""
+"""The translations of ipfw lines, and the scenario that they form."""
 import re
 from dataclasses import dataclass
 from typing import Sequence
@@ -8,8 +8,8 @@ from dnlab.io.ipfw_words import REFUSED, SAME
 
 @dataclass(frozen=True)
 class Became:
-    """A line of ipfw, its kind (`same`, `rewritten`, `approximated`, `dropped`, `refused`), the commands of a scenario that it
-    became, without their moment, and what that costs or why it is refused."""
+    """A line of ipfw, its kind (`same`, `rewritten`, `approximated`, `dropped`, `refused`), the scenario commands that it became, without
+    their time, and what that costs or why it is refused."""
     text: str
     kind: str
     moment: int
@@ -18,8 +18,8 @@ class Became:
 
 
 def scenario_of(became: Sequence[Became], head: str, traffic: Sequence[tuple[int, str]], end: int) -> str:
-    """The text of a scenario: each line of ipfw that isn't the same stands above what it became; then the commands of `traffic`,
-    each with its moment, merged by time."""
+    """Returns a scenario: each line of ipfw that is not the same is a comment before its translation; then the commands of `traffic`, each
+    with its time, merged by time."""
     parts: list[tuple[int, str]] = []
     for one in became:
         above = "" if one.kind == SAME else f"# {'refused' if one.kind == REFUSED else 'ipfw'}: {_printable(one.text)}\n"
@@ -30,7 +30,7 @@ def scenario_of(became: Sequence[Became], head: str, traffic: Sequence[tuple[int
 
 
 def _printable(text: str) -> str:
-    """A comment's words: printable ASCII, short enough for a line.
+    """Returns text for a comment: printable ASCII, short enough for a line.
 
     >>> _printable("caf\\u00e9")
     'caf?'

@@ -1,4 +1,4 @@
-"""Lines of ipfw(8) as commands of a scenario, each with what became of it."""
+"""Translates lines of ipfw(8) into commands of a scenario."""
 import re
 from collections import Counter
 from decimal import Decimal
@@ -16,8 +16,8 @@ _TICKS = "not modelled: a real machine rounds to ticks of 1/kern.hz, here time i
 
 
 class Import:
-    """Takes lines one by one; `behind` are prefixes by interface, `me` the machine's address; `flatten` hands from queues to their
-    pipes; `drop_unmatchable` leaves rules out that match no packet that there is here."""
+    """Translates lines one by one. `behind` are prefixes by interface, `me` the machine's address; `flatten` replaces queues by their
+    pipes; `drop_unmatchable` leaves out rules that match no packet of a scenario."""
 
     def __init__(self, behind: Mapping[str, str], me: Optional[str] = None, flatten: bool = False, drop_unmatchable: bool = False,
                  moment: int = 0) -> None:
@@ -26,22 +26,23 @@ class Import:
         self.moment = moment
         self.became: list[Became] = []
         self._tables: dict[str, dict[str, str]] = {}
-        # Of each pipe, scheduler and queue what it is.
+        # The kind of each pipe, scheduler and queue.
         self._pipes: dict[int, list[str]] = {}
         self._schedulers: dict[int, int] = {}
         self._queues: dict[int, int] = {}
-        # How many commands each number's rules have, and whether one of them goes around the others.
+        # How many commands each number's rules have, and whether one of them skips the others.
         self._rules: Counter[int] = Counter()
         self._around: set[int] = set()
         self._step = 100
         self._one_pass = True
-        # Pipes that a later line configures, and whether packets go on after a pipe although one_pass is 1 (for `prob .. deny`).
+        # Pipes that a later line configures, and whether packets continue after a pipe although one_pass is 1 (for `prob ..
+        # deny`).
         self._later: set[int] = set()
         self._goes_on = False
         self._off: set[str] = set()
 
     def take_all(self, lines: Sequence[Line]) -> None:
-        """Takes all lines; sets that are disabled anywhere, pipes and what is denied by chance are known from the beginning."""
+        """Translates all lines. Sets that are disabled anywhere, pipes and random denials are known from the beginning."""
         bare = [line.bare() for line in lines]
         for words in bare:
             if words[:2] == ["set", "disable"]:
@@ -55,7 +56,7 @@ class Import:
             self.take(line)
 
     def take(self, line: Line) -> None:
-        """Takes one line."""
+        """Translates one line."""
         words = line.bare()
         if line.words[0] == "sysctl" and not re.match(r"net\.inet\.ip\.(fw|dummynet)\.|kern\.hz", " ".join(words)):
             return
@@ -77,14 +78,14 @@ class Import:
         self.became.append(Became(line.text(), kind, self.moment, tuple(commands), tuple(self._costs)))
 
     def tally(self) -> dict[str, int]:
-        """How many lines are of each kind."""
+        """Returns how many lines are of each kind."""
         counts = Counter(one.kind for one in self.became)
         return {kind: counts[kind] for kind in KINDS}
 
     def _sleep(self, words: list[str]) -> None:
-        """What comes later in a script comes later in time."""
+        """Advances the time for the lines that follow."""
         if len(words) != 1 or not re.fullmatch(r"[0-9]{1,6}(\.[0-9]{1,9})?s?", words[0]):
-            raise Cannot(f"`sleep {' '.join(words)}`: seconds stand behind it, as 0.5")
+            raise Cannot(f"`sleep {' '.join(words)}`: a number of seconds must follow, as 0.5")
         self.moment += int(Decimal(words[0].rstrip("s")) * 10**9)
 
     def _say(self, how: How) -> str:
@@ -110,7 +111,7 @@ class Import:
 
     def _ipfw(self, words: list[str]) -> Optional[list[str]]:
         if not words:
-            raise Cannot("no command stands behind `ipfw`")
+            raise Cannot("a command must follow `ipfw`")
         first, *rest = words
         if first == "add":
             return self._add(rest)
@@ -129,16 +130,16 @@ class Import:
             return self._delete(rest)
         if first in ("enable", "disable") and rest == ["one_pass"]:
             return self._one_pass_is("1" if first == "enable" else "0")
-        raise Cannot(f"`{first}` isn't here")
+        raise Cannot(f"`{first}` is not supported here")
 
     def _judge_flush(self, is_late: bool, what: str) -> None:
         if is_late:
-            raise Cannot(f"`flush` behind {what}: a scenario begins empty: leave out what stands before")
+            raise Cannot(f"`flush` after {what}: a scenario starts empty, so leave out what precedes it")
 
     def _delete(self, words: list[str]) -> Optional[list[str]]:
         numbers = [int(word) for word in words if word.isdigit()]
         if len(numbers) != len(words) or not numbers:
-            raise Cannot("`delete`: rules' numbers stand behind it")
+            raise Cannot("`delete`: numbers of rules must follow")
         for number in numbers:
             if number not in self._rules:
                 raise Cannot(f"`delete {number}`: no rule has this number")
@@ -152,7 +153,7 @@ class Import:
         name, *rest = words if words else [""]
         if rest[:1] == ["create"]:
             if "type" in rest and rest[rest.index("type") + 1:][:1] != ["addr"]:
-                raise Cannot(f"`table {name}`: tables of addresses alone are here")
+                raise Cannot(f"`table {name}`: only tables of addresses are supported")
             self._tables.setdefault(name, {})
         elif rest[:1] == ["add"] and len(rest) in (2, 3):
             entry = ipfw_words.address(rest[1])
@@ -165,11 +166,11 @@ class Import:
         elif rest[:1] in (["list"], ["info"]):
             return None
         else:
-            raise Cannot(f"`table {' '.join(words)}`: create, add, delete, flush and destroy are here")
+            raise Cannot(f"`table {' '.join(words)}`: only create, add, delete, flush and destroy are supported")
         return []
 
     def _shaper(self, what: str, words: list[str]) -> Optional[list[str]]:
-        """`pipe`, `queue` or `sched`, in either order of its number and what is done."""
+        """Translates `pipe`, `queue` or `sched`, with its number before or after the action."""
         if words[:1] == ["flush"]:
             self._judge_flush(bool(self._pipes), "pipes")
             return None
@@ -177,13 +178,13 @@ class Import:
             return ["pipe show"] if what == "pipe" else None
         number, does = next((word for word in words[:2] if word.isdigit()), ""), words[:2]
         if len(words) < 2 or not number or not 1 <= int(number) <= 65535:
-            raise Cannot(f"`{what}`: a number from 1 to 65535 and `config` stand behind it")
+            raise Cannot(f"`{what}`: a number from 1 to 65535 and `config` must follow")
         if "delete" in does:
             if what != "pipe" or self._pipes.pop(int(number), None) is None:
                 raise Cannot(f"`{what} {number} delete`: there is no such pipe")
             return [f"pipe delete {number}"]
         if "config" not in does:
-            raise Cannot(f"`{what} {' '.join(does)}`: config, delete and show are here")
+            raise Cannot(f"`{what} {' '.join(does)}`: only config, delete and show are supported")
         if what != "pipe":
             return self._scheduled(what, int(number), words[2:])
         return self._pipe(int(number), words[2:])
@@ -201,7 +202,7 @@ class Import:
             elif name == "droptail":
                 options.append(name)
             elif name in ("red", "gred") and self.flatten and words:
-                self._costs.append(f"`{name} {words.pop(0)}` left out: the queue drops at its end alone")
+                self._costs.append(f"`{name} {words.pop(0)}` left out: the queue only drops at its end")
             elif name in ("noerror", "buckets"):
                 del words[:name == "buckets"]
             elif name in ("bw", "bandwidth", "delay", "plr", "queue") and words:
@@ -213,20 +214,20 @@ class Import:
         return [" ".join(["pipe", str(number), "config", *options])]
 
     def _scheduled(self, what: str, number: int, words: list[str]) -> list[str]:
-        """A queue or a scheduler, which stands for its pipe where that is asked for."""
+        """Translates a queue or a scheduler, which is replaced by its pipe if requested."""
         if not self.flatten:
-            raise Cannot(f"`{what} {number}`: weighted queues and schedulers (WF2Q+, FQ-CoDel) aren't here: --flatten hands to the"
+            raise Cannot(f"`{what} {number}`: weighted queues and schedulers (WF2Q+, FQ-CoDel) are not supported: --flatten uses the"
                          " pipe instead")
         named = {name: int(value) for name, value in zip(words, words[1:]) if name in ("pipe", "sched") and value.isdigit()}
         pipe = named.get("pipe", number if what == "sched" else self._schedulers.get(named.get("sched", -1), -1))
         if pipe not in self._pipes and (pipe not in self._later or {"fq_codel", "codel"} & set(words)):
-            raise Cannot(f"`{what} {number}`: its pipe isn't configured before it")
+            raise Cannot(f"`{what} {number}`: its pipe must be configured before it")
         if what == "queue":
             self._queues[number] = pipe
-            self._costs.append(f"`queue {number}` stands for pipe {pipe}: its own weight, queue, mask and red are lost")
+            self._costs.append(f"`queue {number}` is replaced by pipe {pipe}: its own weight, queue, mask and red are lost")
             return []
         self._schedulers[number] = pipe
-        self._costs.append(f"`sched {number}` stands for pipe {pipe}: one queue for all, and no shares")
+        self._costs.append(f"`sched {number}` is replaced by pipe {pipe}: one queue for all, and no weights")
         if not {"fq_codel", "codel"} & set(words):
             return []
         begin = next(place for place, word in enumerate(words) if word in ("fq_codel", "codel"))
@@ -236,7 +237,7 @@ class Import:
         return [" ".join(["pipe", str(pipe), "config", *self._pipes[pipe]])]
 
     def _number(self, words: list[str]) -> int:
-        """A rule's number, taken from the left; by itself it is the greatest so far and a step."""
+        """Returns a rule's number, removing it from the words; by default the highest so far plus a step."""
         if words and re.fullmatch(r"[0-9]+", words[0]):
             number = int(words.pop(0))
             if not 1 <= number <= _LAST:
@@ -248,7 +249,7 @@ class Import:
     def _add(self, words: list[str]) -> Optional[list[str]]:
         number = self._number(words)
         known = Known(self.behind, self.me, self._tables, self._queues)
-        # A rule that is refused takes its number too, as it does in ipfw.
+        # A refused rule uses up its number too, as in ipfw.
         self._rules[number] += 0
         try:
             rule = ipfw_rules.read(words, known)
@@ -264,12 +265,12 @@ class Import:
             before = self._by_chance(rule)
         commands = ipfw_spread.commands_of(rule, number, known)
         if self._goes_on and rule.action.startswith("pipe ") and not rule.share:
-            # What leaves the pipe is allowed by a rule of its own, as one_pass 1 would have it.
+            # A rule of its own allows what leaves the pipe, as one_pass 1 would.
             commands = [each for one in commands for each in dict.fromkeys((one, re.sub(r"^(add \d+) pipe \d+", r"\1 allow", one)))]
         if number in self._around or (rule.excluded and self._rules[number]):
-            raise Cannot(f"rule {number}: `not` goes around all rules of this number: give one of them a number of its own")
+            raise Cannot(f"rule {number}: `not` skips all rules of this number: give one of them another number")
         if sum(self._rules.values()) + len(commands) > _MOST_RULES:
-            raise Cannot(f"with it there are more than {_MOST_RULES} rules, the most of an experiment")
+            raise Cannot(f"with it there are more than {_MOST_RULES} rules, the maximum of an experiment")
         self._judge(rule, number)
         if rule.excluded:
             self._around.add(number)
@@ -277,22 +278,22 @@ class Import:
         return [*before, *commands]
 
     def _judge(self, rule: ipfw_rules.Rule, number: int) -> None:
-        """What a rule's action says besides."""
+        """Adds what a rule's action implies."""
         name, _, value = rule.action.partition(" ")
         if name == "skipto" and int(value) <= number:
-            raise Cannot(f"`{rule.action}` goes backwards, which isn't here")
+            raise Cannot(f"`{rule.action}` goes backwards, which is not supported")
         if name == "pipe" and not any("passes the rules once here" in one for one in rule.costs) and not rule.share:
             self._costs.append("on a router this rule shapes a packet twice, coming in and going out; here once")
 
     def _by_chance(self, rule: ipfw_rules.Rule) -> list[str]:
-        """A rule that denies by chance, as a pipe that loses."""
+        """Translates a rule that denies at random into a pipe with losses."""
         if rule.action != "deny":
-            raise Cannot(f"`prob {rule.share}`: only `deny` by chance is here, by a pipe that loses: route by addresses and ports instead")
+            raise Cannot(f"`prob {rule.share}`: only random `deny` is supported, as a pipe with losses: route by addresses and ports instead")
         if self._one_pass:
-            self._costs.append("one_pass 0 from here, and an `allow` behind each rule to a pipe in place of one_pass 1: 1 ns more")
+            self._costs.append("one_pass 0 from here, and an `allow` after each rule to a pipe instead of one_pass 1: 1 ns more")
         pipe = next(number for number in range(65535, 0, -1) if number not in self._pipes)
         share = self._say(ipfw_words.loss(rule.share))
         self._pipes[pipe] = [f"plr {share}", "queue 1000"]
         rule.action = f"pipe {pipe}"
-        self._costs.append(f"`prob` by pipe {pipe}, which loses so many: it draws words of its own, and takes 1 ns")
+        self._costs.append(f"`prob` as pipe {pipe}, which loses this share: it has its own random numbers, and takes 1 ns")
         return [*(["one_pass 0"] if self._one_pass else []), f"pipe {pipe} config plr {share} queue 1000"]

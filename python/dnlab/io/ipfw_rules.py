@@ -1,4 +1,4 @@
-"""Rules of ipfw(8): what behind `add` is read. `ipfw_spread` writes them as rules of a scenario."""
+"""Parses the rules of ipfw(8), after `add`. `ipfw_spread` writes them as rules of a scenario."""
 import re
 import socket
 from dataclasses import dataclass, field
@@ -12,7 +12,7 @@ _NUMBERED = ("skipto", "pipe", "queue")
 _BOTH = {"tcp", "udp"}
 _PROTOCOLS = {"ip": _BOTH, "all": _BOTH, "ip4": _BOTH, "ipv4": _BOTH, "tcp": {"tcp"}, "6": {"tcp"}, "udp": {"udp"}, "17": {"udp"}}
 _OTHERS = {"icmp", "ip6", "ipv6", "icmp6", "ipv6-icmp", "igmp", "esp", "ah", "gre", "ospf", "pim", "sctp", "carp", "vrrp", "ipencap"}
-# What no packet here has, so that its opposite always matches.
+# Properties that no packet has here, so their opposite always matches.
 _NEVER = {"layer2", "frag"}
 _NO_FLAGS = "packets here have no flags, no fragments and no owners"
 _LACKING = {"established": _NO_FLAGS, "frag": _NO_FLAGS, "tcpflags": _NO_FLAGS, "iptos": _NO_FLAGS, "ipttl": _NO_FLAGS, "uid": _NO_FLAGS,
@@ -21,7 +21,7 @@ _LACKING = {"established": _NO_FLAGS, "frag": _NO_FLAGS, "tcpflags": _NO_FLAGS, 
 
 @dataclass(frozen=True)
 class Known:
-    """What is known besides the rule: what is behind each interface, the machine's own address, tables, and the pipes of queues."""
+    """The context of rules: the addresses behind each interface, the machine's own address, tables, and the pipes of queues."""
     behind: Mapping[str, str] = field(default_factory=dict)
     me: Optional[str] = None
     tables: Mapping[str, "Mapping[str, str]"] = field(default_factory=dict)
@@ -30,8 +30,8 @@ class Known:
 
 @dataclass
 class Rule:
-    """A rule as it is read: its action, and of each side addresses and ports, all of them meant ('' is any port); what of them is
-    excluded; what its words cost."""
+    """A parsed rule: its action, for each side all addresses and ports ('' is any port), those that are excluded, and what the translation
+    costs."""
     action: str = ""
     share: str = ""
     group: Optional[str] = None
@@ -49,12 +49,12 @@ class Rule:
 
 def _take(words: list[str], what: str) -> str:
     if not words:
-        raise Cannot(f"the rule ends where {what} should stand")
+        raise Cannot(f"the rule ends where {what} should be")
     return words.pop(0)
 
 
 def read(words: Sequence[str], known: Known) -> Rule:
-    """Reads a rule behind its number."""
+    """Parses a rule after its number."""
     left = list(words[:words.index("//")] if "//" in words else words)
     rule = Rule()
     while left and left[0] in ("set", "prob"):
@@ -67,7 +67,7 @@ def read(words: Sequence[str], known: Known) -> Rule:
     _action(rule, left, known)
     if rule.is_void:
         return rule
-    # Options alone are a rule's body too: without addresses they are any.
+    # A rule may consist of options only: its addresses are then any.
     rule.protocols = ["ip"]
     if "from" in left:
         _protocol(rule, left)
@@ -89,30 +89,30 @@ def _action(rule: Rule, words: list[str], known: Known) -> None:
     elif action == "tee":
         _take(words, "a port")
         rule.action = "count"
-        rule.costs.append("`tee` is count: nobody gets the copy")
+        rule.costs.append("`tee` becomes count: nobody gets the copy")
     elif action in _ANSWERS:
         del words[:_ANSWERS[action]]
         rule.action = "deny"
-        rule.costs.append(f"`{action}` is deny: nothing is answered")
+        rule.costs.append(f"`{action}` becomes deny: there is no reply")
     elif action in _NUMBERED:
         number = _take(words, "a number")
         if action == "queue":
             if number not in map(str, known.queues):
-                raise Cannot(f"`queue {number}`: weighted queues (WF2Q+) aren't here: --flatten hands to the pipe instead")
-            rule.costs.append(f"`queue {number}` hands to its pipe: the shares by weight are lost")
+                raise Cannot(f"`queue {number}`: weighted queues (WF2Q+) are not supported: --flatten uses the pipe instead")
+            rule.costs.append(f"`queue {number}` is replaced by its pipe: the weights are lost")
             action, number = "pipe", str(known.queues[int(number)])
         if not number.isdigit() and not (action == "pipe" and number == "tablearg"):
-            raise Cannot(f"`{action} {number}`: a number stands here")
+            raise Cannot(f"`{action} {number}`: a number is expected here")
         rule.action = f"{action} {int(number) if number.isdigit() else number}"
     else:
-        raise Cannot(f"`{action}`: this action isn't here: allow, deny, count, skipto and pipe are")
+        raise Cannot(f"`{action}`: this action is not supported: allow, deny, count, skipto and pipe are")
     while words and words[0] in ("log", "logamount"):
         if words.pop(0) == "logamount":
             _take(words, "a number")
 
 
 def _protocol(rule: Rule, words: list[str]) -> None:
-    """Reads a protocol, its opposite, or a group of them, and keeps the part that tcp and udp can match."""
+    """Parses a protocol, its opposite, or a group, and keeps the part that TCP and UDP can match."""
     if words[:1] == ["proto"]:
         words.pop(0)
     is_not = words[:1] == ["not"]
@@ -123,13 +123,13 @@ def _protocol(rule: Rule, words: list[str]) -> None:
     matched = _BOTH - matched if is_not else matched
     left = matched & (_BOTH if rule.protocols == ["ip"] else {*rule.protocols})
     if not left:
-        raise Unmatchable(f"`{'not ' * is_not}{' or '.join(names)}`: packets here are tcp or udp, so the rule matches nothing:"
+        raise Unmatchable(f"`{'not ' * is_not}{' or '.join(names)}`: packets here are TCP or UDP, so the rule matches nothing:"
                           " --drop-unmatchable leaves it out")
     rule.protocols = ["ip"] if left == _BOTH else sorted(left)
 
 
 def _matched(name: str) -> set[str]:
-    """Which of tcp and udp a protocol of a group is."""
+    """Returns which of tcp and udp a protocol of a group matches."""
     if name.startswith("not "):
         return _BOTH - _matched(name[4:])
     if name in _PROTOCOLS:
@@ -143,7 +143,7 @@ def _matched(name: str) -> set[str]:
 
 
 def _group(words: list[str]) -> list[str]:
-    """The words up to a closing bracket, cut at `or` and commas; `not` stays in front of its word."""
+    """Returns the words up to a closing bracket, split at `or` and commas; `not` stays before its word."""
     found: list[str] = []
     while words and words[0] not in ("}", ")"):
         word = words.pop(0)
@@ -162,21 +162,21 @@ def _addresses(rule: Rule, words: list[str], known: Known) -> list[str]:
         table = re.fullmatch(r"table\(([^),]+)\)", name)
         if table:
             if table[1] not in known.tables:
-                raise Cannot(f"`{name}`: nothing was put into this table")
+                raise Cannot(f"`{name}`: this table is empty")
             rule.table = table[1]
-            # The longest prefix is asked first, as a table's value goes by it.
+            # The longest prefix comes first, because it determines a table's value.
             found += sorted(known.tables[table[1]], key=lambda one: -network(one).prefixlen)
         elif name == "me":
             if known.me is None:
-                raise Cannot("`me`: say which address this machine has: --me 203.0.113.10")
+                raise Cannot("`me`: give this machine's address: --me 203.0.113.10")
             found.append(known.me)
         elif name in ("me6", "any6"):
-            raise Cannot(f"`{name}`: addresses of IPv6 aren't here")
+            raise Cannot(f"`{name}`: IPv6 addresses are not supported")
         else:
             found.append(address(name))
     if rule.table:
         return found
-    # One that another holds would be matched twice.
+    # An address within another would be matched twice.
     return [one for place, one in enumerate(found)
             if not any(network(one) != network(other) and network(one).subnet_of(network(other)) or (one == other and place > after)
                        for after, other in enumerate(found))]
@@ -207,7 +207,7 @@ def _option(rule: Rule, words: list[str], known: Known) -> None:
         rule.ports[name == "dst-port"] = ports(_take(words, "a port"))
     elif name in ("dst-ip", "src-ip"):
         if rule.sides[name == "dst-ip"] != ["any"]:
-            raise Cannot(f"`{name}` beside an address of the same side isn't here: write one")
+            raise Cannot(f"`{name}` with another address of the same side is not supported: write one")
         rule.sides[name == "dst-ip"] = _addresses(rule, words, known)
     elif name == "proto":
         _protocol(rule, words)
@@ -217,20 +217,20 @@ def _option(rule: Rule, words: list[str], known: Known) -> None:
         _interface(rule, {"via": "", "recv": "in", "xmit": "out"}[name], _take(words, "an interface"), known)
     elif name == "setup":
         if rule.action == "deny":
-            raise Cannot("`deny .. setup`: without flags the whole connection is denied: deny its addresses and ports")
+            raise Cannot("`deny .. setup`: without flags the whole connection would be denied: deny its addresses and ports instead")
         rule.costs.append("`setup` left out: the rule matches all packets of the connection")
     elif name in ("keep-state", "limit"):
         _state(rule, words, name)
     elif name in ("icmptypes", "icmp6types"):
-        raise Unmatchable(f"`{name}`: packets here are tcp or udp, so the rule matches nothing: --drop-unmatchable leaves it out")
+        raise Unmatchable(f"`{name}`: packets here are TCP or UDP, so the rule matches nothing: --drop-unmatchable leaves it out")
     elif name in _LACKING:
-        raise Cannot(f"`{name}`: {_LACKING[name]}: leave the rule out, or say by addresses and ports what it is for")
+        raise Cannot(f"`{name}`: {_LACKING[name]}: leave the rule out, or write its purpose as addresses and ports")
     else:
-        raise Cannot(f"`{name}` isn't here")
+        raise Cannot(f"`{name}` is not supported here")
 
 
 def _opposite(rule: Rule, words: list[str], known: Known) -> None:
-    """What stands behind `not`."""
+    """Parses what follows `not`."""
     name = _take(words, "an option")
     if name in ("dst-port", "src-port"):
         rule.excluded.append((3 if name == "dst-port" else 2, ports(_take(words, "a port"))))
@@ -241,7 +241,7 @@ def _opposite(rule: Rule, words: list[str], known: Known) -> None:
     elif name in ("in", "out"):
         _direction(rule, [], "out" if name == "in" else "in", known)
     elif name not in _NEVER:
-        raise Cannot(f"`not {name}` isn't here")
+        raise Cannot(f"`not {name}` is not supported here")
 
 
 def _state(rule: Rule, words: list[str], name: str) -> None:
@@ -252,7 +252,7 @@ def _state(rule: Rule, words: list[str], name: str) -> None:
     elif words and words[0].startswith(":"):
         words.pop(0)
     rule.both = True
-    rule.costs.append("a second rule for the way back: it also lets in what nobody asked for")
+    rule.costs.append("a second rule for the return path: it also accepts unsolicited packets")
 
 
 def _direction(rule: Rule, words: list[str], name: str, known: Known) -> None:
@@ -262,19 +262,19 @@ def _direction(rule: Rule, words: list[str], name: str, known: Known) -> None:
         return
     side = 0 if name == "out" else 1
     if known.me and not known.behind and rule.sides[side] == ["any"]:
-        # Without interfaces it is a host, whose packets leave it with its address and come to it.
+        # Without interfaces it is a host, whose packets leave with its address and arrive for it.
         rule.sides[side] = [known.me]
-        rule.costs.append(f"`{name}` by the address of --me: a packet passes the rules once here")
+        rule.costs.append(f"`{name}` replaced by the address of --me: a packet passes the rules once here")
     else:
         rule.costs.append(f"`{name}` left out: a packet passes the rules once here, on a router twice" + _other_way(rule))
 
 
 def _other_way(rule: Rule) -> str:
-    """What it costs to leave a direction out."""
+    """Returns what it costs to leave out a direction."""
     if not all("any" in side for side in rule.sides):
         return ""
     does = "go through this pipe" if rule.action.startswith("pipe") else "match"
-    return f"; packets the other way now {does} too: narrow source or destination"
+    return f"; packets the other way now {does} too: narrow the source or destination"
 
 
 def _interface(rule: Rule, direction: str, name: str, known: Known) -> None:
@@ -282,19 +282,19 @@ def _interface(rule: Rule, direction: str, name: str, known: Known) -> None:
         rule.is_void = True
         return
     if name not in known.behind:
-        raise Cannot(f"`{name}`: say which addresses are behind this interface: --if {name}=10.0.1.0/24, or --if {name}=any")
+        raise Cannot(f"`{name}`: name the addresses behind this interface: --if {name}=10.0.1.0/24, or --if {name}=any")
     behind = known.behind[name]
     if behind == "any":
-        rule.costs.append(f"`{f'{direction} .. ' if direction else 'via '}{name}` left out, since any address is behind {name}"
+        rule.costs.append(f"`{f'{direction} .. ' if direction else 'via '}{name}` left out, because any address is behind {name}"
                           + (_other_way(rule) if direction else ""))
         return
     if not direction:
         rule.either = behind
-        rule.costs.append(f"`via {name}` by addresses, a rule for each direction")
+        rule.costs.append(f"`via {name}` replaced by addresses, a rule for each direction")
         return
     side = int(direction == "out")
     parts = [narrowed(one, behind) for one in rule.sides[side]]
     rule.sides[side] = [one for one, _ in parts]
     what = ("source", "destination")[side]
-    rule.costs.append(f"`{direction} .. {name}` by its {what} address: a packet passes the rules once here, on a router twice"
+    rule.costs.append(f"`{direction} .. {name}` replaced by its {what} address: a packet passes the rules once here, on a router twice"
                       + ("" if all(inside for _, inside in parts) else f"; no {what} of it is behind {name}"))

@@ -1,10 +1,10 @@
-"""The lines that ipfw(8) gets: of a script, which is read and never run, of a file for `ipfw FILE`, or of what `ipfw list` and
-`ipfw pipe show` print."""
+"""The lines that ipfw(8) receives: of a script, which is read and never executed, of a file for `ipfw FILE`, or of the output of
+`ipfw list` and `ipfw pipe show`."""
 import itertools
 import re
 from typing import NamedTuple
 
-from dnlab.errors import Faulty, Refused
+from dnlab.errors import InputError, ParseError
 from dnlab.io import shell_words
 
 _COMMANDS = {"add", "delete", "pipe", "queue", "sched", "table", "set", "flush", "zero", "resetlog", "list", "show", "enable",
@@ -12,15 +12,15 @@ _COMMANDS = {"add", "delete", "pipe", "queue", "sched", "table", "set", "flush",
 
 
 class Line(NamedTuple):
-    """A line that a program got: its words, the program's name first (`ipfw`, `sysctl`, `sleep`)."""
+    """A line that a program receives: its words, the program's name first (`ipfw`, `sysctl`, `sleep`)."""
     words: tuple[str, ...]
 
     def text(self) -> str:
-        """As it is told, without the program's name where that is ipfw."""
+        """Returns it as text, without the program's name if that is ipfw."""
         return " ".join(self.words[1:] if self.words[0] == "ipfw" else self.words)
 
     def bare(self) -> list[str]:
-        """Returns the words behind the program's name and its options."""
+        """Returns the words after the program's name and its options."""
         return list(itertools.dropwhile(lambda word: word.startswith("-"), self.words[1:]))
 
 
@@ -29,7 +29,7 @@ def _line(text: str) -> Line:
 
 
 def is_listing(text: str) -> bool:
-    """Whether it is what `ipfw list` or `ipfw pipe show` prints: each rule begins with five digits.
+    """Returns whether it is the output of `ipfw list` or `ipfw pipe show`: each rule starts with five digits.
 
     >>> is_listing("00100 allow ip from any to any\\n65535 deny ip from any to any\\n"), is_listing("ipfw add 100 count ip from any to any")
     (True, False)
@@ -39,13 +39,13 @@ def is_listing(text: str) -> bool:
 
 
 def is_rules_file(text: str) -> bool:
-    """Whether it is a file for `ipfw FILE`: each line begins with a command of ipfw's own, and none with `ipfw`."""
+    """Returns whether it is a file for `ipfw FILE`: each line starts with an ipfw command, and none with `ipfw`."""
     lines = [line.split()[0] for line in text.splitlines() if line.strip() and not line.lstrip().startswith("#")]
     return bool(lines) and "$" not in text and all(word in _COMMANDS or word.startswith("-") for word in lines)
 
 
 def lines_of(text: str, name: str) -> list[Line]:
-    """Returns the lines of a script, of a file for `ipfw FILE`, or of a listing; raises `Faulty` with the line of a script that isn't
+    """Returns the lines of a script, of a file for `ipfw FILE`, or of a listing. Raises `InputError` with the line of a script that isn't
     understood."""
     if is_listing(text):
         return _listed(text)
@@ -53,12 +53,12 @@ def lines_of(text: str, name: str) -> list[Line]:
         return [_line(line) for line in text.splitlines() if line.strip() and not line.lstrip().startswith("#")]
     try:
         return [Line(words) for words in shell_words.words_of(text)]
-    except Refused as fault:
-        raise Faulty(f"{name}: {fault} (a script is read, not run)") from None
+    except ParseError as fault:
+        raise InputError(f"{name}: {fault} (a script is read, not executed)") from None
 
 
 def _listed(text: str) -> list[Line]:
-    """The commands that make what is listed."""
+    """Returns the commands that create what is listed."""
     found: list[Line] = []
     pipe: list[str] = []
     for line in text.splitlines():
@@ -75,14 +75,14 @@ def _listed(text: str) -> list[Line]:
         elif re.match(r"\s+AQM CoDel", line) and found:
             found[-1] = Line((*found[-1].words, "codel", *(word.lower() for word in words[2:])))
         elif re.match(r"[0-9]{5} ", line) and words[0] != "65535":
-            # `ipfw show` has packets and bytes behind the number.
+            # `ipfw show` has packets and bytes after the number.
             body = words[3:] if re.match(r"[0-9]{5} +[0-9]+ +[0-9]+ ", line) else words[1:]
             found.append(Line(("ipfw", "add", words[0], *body)))
     return found
 
 
 def _flow_set(line: str) -> list[str]:
-    """The options of a pipe's own queue, as `q131073  50 sl.plr 0.010000 0 flows (1 buckets) .. droptail`."""
+    """Returns the options of a pipe's own queue, as `q131073  50 sl.plr 0.010000 0 flows (1 buckets) .. droptail`."""
     size = re.match(r"q[0-9]+ +([0-9]+) (sl\.|KB|B)", line)
     words = []
     if size:

@@ -1,4 +1,4 @@
-"""Rules of ipfw(8) as rules of a scenario, spread out to one address and one range of ports each."""
+"""Writes rules of ipfw(8) as rules of a scenario, each with one address and one range of ports per side."""
 import itertools
 from typing import Sequence
 
@@ -14,7 +14,7 @@ def _words(number: int, action: str, protocol: str, ends: Sequence[str]) -> str:
 
 
 def _spread(rule: Rule, number: int, action: str, places: Sequence[Sequence[str]]) -> list[str]:
-    """A rule for each protocol, address and port."""
+    """Returns a rule for each protocol, address and port."""
     made = []
     for protocol, *ends in itertools.product(rule.protocols, *places):
         made.append(_words(number, action, protocol, ends))
@@ -24,13 +24,13 @@ def _spread(rule: Rule, number: int, action: str, places: Sequence[Sequence[str]
 
 
 def commands_of(rule: Rule, number: int, known: Known) -> list[str]:
-    """The `add` commands of a rule, all with its number."""
+    """Returns the `add` commands of a rule, all with its number."""
     wanted = [[rule.sides[0], rule.sides[1], rule.ports[0], rule.ports[1]]]
     if rule.either:
         wanted = [[[narrowed(one, rule.either)[0] for one in wanted[0][side]] if side == turn else wanted[0][side] for side in range(4)]
                   for turn in (0, 1)]
     if rule.excluded and (rule.both or rule.table):
-        raise Cannot("`not` beside `keep-state` or a table isn't here: write the rules that are meant")
+        raise Cannot("`not` with `keep-state` or a table is not supported: write the intended rules")
     made: list[str] = []
     for places in wanted:
         for place, excluded in rule.excluded:
@@ -38,16 +38,16 @@ def commands_of(rule: Rule, number: int, known: Known) -> list[str]:
                             [excluded if one == place else places[one] for one in range(4)])
         made += _valued(rule, number, places, known)
     if len(made) > _MOST:
-        raise Cannot(f"it takes {len(made)} rules, and an experiment has {_MOST}: write prefixes and ranges")
+        raise Cannot(f"it needs {len(made)} rules, but an experiment has {_MOST}: write prefixes and ranges")
     return made
 
 
 def _valued(rule: Rule, number: int, places: Sequence[Sequence[str]], known: Known) -> list[str]:
-    """The rules themselves; with `tablearg` each entry goes to the pipe of its value."""
+    """Returns the rules themselves; with `tablearg` each entry goes to the pipe of its value."""
     if rule.action != "pipe tablearg":
         return _spread(rule, number, rule.action, places)
     if not rule.table:
-        raise Cannot("`pipe tablearg`: no table stands in the rule")
+        raise Cannot("`pipe tablearg`: the rule has no table")
     entries = known.tables[rule.table]
     side = next(side for side in (0, 1) if set(places[side]) >= set(entries))
     made: list[str] = []

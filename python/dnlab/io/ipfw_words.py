@@ -1,6 +1,6 @@
-"""The words of ipfw(8) that say amounts, and what a scenario says for them: rates, queues, losses, masks, addresses, ports.
+"""Amounts in ipfw(8) and in scenarios: rates, queues, losses, masks, addresses, ports.
 
-Each function gives the scenario's words and `How` they came about; `Cannot` where there are none, with the way out.
+Each function returns the scenario's words and their cost (`How`). Raises `Cannot`, with what to do, if there are none.
 """
 import ipaddress
 import re
@@ -16,21 +16,21 @@ _MOST_BITS = 10**10
 
 
 class Cannot(Exception):
-    """Words of ipfw that no scenario says: the word, and the way out."""
+    """An ipfw word that no scenario can express; the text says which, and what to do."""
 
 
 class Unmatchable(Cannot):
-    """Words that match no packet of tcp or udp."""
+    """A rule that matches no TCP or UDP packet."""
 
 
 class How(NamedTuple):
-    """What words became, and what of their meaning that costs ('' where nothing)."""
+    """A translation, and the part of the meaning that it loses ('' for nothing)."""
     words: str
     cost: str = ""
 
 
 def rate(word: str) -> How:
-    """A `bw`: behind K, M or G a B that isn't Bit, or `by`, means bytes, anything else bits.
+    """Translates a `bw`. After K, M or G, a B that isn't Bit, or `by`, means bytes; anything else means bits.
 
     >>> rate("10M").words, rate("1.5Mbits/s").words, rate("64Kb/s").words, rate("1500KByte/s").words
     ('10Mbit/s', '1500Kbit/s', '64Kbit/s', '1500KByte/s')
@@ -38,12 +38,12 @@ def rate(word: str) -> How:
     found = re.fullmatch(r"([0-9]+(?:\.[0-9]+)?|\.[0-9]+)([KkMmGg]?)([A-Za-z/]*)", word)
     if not found:
         is_number = re.match(r"[0-9.]", word)
-        raise Cannot(f"`bw {word}`: " + ("it isn't read as a rate: digits with a point, then the unit, as 1.5Mbit/s" if is_number else
-                                         "a rate by an interface or a clock isn't here: write it as 10Mbit/s"))
+        raise Cannot(f"`bw {word}`: " + ("it isn't a rate: expected digits with a point, then the unit, as 1.5Mbit/s" if is_number else
+                                         "the rate of an interface or a clock is not supported: write it as 10Mbit/s"))
     is_bytes = found[3].startswith("by") or (found[3].startswith("B") and not found[3].startswith("Bi"))
     bits = Decimal(found[1]) * SCALES[found[2].upper()] * (8 if is_bytes else 1)
     if bits > _MOST_BITS:
-        raise Cannot(f"`bw {word}`: 10Gbit/s is the most")
+        raise Cannot(f"`bw {word}`: 10Gbit/s is the maximum")
     if re.fullmatch(r"(0|[1-9][0-9]*)([KMG]?(bit/s|Byte/s))?", word):
         return How(word)
     whole = int(bits)
@@ -52,7 +52,7 @@ def rate(word: str) -> How:
 
 
 def delay(word: str) -> How:
-    """A `delay` in ms. ipfw reads the digits in front, so a time in seconds is another one there.
+    """Translates a `delay` in ms. ipfw reads only the leading digits, so a time in seconds means another one there.
 
     >>> delay("20ms").words, delay("0.5s").words, delay("2s").cost
     ('20ms', '500ms', '`delay 2s` is taken as 2000ms: ipfw itself reads 2 ms')
@@ -65,7 +65,7 @@ def delay(word: str) -> How:
     if time != whole:
         raise Cannot(f"`delay {word}`: delays are whole milliseconds: write {whole}ms or {whole + 1}ms")
     if whole > 60000:
-        raise Cannot(f"`delay {word}`: 60000 ms is the most")
+        raise Cannot(f"`delay {word}`: 60000 ms is the maximum")
     if re.fullmatch(r"(0|[1-9][0-9]*)(ms)?", word):
         return How(word)
     digits = int(found[1] or "0")
@@ -74,18 +74,18 @@ def delay(word: str) -> How:
 
 
 def loss(word: str) -> How:
-    """A `plr`, to six digits.
+    """Translates a `plr`, rounded to six digits.
 
     >>> loss(".01").words, loss("5e-3").words, loss("0.0000015").words
     ('0.01', '0.005', '0.000002')
     """
     if word.endswith("%"):
-        raise Cannot(f"`plr {word}`: ipfw reads {word[:-1]} here, a share: write 1% as 0.01")
+        raise Cannot(f"`plr {word}`: ipfw reads {word[:-1]} here, as a fraction: write 1% as 0.01")
     try:
         share = Decimal(word)
         exact = min(max(share, Decimal(0)), Decimal(1))
     except InvalidOperation:
-        raise Cannot(f"`plr {word}` is no share of 1, as 0.01") from None
+        raise Cannot(f"`plr {word}` is not a fraction such as 0.01") from None
     short = exact.quantize(Decimal("0.000001"))
     text = f"{short:f}".rstrip("0").rstrip(".")
     if re.fullmatch(r"[01](\.[0-9]{1,6})?", word) and share == exact:
@@ -94,14 +94,14 @@ def loss(word: str) -> How:
 
 
 def queue(word: str) -> How:
-    """The limit of a queue: slots, or bytes, rounded down to 1024.
+    """Translates the limit of a queue: slots, or bytes, rounded down to 1024.
 
     >>> queue("50").words, queue("30KBytes").words, queue("30000bytes").words
     ('50', '30KBytes', '29KBytes')
     """
     found = re.fullmatch(r"0*([0-9]+)([A-Za-z]*)", word)
     if not found:
-        raise Cannot(f"`queue {word}` is no limit, as 50 or 30KBytes")
+        raise Cannot(f"`queue {word}` is not a limit such as 50 or 30KBytes")
     number, unit = int(found[1]), found[2]
     if unit[:1] in ("K", "k"):
         kbytes, cost = number, ""
@@ -110,7 +110,7 @@ def queue(word: str) -> How:
         kbytes = number // 1024
         said, cost = f"{kbytes}KBytes", "" if number % 1024 == 0 else f"`queue {word}` is {kbytes * 1024} bytes, rounded down"
     elif unit:
-        raise Cannot(f"`queue {word}`: its unit is none, KBytes or bytes")
+        raise Cannot(f"`queue {word}`: the unit must be KBytes, bytes or none")
     elif not 1 <= number <= 1000:
         raise Cannot(f"`queue {word}`: 1 to 1000 slots, or up to 1024KBytes")
     else:
@@ -121,12 +121,12 @@ def queue(word: str) -> How:
 
 
 def mask(words: list[str]) -> How:
-    """Takes the list behind `mask` from the left of the words."""
+    """Translates the list after `mask`, removing it from the words."""
     found: list[str] = []
     costs = []
     while words and words[0] in {*MASKS, "all", "src-ip6", "dst-ip6", "flow-id", "queue"}:
         if words[0] == "queue" and len(words) > 1 and words[1][:1].isdigit():
-            break  # the pipe's own `queue`
+            break  # The pipe's own `queue`.
         name = words.pop(0)
         if name == "all":
             found = ["all"]
@@ -141,12 +141,12 @@ def mask(words: list[str]) -> How:
             else:
                 costs.append(f"`mask {name}` left out: packets here have none")
     if not found:
-        raise Cannot("`mask`: of what it names packets here have nothing: take src-ip, dst-ip, src-port, dst-port or proto")
+        raise Cannot("`mask`: packets here have none of these fields: use src-ip, dst-ip, src-port, dst-port or proto")
     return How("mask " + " ".join(found), "; ".join(costs))
 
 
 def _bits(name: str, word: str) -> str:
-    """A mask in base 16; `/24` are the first 24 bits."""
+    """Returns a mask in base 16; `/24` means the first 24 bits."""
     width = MASKS[name] * 4
     if re.fullmatch(rf"0x[0-9a-fA-F]{{1,{MASKS[name]}}}", word):
         return word
@@ -161,21 +161,21 @@ def _bits(name: str, word: str) -> str:
 
 
 def codel(words: list[str]) -> How:
-    """Takes what stands behind `codel` from the left of the words."""
+    """Translates what follows `codel`, removing it from the words."""
     found, cost = ["codel"], ""
     while words and words[0] in ("target", "interval", "ecn", "noecn"):
         name = words.pop(0)
         if name == "ecn":
-            cost = "`ecn` left out: a packet is dropped where it would be marked"
+            cost = "`ecn` left out: packets are dropped instead of marked"
         elif name != "noecn":
             if not words or not re.fullmatch(r"(0|[1-9][0-9]*)(s|ms|us)?", words[0]):
-                raise Cannot(f"`codel {name}`: a time stands behind it, as 5ms")
+                raise Cannot(f"`codel {name}`: a time must follow, as 5ms")
             found.append(f"{name} {words.pop(0)}")
     return How(" ".join(found), cost)
 
 
 def address(word: str) -> str:
-    """An address or prefix as a scenario has it: `A:M` becomes `A/len`.
+    """Translates an address or prefix: `A:M` becomes `A/len`.
 
     >>> address("10.0.0.0:255.0.0.0"), address("10.1.2.3/32"), address("any")
     ('10.0.0.0/8', '10.1.2.3/32', 'any')
@@ -183,30 +183,30 @@ def address(word: str) -> str:
     if word == "any":
         return word
     if ":" in word and word.count(":") > 1:
-        raise Cannot(f"`{word}`: addresses of IPv6 aren't here")
+        raise Cannot(f"`{word}`: IPv6 addresses are not supported")
     try:
         if ":" in word:
             return str(ipaddress.IPv4Network(word.replace(":", "/"), strict=False))
         ipaddress.IPv4Interface(word)
     except ValueError:
-        raise Cannot(f"`{word}` is no address: names and sets aren't here: write numbers, as 10.0.0.1 or 10.0.0.0/24") from None
+        raise Cannot(f"`{word}` is not an address (names and sets are not supported): write numbers, as 10.0.0.1 or 10.0.0.0/24") from None
     return word
 
 
 def network(word: str) -> ipaddress.IPv4Network:
-    """The prefix that an address of a scenario names."""
+    """Returns the prefix of a scenario's address."""
     return ipaddress.IPv4Network("0.0.0.0/0" if word == "any" else word, strict=False)
 
 
 def narrowed(own: str, behind: str) -> tuple[str, bool]:
-    """The part of a rule's own addresses that are behind an interface; where there is none its own, and False."""
+    """Returns the part of a rule's own addresses that is behind an interface; if there is none, the addresses and False."""
     if network(own).subnet_of(network(behind)):
         return own, True
     return (behind, True) if network(behind).subnet_of(network(own)) else (own, False)
 
 
 def ports(word: str) -> list[str]:
-    """A list of ports, ranges and names of services, as a rule takes one each.
+    """Returns a list of ports, ranges and service names as separate ports for rules.
 
     >>> ports("5060,5004-5010")
     ['5060', '5004-5010']
@@ -220,5 +220,5 @@ def ports(word: str) -> list[str]:
         try:
             found.append(str(socket.getservbyname(one)))
         except OSError:
-            raise Cannot(f"`{one}` is no port, range of ports or known service") from None
+            raise Cannot(f"`{one}` is not a port, a range of ports or a known service") from None
     return found

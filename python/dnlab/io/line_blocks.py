@@ -1,4 +1,4 @@
-"""One block of a report's lines, read in columns."""
+"""Parses one block of a report's lines, in columns."""
 import re
 from typing import TYPE_CHECKING, Callable, Optional
 
@@ -19,9 +19,9 @@ _LISTED = {WORDS[code]: code for code in LISTINGS}
 _HEADER = re.compile(rb"(?:tcp|udp) (?:0|[1-9][0-9]*)(?:\.(?:0|[1-9][0-9]*)){3} (?:0|[1-9][0-9]*)"
                      rb" (?:0|[1-9][0-9]*)(?:\.(?:0|[1-9][0-9]*)){3} (?:0|[1-9][0-9]*)")
 _COUNTERS = re.compile(r"counters(?: (?:0|[1-9][0-9]{0,15})){11}")
-# Where words begin and end: two arrays of places.
+# Where words start and end: two arrays of positions.
 Bounds = tuple[Ints, Ints]
-# Of a word its first letter and its length tell which it is, if it is one.
+# First letter and length identify a line's word, if it is valid.
 _PLACES = np.full(512, -1, dtype=np.int8)
 for _code, _word in enumerate(_TIMED):
     _PLACES[(ord(_word[0]) & 31) * 16 + len(_word)] = _code
@@ -29,7 +29,7 @@ _KEYS = np.array([word_key(word) for word in _TIMED] + [0], dtype=np.uint64)
 _CAUSE_KEYS = np.array([word_key(cause[:8]) for cause in CAUSES], dtype=np.uint64)
 _CAUSE_LENGTHS = np.array([len(cause) for cause in CAUSES])
 _KIND_KEYS = np.array([word_key(kind) for kind in KINDS], dtype=np.uint64)
-# How many words the lines have: the least, and by two more where the load isn't `plain`.
+# The number of words of the lines: the minimum, and two more if the load isn't `plain`.
 _COUNTS = {OK: 3, REFUSED: 4, MAKE: 10, IDENTIFY: 4, ARRIVE: 4, FINISH: 4, PASS: 4, DELIVER: 4, DROP: 5, ACK: 5,
            EXPIRE: 5, SPENT: 2}
 _LOADED = (MAKE, DELIVER, DROP)
@@ -39,7 +39,7 @@ _LETTER = np.uint64(31)
 
 
 class Block:
-    """One block of lines, read: its rows, and the first fault (the row's number in the experiment, and the cause)."""
+    """A parsed block of lines: its rows, and the first fault (the row's number in the experiment, and the cause)."""
 
     def __init__(self, reader: "Reader", block: bytes) -> None:
         self.reader = reader
@@ -47,7 +47,7 @@ class Block:
         self.fault: Optional[tuple[int, str]] = None
         ends = self.text.ends
         is_line = self.text.bytes[ends] == 10
-        # Word k begins behind mark k and ends at mark k + 1.
+        # Word k starts after mark k and ends at mark k + 1.
         self.marks: Ints = np.concatenate((np.full(1, -1, dtype=np.int64), ends))
         self.last: Ints = np.flatnonzero(is_line)
         self.first: Ints = np.concatenate((np.zeros(1, dtype=np.int64), self.last[:-1] + 1))
@@ -71,7 +71,7 @@ class Block:
                 **dict.fromkeys(_PIPES, self.pipes)}
 
     def classify(self) -> None:
-        """Which line each is, by its second word and how many it has; what begins with no digit is for `others`."""
+        """Identifies each line by its second word and its number of words; lines that don't start with a digit are for `others`."""
         before = self.marks[self.first]
         at = self.marks[self.first + 1] + 1
         lengths = self.marks[np.minimum(self.first + 2, len(self.marks) - 1)] - at
@@ -90,7 +90,7 @@ class Block:
         self.bad &= ~good
 
     def bounds(self, rows: Ints, place: int, count: int) -> list[Bounds]:
-        """Where so many words in a row begin and end, from a place of their lines on."""
+        """Returns where `count` successive words start and end, from a position in their lines on."""
         at = self.first[rows]
         at += place
         edge = self.marks[at]
@@ -104,12 +104,12 @@ class Block:
         return found
 
     def at_end(self, rows: Ints) -> Bounds:
-        """Where the last words begin and end."""
+        """Returns where the last words start and end."""
         at = self.last[rows]
         return self.marks[at] + 1, self.marks[at + 1]
 
     def numbers(self, rows: Ints, bounds: Bounds, most: int = 2**63 - 1) -> Ints:
-        """The numbers in some places; lines where none stands there, or a greater one than `most`, are bad."""
+        """Returns the numbers at some positions; lines with no number there, or one above `most`, are faults."""
         values, good = self.text.numbers(*bounds)
         if most < 2**53:
             good &= values <= most
@@ -119,7 +119,7 @@ class Block:
         return values
 
     def began(self, rows: Ints, count: int) -> list[Bounds]:
-        """Takes the moments of some lines; gives where so many words behind the line's own word begin and end."""
+        """Parses the times of some lines; returns where `count` words after the line's own word start and end."""
         moment, _, *others = self.bounds(rows, 0, count + 2)
         self.columns.moment[rows] = self.numbers(rows, moment)
         return others
@@ -129,7 +129,7 @@ class Block:
             self.bad[rows[~good]] = True
 
     def packet(self, rows: Ints, count: int) -> list[Bounds]:
-        """Takes moments and packets; gives where so many words behind them begin and end."""
+        """Parses times and packets; returns where `count` words after them start and end."""
         packet, *others = self.began(rows, count + 1)
         self.columns.packet[rows] = self.numbers(rows, packet, 2**31 - 1)
         return others
@@ -146,7 +146,7 @@ class Block:
         self.loads(rows, self.packet(rows, 1)[0])
 
     def loads(self, rows: Ints, bounds: Bounds) -> None:
-        """The loads: one word `plain`, or three, of which the first is given."""
+        """Parses the loads: the word `plain`, or three words, of which the first is given."""
         begins, ends = bounds
         keys = self.text.words(begins, ends - begins)
         is_long = self.count[rows] == _COUNTED_LONG[self.columns.word[rows]]
@@ -168,7 +168,7 @@ class Block:
         causes = np.full(len(rows), -1, dtype=np.int64)
         for cause, key in enumerate(_CAUSE_KEYS):
             causes[(keys == key) & (ends - begins == _CAUSE_LENGTHS[cause])] = cause
-        # What is longer than the eight bytes that were compared.
+        # Words that are longer than the eight bytes compared.
         for place in np.flatnonzero(causes == CAUSES.index("noinstance")):
             if self.text.block[int(begins[place]):int(ends[place])] != b"noinstance":
                 causes[place] = -1
@@ -226,7 +226,7 @@ class Block:
         return self.text.block[int(self.marks[self.first[row]]) + 1:int(self.marks[self.last[row] + 1])]
 
     def others(self) -> None:
-        """Lines that begin with no number: listings, and the counters, which are the last."""
+        """Parses lines that don't start with a number: listings, and the counters, which are last."""
         for row in self.other.tolist():
             line = self.line(row).decode("ascii", "replace")
             word = line.split(" ", 1)[0]
@@ -242,10 +242,10 @@ class Block:
                 self.bad[row] = True
 
     def end_at(self, row: int) -> None:
-        """The counters stand in a row: nothing may follow, and they are no row themselves."""
+        """Checks that nothing follows the counters in a row; they are not a row themselves."""
         if row + 1 < len(self.last):
             self.fault = (self.reader.rows + row + 1,
-                          f"`experiment NAME` should stand here: {self.line(row + 1)[:60].decode('ascii', 'replace')!r}")
+                          f"expected `experiment NAME` here: {self.line(row + 1)[:60].decode('ascii', 'replace')!r}")
         self.bad = self.bad[:row]
         self.columns = self.columns.first(row)
 
@@ -260,11 +260,11 @@ class Block:
 
 
 def cause_of(line: bytes) -> str:
-    """Why a line is refused."""
+    """Returns why a line is refused."""
     if not line.isascii():
-        return "a byte that stands in no report"
+        return "a byte that no report has"
     text = line.decode("ascii")
     word = text.split(" ", 1)[0]
     if word in _LISTED:
-        return f"no `{word}` line of a listing"
-    return f"no line of a report: {text[:60]!r}"
+        return f"not a valid `{word}` line of a listing"
+    return f"not a line of a report: {text[:60]!r}"

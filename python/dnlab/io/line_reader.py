@@ -1,4 +1,4 @@
-"""Reads the lines of one experiment, block by block."""
+"""Reads the lines of an experiment, block by block."""
 from typing import Optional
 
 import numpy as np
@@ -10,10 +10,10 @@ from dnlab.io.lines import TYPES, Columns, no_rows, pipe_code
 
 
 class Reader:
-    """Reads the lines of one experiment, block by block."""
+    """Reads the lines of an experiment, block by block."""
 
     def __init__(self, line: int) -> None:
-        """`line` is that of the heading."""
+        """Starts after the heading in line `line`."""
         self.line = line
         self.rows = 0
         self.parts: list[Columns] = []
@@ -27,11 +27,11 @@ class Reader:
         self._pipe_codes: NDArray[np.int32] = np.zeros(0, dtype=np.int32)
 
     def feed(self, block: bytes) -> None:
-        """Takes a block of whole lines; behind a fault nothing more is read."""
+        """Parses a block of whole lines; after a fault nothing more is parsed."""
         if not block or self.fault:
             return
         if self.counters is not None:
-            self.fault = self.rows + 1, f"`experiment NAME` should stand here: {_first_line(block)!r}"
+            self.fault = self.rows + 1, f"expected `experiment NAME` here: {_first_line(block)!r}"
             return
         part = Block(self, block)
         self.parts.append(part.columns)
@@ -40,7 +40,7 @@ class Reader:
             self.fault = part.fault
 
     def columns(self) -> Columns:
-        """All rows that were read. The parts are given up column by column, so that memory holds little twice."""
+        """Returns all rows. The parts are freed column by column, so that little is in memory twice."""
         if not self.parts:
             return no_rows()
         names = list(TYPES)
@@ -54,7 +54,7 @@ class Reader:
         return Columns(*joined)
 
     def pipe_codes(self, text: Text, begins: Ints, ends: Ints) -> tuple[NDArray[np.int32], Flags]:
-        """The pipes that words name, and whether they do. The few names that there are are looked up."""
+        """Returns the pipes that words name, and whether they are valid. Names are looked up, since there are few."""
         lengths = ends - begins
         keys = text.words(begins, lengths)
         for _ in range(2):
@@ -73,7 +73,7 @@ class Reader:
         return codes, codes >= 0
 
     def _learn(self, keys: NDArray[np.uint64]) -> bool:
-        """Adds the names of pipes among the keys; whether there were some."""
+        """Adds the names of pipes among the keys. Returns whether there were any."""
         more = {int(key): pipe_code(int(key).to_bytes(8, "little").rstrip(b"\0")) for key in keys}
         self._pipes.update({key: code for key, code in more.items() if code >= 0})
         known = sorted(self._pipes)

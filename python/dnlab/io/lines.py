@@ -1,7 +1,7 @@
-"""The lines of a report, read in columns: one row for each line between an experiment's heading and its counters.
+"""The lines of a report as columns: one row for each line between an experiment's heading and its counters.
 
-`dnlab.io.line_reader.Reader` is fed blocks of whole lines and gives `Columns`; what is no line of a report
-(docs/reference/report.md) it refuses, with the line. What lines say of each other is judged by `dnlab.io.report`.
+`dnlab.io.line_reader.Reader` parses blocks of whole lines into `Columns`, and refuses what is not a line of a report
+(docs/reference/report.md), with its line. `dnlab.io.report` checks the lines against each other.
 """
 import re
 from dataclasses import dataclass, fields
@@ -9,15 +9,15 @@ from dataclasses import dataclass, fields
 import numpy as np
 from numpy.typing import NDArray
 
-from dnlab.errors import Refused
+from dnlab.errors import ParseError
 from dnlab.io.digits import Ints
 
 CODES = (10, 11, 12, 13, 20, 21, 22, 23, 24, 25)
-# What a packet carries; `kind` is a place in it.
+# The load of a packet; `kind` is an index in it.
 KINDS = ("plain", "data", "ack")
 PLAIN, DATA, ACKNOWLEDGES = range(len(KINDS))
 
-# The words of lines; a row's `word` is a place in this.
+# The words of lines; a row's `word` is an index in it.
 WORDS = ("ok", "refused", "make", "identify", "arrive", "finish", "pass", "deliver", "drop", "ack", "expire", "spent",
          "rule", "pipe", "instance")
 (OK, REFUSED, MAKE, IDENTIFY, ARRIVE, FINISH, PASS, DELIVER, DROP, ACK, EXPIRE, SPENT,
@@ -41,18 +41,17 @@ _PIPE_NAME = re.compile(rb"(0|[1-9][0-9]{0,4})\.(0|[1-9][0-9]{0,2})")
 class Columns:
     """The rows of an experiment, in order; all arrays have the shape (rows,). What a line doesn't have is -1.
 
-    word    int8   which line it is, a place in `WORDS`
+    word    int8   the kind of line, an index in `WORDS`
     moment  int64  ns
     packet  int32  serial number
     pipe    int32  pipe * 256 + instance
-    kind    int8   of the load, a place in `KINDS`
+    kind    int8   of the load, an index in `KINDS`
     flow    int32  of the load, or of an `ack` or `expire` line
-    number  int64  of the load: the first byte, or the number that is acknowledged; of `ok` and `refused` the command;
-                   of `ack` and `expire` the window in bytes
-    more    int64  of a drop its cause, a place in `CAUSES`; of `refused` its code; of `ack` and `expire` the threshold
-                   in bytes; of `make` the size in bytes
-    header  int32  of `make`, a place in the reader's `headers`
-    """
+    number  int64  of the load: the first byte, or the acknowledged number; for `ok` and `refused` the command;
+                   for `ack` and `expire` the window in bytes
+    more    int64  for a drop its cause, an index in `CAUSES`; for `refused` its code; for `ack` and `expire` the threshold
+                   in bytes; for `make` the size in bytes
+    header  int32  for `make`, an index in the reader's `headers`"""
     word: NDArray[np.int8]
     moment: Ints
     packet: NDArray[np.int32]
@@ -67,7 +66,7 @@ class Columns:
         return len(self.word)
 
     def first(self, rows: int) -> "Columns":
-        """The first rows."""
+        """Returns the first rows."""
         return Columns(*(getattr(self, field.name)[:rows] for field in fields(self)))
 
 
@@ -76,12 +75,12 @@ TYPES = {"word": np.int8, "moment": np.int64, "packet": np.int32, "pipe": np.int
 
 
 def no_rows(count: int = 0) -> Columns:
-    """Rows that have nothing yet."""
+    """Returns empty rows."""
     return Columns(*(np.full(count, -1, dtype=kind) for kind in TYPES.values()))
 
 
 def pipe_code(name: bytes) -> int:
-    """The number of an instance, pipe * 256 + instance; -1 where the word names none.
+    """Returns the number of an instance, pipe * 256 + instance, or -1 for an invalid name.
 
     >>> pipe_code(b"1.0"), pipe_code(b"01.0")
     (256, -1)
@@ -93,7 +92,7 @@ def pipe_code(name: bytes) -> int:
 
 
 def pipe_name(code: int) -> str:
-    """An instance as reports name it.
+    """Returns an instance's name, as in reports.
 
     >>> pipe_name(256)
     '1.0'
@@ -101,6 +100,6 @@ def pipe_name(code: int) -> str:
     return f"{code // 256}.{code % 256}"
 
 
-def refused_at(line: int, row: int, cause: str) -> Refused:
-    """The refusal of a row of an experiment whose heading stands in a line."""
-    return Refused(line + 1 + row, cause)
+def refused_at(line: int, row: int, cause: str) -> ParseError:
+    """Returns the error for a row of an experiment whose heading is in `line`."""
+    return ParseError(line + 1 + row, cause)

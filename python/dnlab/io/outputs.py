@@ -1,4 +1,4 @@
-"""Files that tools write: each has its name only once it is whole, and nothing is written through a link."""
+"""Output files: each gets its name only once it is complete, and nothing is written through a link."""
 import errno
 import os
 import secrets
@@ -11,13 +11,13 @@ from typing import IO, BinaryIO, Iterator, Union, cast
 from dnlab.processes import ending
 from dnlab.processes.rooms import lock
 
-# What a write says where there is no room.
+# The errors of a write to a full disk.
 _FULL = (errno.ENOSPC, errno.EDQUOT, errno.EFBIG)
 _BEFORE, _BEHIND = ".dnlab-", ".part"
 
 
 def _remove_leftovers(folder: Path) -> None:
-    """Removes parts in a folder whose writer was killed."""
+    """Removes incomplete files in a folder whose writer was killed."""
     for path in folder.glob(f"{_BEFORE}*{_BEHIND}"):
         with suppress(OSError):
             if os.stat(path, follow_symlinks=False).st_uid == os.getuid():
@@ -32,9 +32,9 @@ def _leave(path: Path) -> None:
 
 
 def _part_in(folder: Path) -> tuple[Path, IO[bytes]]:
-    """A new file of a random name, which this process has locked."""
+    """Creates a file with a random name, locked by this process."""
     if not folder.is_dir():
-        raise OSError(errno.ENOENT, "its folder isn't there", str(folder))
+        raise OSError(errno.ENOENT, "its folder does not exist", str(folder))
     while True:
         path = folder / f"{_BEFORE}{secrets.token_hex(8)}{_BEHIND}"
         held = lock(path, os.O_CREAT | os.O_EXCL)
@@ -44,7 +44,7 @@ def _part_in(folder: Path) -> tuple[Path, IO[bytes]]:
 
 @contextmanager
 def with_name(name: Union[str, Path]) -> Iterator[None]:
-    """Has the error of a write within the block that finds no room name the file, which the system doesn't."""
+    """Makes an `OSError` for a full disk within the block name the file, which the system doesn't."""
     try:
         yield
     except OSError as fault:
@@ -55,14 +55,14 @@ def with_name(name: Union[str, Path]) -> Iterator[None]:
 
 @contextmanager
 def whole_file(name: Union[str, Path]) -> Iterator[BinaryIO]:
-    """A file to write in, which takes its name when the block is done: of what ends by a fault nothing is left.
+    """Opens a file for writing that gets its name at the end of the block; after an exception nothing is left.
 
-    It is a new file of a random name in the same folder, made exclusively. So a link that has the name is replaced, and
-    what it points to stays as it is. `OSError` where it can't be written, and where the name is a device or a folder."""
+    It has a random name in the same folder at first, and is created exclusively. A link of the final name is therefore replaced, and
+    its target is unchanged. Raises `OSError` if it can't be written, or if the name is that of a device or a folder."""
     target = Path(name)
     with suppress(FileNotFoundError):
         if not stat.S_ISREG(os.stat(target).st_mode):
-            raise OSError(errno.EINVAL, "it is no regular file", str(name))
+            raise OSError(errno.EINVAL, "not a regular file", str(name))
     _remove_leftovers(target.parent)
     with ending.held():
         path, held = _part_in(target.parent)

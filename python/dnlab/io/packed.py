@@ -1,30 +1,30 @@
-"""Texts that are packed by gzip."""
+"""Reads gzip data."""
 import gzip
 import io
 import zlib
 from contextlib import contextmanager
 from typing import Iterator
 
-from dnlab.errors import Refused
+from dnlab.errors import ParseError
 
-# Of scenarios that one file has, which may be spread over parts.
+# The maximum size of scenarios in one file, which may be split into parts.
 MOST_TEXT = 1 << 28
-# With these bytes a gzip begins, and no scenario or report.
+# gzip data starts with these bytes, and no scenario or report does.
 GZIP = b"\x1f\x8b"
 
 
 @contextmanager
 def reading_gzip() -> Iterator[None]:
-    """Has `Refused` say within its block that what is read is no gzip, or is cut."""
+    """Raises `ParseError` if data read in the block is not valid gzip, or is cut."""
     try:
         yield
     except (EOFError, zlib.error, gzip.BadGzipFile) as fault:
-        raise Refused(1, f"its gzip is cut or damaged ({fault})") from None
+        raise ParseError(1, f"its gzip is cut or damaged ({fault})") from None
 
 
 def unpacked(data: bytes, most: int = MOST_TEXT) -> bytes:
-    """Bytes as they are, or unpacked where they are packed by gzip; `Refused` where that can't be done, or where more than `most` bytes
-    come of them.
+    """Returns the data, decompressed if it is gzip. Raises `ParseError` if it is damaged, or decompresses to more than `most`
+    bytes.
 
     >>> unpacked(gzip.compress(b"@0 end")), unpacked(b"@0 end")
     (b'@0 end', b'@0 end')
@@ -34,5 +34,5 @@ def unpacked(data: bytes, most: int = MOST_TEXT) -> bytes:
     with reading_gzip(), gzip.open(io.BytesIO(data)) as plain:
         found = plain.read(most + 1)
     if len(found) > most:
-        raise Refused(1, f"unpacked it has more than {most} bytes")
+        raise ParseError(1, f"decompressed it has more than {most} bytes")
     return found

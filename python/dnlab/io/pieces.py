@@ -1,4 +1,4 @@
-"""Where the experiments of a report stand: their headings are found, and the rest is passed over."""
+"""Finds the experiments of a report by their headings, without parsing the rest."""
 import gzip
 import io
 import os
@@ -9,12 +9,12 @@ from dataclasses import dataclass, field, replace
 from pathlib import Path
 from typing import IO, Any, BinaryIO, Callable, Iterable, Iterator, Optional, Union
 
-from dnlab.errors import Refused
+from dnlab.errors import ParseError
 from dnlab.io.packed import GZIP, reading_gzip
 
 _HEADING = re.compile(rb"experiment ([a-z0-9_-]{1,32})")
 _MARK = b"experiment "
-# How much is looked through at once for headings, and how much is read in columns at once.
+# Bytes to search for headings at once, and to read in columns at once.
 _LOOK = 1 << 22
 # No line of a report is longer.
 _LONGEST = 1 << 22
@@ -23,21 +23,21 @@ _BLOCK = 1 << 18
 
 @dataclass(frozen=True)
 class Piece:
-    """Where an experiment stands: its heading's line, and the bytes behind it, in a file or here."""
+    """Where an experiment is: its heading's line, and the bytes after it, in a file or in memory."""
     name: str
     line: int
     path: Optional[str] = None
     begin: int = 0
     end: int = 0
     text: Optional[bytes] = None
-    # What must live as long as this does: the unpacked bytes of a file that is packed.
+    # What must live as long as this: the decompressed bytes of a file.
     keep: Any = field(default=None, compare=False, repr=False)
 
     def __len__(self) -> int:
         return self.end - self.begin
 
     def blocks(self) -> Iterator[bytes]:
-        """Its bytes, in blocks of whole lines."""
+        """Yields its bytes, in blocks of whole lines."""
         if self.text is not None:
             with io.BytesIO(self.text) as source:
                 yield from _blocks(source, _BLOCK, len(self))
@@ -49,20 +49,20 @@ class Piece:
 
 
 class _TooLong(Exception):
-    """A line is longer than a block that is looked through."""
+    """A line is longer than a block."""
 
 
 @contextmanager
 def _at_line(line: Callable[[], int]) -> Iterator[None]:
-    """Has a line that is too long refused with its number."""
+    """Raises `ParseError`, with its number, for a line in the block that is too long."""
     try:
         yield
     except _TooLong:
-        raise Refused(line(), f"a line of more than {_LONGEST} bytes, which no report has") from None
+        raise ParseError(line(), f"a line of more than {_LONGEST} bytes, which no report has") from None
 
 
 def _blocks(source: BinaryIO, size: int, most: Optional[int] = None) -> Iterator[bytes]:
-    """The bytes of a source, in blocks of whole lines; the last may lack its end."""
+    """Yields the bytes of a source, in blocks of whole lines; the last may lack its line feed."""
     rest = b""
     left = most
     while True:
@@ -84,11 +84,10 @@ def _blocks(source: BinaryIO, size: int, most: Optional[int] = None) -> Iterator
 
 
 def pieces(source: Union[str, Path, BinaryIO], wanted: Iterable[str] = ()) -> Iterator[Piece]:
-    """The experiments of a report, in order; of those that are wanted, where any are named.
+    """Yields the experiments of a report, in order, or only the wanted ones.
 
-    A file is only looked through; of a stream the text of one experiment at a time is kept. What is packed by gzip is
-    unpacked. Bytes between headings are not judged here.
-    """
+    A file is only searched; for a stream, one experiment at a time is in memory. gzip data is decompressed. Bytes between headings
+    are not checked here."""
     if isinstance(source, (str, Path)):
         with open(source, "rb") as file:
             if file.read(len(GZIP)) != GZIP:
@@ -109,7 +108,7 @@ def pieces(source: Union[str, Path, BinaryIO], wanted: Iterable[str] = ()) -> It
 
 
 class _Unpacked:
-    """The bytes of a file that is packed by gzip, in a temporary file that has no name, or whose name goes with this."""
+    """The decompressed bytes of a gzip file, in a temporary file without a name, or whose name is removed with this object."""
 
     def __init__(self, packed: BinaryIO) -> None:
         has_places = os.path.isdir(f"/proc/{os.getpid()}/fd")
@@ -123,7 +122,7 @@ class _Unpacked:
         self.file.flush()
 
     def __reduce__(self) -> tuple[Any, tuple[()]]:
-        """Another process needs the place alone; what keeps it stays here."""
+        """Makes pickling pass only the position; this process keeps the file."""
         return type(None), ()
 
 
@@ -134,12 +133,12 @@ def _found(file: BinaryIO, path: Optional[str], wanted: set[str]) -> Iterator[Pi
         for block in _blocks(file, _LOOK):
             yield from finder.look(block)
     if block and not block.endswith(b"\n"):
-        raise Refused(finder.line + 1, "the last line has no end of line")
+        raise ParseError(finder.line + 1, "the last line has no line feed")
     yield from finder.close()
 
 
 class _Finder:
-    """Finds headings in blocks of whole lines, which come one after the other."""
+    """Finds headings in successive blocks of whole lines."""
 
     def __init__(self, path: Optional[str], wanted: set[str]) -> None:
         self.path = path
@@ -167,17 +166,17 @@ class _Finder:
         self.place += len(block)
 
     def begun(self, block: bytes, at: int) -> int:
-        """Takes the heading that must stand in a place; gives where it ends."""
+        """Parses the heading that must be at a position. Returns where it ends."""
         end = block.find(b"\n", at)
         line = block[at:end if end >= 0 else len(block)]
         found = _HEADING.fullmatch(line)
         self.line += end >= 0
         if not found:
             shown = line[:60].decode("ascii", "replace")
-            raise Refused(self.line + (end < 0), f"`experiment NAME` should stand here: {shown!r}")
+            raise ParseError(self.line + (end < 0), f"expected `experiment NAME` here: {shown!r}")
         self.name = found[1].decode("ascii")
         if self.name in self.names:
-            raise Refused(self.line, f"a second experiment {self.name}")
+            raise ParseError(self.line, f"a second experiment {self.name}")
         self.names.add(self.name)
         self.heading = self.line
         end = end + 1 if end >= 0 else len(block)
@@ -188,7 +187,7 @@ class _Finder:
         return not self.wanted or self.name in self.wanted
 
     def close(self) -> Iterator[Piece]:
-        """The experiment that ends here."""
+        """Yields the experiment that ends here."""
         if self.name is not None and self.is_wanted():
             if self.path is None:
                 text = b"".join(self.kept)

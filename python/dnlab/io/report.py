@@ -1,8 +1,8 @@
-"""The one reader of report texts (docs/reference/report.md), one experiment at a time.
+"""The only reader of reports (docs/reference/report.md), one experiment at a time.
 
-`pieces` finds the experiments of a report by their headings and passes over the rest; `read_piece` reads one, in
-columns, or raises `Refused` with the line and the cause. What a report says twice is compared: the commands' numbers
-go up by one, moments don't fall, a packet ends once, and the counters are what the lines add up to.
+`pieces` finds the experiments of a report by their headings; `read_piece` parses one into columns, or raises `ParseError` with the
+line and the cause. Redundant data is compared: the commands' numbers increase by one, times don't decrease, a packet ends once,
+and the counters are the sums of the lines.
 """
 import io
 from dataclasses import dataclass, field
@@ -11,7 +11,7 @@ from typing import BinaryIO, Iterable, Iterator, Union
 
 import numpy as np
 
-from dnlab.errors import Refused
+from dnlab.errors import ParseError
 from dnlab.io.digits import Ints
 from dnlab.io.drops import CAUSES
 from dnlab.io.line_reader import Reader
@@ -33,11 +33,10 @@ class Counters:
 
 @dataclass
 class Recorded:
-    """What a report has of an experiment; `dnlab.Experiment` has it joined with the scenario.
+    """The report of an experiment; `dnlab.Experiment` has it joined with the scenario.
 
-    Row k of `columns` stands in line `line + 1 + k` of the report. `listings` has the texts of the listing lines by
-    their rows, `identified` pipe and identifier of the `identify` lines, `headers` those of the `make` lines.
-    """
+    Row k of `columns` is line `line + 1 + k` of the report. `listings` has the texts of the listing lines by their rows, `identified`
+    pipe and identifier of the `identify` lines, `headers` those of the `make` lines."""
     name: str
     line: int
     columns: Columns
@@ -47,20 +46,20 @@ class Recorded:
     headers: list[str]
 
     def line_of(self, row: int) -> int:
-        """The line of the report in which a row stands."""
+        """Returns the line of the report of a row."""
         return self.line + 1 + row
 
-    def refused(self, row: int, cause: str) -> Refused:
-        """A refusal at a row."""
-        return Refused(self.line_of(row), cause)
+    def refused(self, row: int, cause: str) -> ParseError:
+        """Returns an error at a row."""
+        return ParseError(self.line_of(row), cause)
 
     def rows(self, word: int) -> Ints:
-        """The rows of a word. Shape (n,), int64, in order."""
+        """Returns the rows of a word. Shape (n,), int64, in order."""
         return np.flatnonzero(self.columns.word == word)
 
 
 def read_piece(piece: Piece) -> Recorded:
-    """Reads an experiment; what is no report of one is refused with the line."""
+    """Parses an experiment. Raises `ParseError` with the line."""
     reader = Reader(piece.line)
     for block in piece.blocks():
         reader.feed(block)
@@ -85,7 +84,7 @@ def read_piece(piece: Piece) -> Recorded:
 
 
 def follows_ack(experiment: Recorded) -> None:
-    """Refuses an `ack` line that doesn't follow the delivery of its acknowledgement."""
+    """Raises `ParseError` for an `ack` line that doesn't follow the delivery of its acknowledgement."""
     columns = experiment.columns
     rows = experiment.rows(ACK)
     before = np.maximum(rows - 1, 0)
@@ -96,7 +95,7 @@ def follows_ack(experiment: Recorded) -> None:
 
 
 def read(source: Union[bytes, str, Path, BinaryIO], wanted: Iterable[str] = ()) -> Iterator[Recorded]:
-    """The experiments of a report (its bytes, its file, or a stream), one at a time; an empty report has none."""
+    """Yields the experiments of a report (its bytes, its file, or a stream), one at a time; an empty report has none."""
     opened = io.BytesIO(source) if isinstance(source, bytes) else source
     for piece in pieces(opened, wanted):
         yield read_piece(piece)

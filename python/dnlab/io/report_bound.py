@@ -1,13 +1,13 @@
-"""A bound of a report's length, by its scenarios' text: what a worker writes beyond isn't their report."""
+"""An upper bound for the length of a report, from its scenario. A worker that writes more does not write the report."""
 import re
 
 from dnlab.io.splitting import lines_in
 
-# What one step, one command, one `show` and one `pipe show` write at most, in bytes, each with room to spare: a listing has 256 rules, or 64 pipes
-# of 256 instances.
+# The maximum output of one step, one command, one `show` and one `pipe show`, in bytes, with a margin: a listing has 256 rules,
+# or 64 pipes of 256 instances.
 _STEP, _COMMAND, _RULES, _INSTANCES = 1 << 10, 1 << 8, 1 << 16, 1 << 22
 _STEPS = 10**6
-# What is said besides, on standard error.
+# Further output, on standard error.
 _SAID = 1 << 20
 # What one step may send at once: windows of many flows, in steps.
 _BURST = 1 << 14
@@ -16,7 +16,7 @@ _WORDS = re.compile(rb" steps +([0-9]{1,8})")
 
 
 def most_report(text: bytes) -> int:
-    """Returns how many bytes the reports of a text have at most, by its steps and commands.
+    """Returns the maximum length of the reports of a text in bytes, from its steps and commands.
 
     >>> most_report(b"experiment a seed 1 budget 1 steps 10\\n@0 end\\n")
     17836544

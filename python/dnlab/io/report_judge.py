@@ -1,4 +1,4 @@
-"""Compares what the lines of an experiment say of each other."""
+"""Checks the lines of an experiment against each other."""
 from typing import Optional
 
 import numpy as np
@@ -6,12 +6,12 @@ import numpy as np
 from dnlab.io.drops import CAUSES
 from dnlab.io.lines import DELIVER, DROP, MAKE, OK, REFUSED, RULE, SPENT, Columns
 
-# No experiment has more packets: each step makes one at most, and it has 10^7 steps at most.
+# No experiment has more packets: it has at most 10^7 steps, and each creates at most one.
 _MOST_PACKETS = 10**7
 
 
 class Judge:
-    """Compares what the lines of an experiment say of each other; `fault` is the first row that is refused, and why."""
+    """Checks the lines of an experiment against each other; `fault` is the first row that is refused, and the cause."""
 
     def __init__(self, columns: Columns, listings: dict[int, str]) -> None:
         self.columns = columns
@@ -23,7 +23,7 @@ class Judge:
             self.fault = row, cause
 
     def lines(self) -> None:
-        """What can be compared without the counters."""
+        """Checks what needs no counters."""
         columns = self.columns
         spent = np.flatnonzero(columns.word == SPENT)
         if len(spent) and spent[0] + 1 < len(columns):
@@ -48,7 +48,7 @@ class Judge:
         if len(falls):
             at = int(falls[0])
             row = at + 1 if rows is None else int(rows[at + 1])
-            self.see(row, f"moment {moments[at + 1]} after {moments[at]}")
+            self.see(row, f"time {moments[at + 1]} after {moments[at]}")
 
     def commands(self) -> None:
         word = self.columns.word
@@ -56,10 +56,10 @@ class Judge:
         numbers = self.columns.number[rows]
         bad = np.flatnonzero(numbers != np.arange(len(rows)))
         if len(bad):
-            self.see(int(rows[bad[0]]), f"command {numbers[bad[0]]}, where {bad[0]} is next")
+            self.see(int(rows[bad[0]]), f"command {numbers[bad[0]]}, but {bad[0]} is next")
 
     def packets(self) -> None:
-        """A packet ends once, and is named by no line before it is made or behind its end."""
+        """Checks that a packet ends once, and that no line names it before its creation or after its end."""
         columns = self.columns
         rows = np.flatnonzero(columns.packet >= 0)
         packets = columns.packet[rows]
@@ -67,7 +67,7 @@ class Judge:
             return
         if int(packets.max()) >= _MOST_PACKETS:
             at = int(np.flatnonzero(packets >= _MOST_PACKETS)[0])
-            self.see(int(rows[at]), f"packet {packets[at]}, where an experiment makes {_MOST_PACKETS} at most")
+            self.see(int(rows[at]), f"packet {packets[at]}, but an experiment has at most {_MOST_PACKETS}")
             return
         ends = np.full(int(packets.max()) + 1, len(columns), dtype=np.int64)
         words = columns.word[rows]
@@ -83,23 +83,23 @@ class Judge:
             behind = makes[rows[makes] > first[packets[makes]]]
             if len(behind):
                 packet = packets[behind[0]]
-                self.see(int(rows[behind[0]]), f"packet {packet} is made behind another line that names it")
+                self.see(int(rows[behind[0]]), f"packet {packet} is created after another line that names it")
 
     def sums(self, counters: list[int]) -> None:
-        """Compares the counters, which come last, with the lines before."""
+        """Checks the counters, which are last, against the lines."""
         made, delivered, held, *drops = counters
         columns, last = self.columns, len(self.columns)
         if made != delivered + held + sum(drops):
             self.see(last, "the counters don't add up")
         found = int(np.count_nonzero(columns.word == DELIVER))
         if delivered != found:
-            self.see(last, f"{delivered} delivered, where the lines have {found}")
+            self.see(last, f"{delivered} delivered, but the lines have {found}")
         causes = np.bincount(columns.more[columns.word == DROP], minlength=len(CAUSES))
         for cause, count, counted in zip(CAUSES, drops, causes.tolist()):
             if count != counted:
-                self.see(last, f"{count} drops `{cause}`, where the lines have {counted}")
+                self.see(last, f"{count} drops `{cause}`, but the lines have {counted}")
         if made > _MOST_PACKETS:
-            self.see(last, f"{made} packets were made, where an experiment makes {_MOST_PACKETS} at most")
+            self.see(last, f"{made} packets were created, but an experiment has at most {_MOST_PACKETS}")
         late = np.flatnonzero(columns.packet >= made)
         if len(late) and self.fault is None:
-            self.see(int(late[0]), f"packet {columns.packet[late[0]]}, where {made} were made")
+            self.see(int(late[0]), f"packet {columns.packet[late[0]]}, but {made} were created")

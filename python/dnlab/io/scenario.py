@@ -1,28 +1,27 @@
-"""The one reader of scenario texts, written from docs/reference/scenario.md alone.
+"""The only reader of scenarios, written from docs/reference/scenario.md alone.
 
-`Judged` says which fault stands where, as `dnlab check` must; `read` gives the experiments with their commands. It
-needs nothing but Python itself, and has no simulation.
+`Judged` finds the first fault and its line, as `dnlab check` must; `read` returns the experiments with their commands. Needs only
+Python, and simulates nothing.
 """
 import re
 from contextlib import suppress
 from typing import Iterator, Optional, Union
 
-from dnlab.errors import Refused
-from dnlab.io.scenario_parts import MOST_BYTES, MAX_EXPERIMENTS, MOST_LINE, Command, Commands, Plan, Run, Sends
+from dnlab.errors import ParseError
+from dnlab.io.scenario_parts import MOST_BYTES, MOST_EXPERIMENTS, MOST_LINE, Command, Commands, Plan, Run, Sends
 from dnlab.io.scenario_words import BadWord, Told, Words, command, experiment
 
-__all__ = ["Command", "Judged", "MOST_BYTES", "MAX_EXPERIMENTS", "MOST_LINE", "Plan", "Sends", "read"]
+__all__ = ["Command", "Judged", "MOST_BYTES", "MOST_EXPERIMENTS", "MOST_LINE", "Plan", "Sends", "read"]
 
-# Reading fewer injected packets than this by NumPy costs more than it saves, as NumPy itself must be loaded.
+# Below this number of injected packets, loading NumPy costs more than it saves.
 MANY = 1000
 
 
 class Judged:
-    """What a text is: `fault` is None or (line, cause); `experiments` has name and number of commands of each.
+    """The result of parsing a text: `fault` is None or (line, cause); `experiments` has the name and the number of commands of each.
 
-    `plans` has the experiments with their commands, where they are kept. Texts that are to be split may be longer than
-    a text of the program: then `limited` is False.
-    """
+    `plans` has the experiments with their commands, if they are kept. Texts that will be split may exceed the program's limits: then
+    `limited` is False."""
 
     def __init__(self, text: bytes, keep: bool = False, limited: bool = True) -> None:
         self.experiments: list[tuple[str, int]] = []
@@ -46,7 +45,7 @@ class Judged:
         return (text.count(b"\n") + 1, cause) if cause else None
 
     def injected(self, run: Run) -> Optional[tuple[int, str]]:
-        """Takes lines that inject; returns the first that is refused, and the cause."""
+        """Adds lines that inject. Returns the first one that is refused, and the cause."""
         moments = run.columns[0]
         falls = (moments[1:] < moments[:-1]).nonzero()[0]
         cause = self.misplaced(int(moments[0]))
@@ -85,7 +84,7 @@ class Judged:
     def begun(self, line: int, name: str, seed: int, budget: int, steps: int) -> Optional[str]:
         if self.is_open:
             return "noend"
-        if self.limited and len(self.experiments) == MAX_EXPERIMENTS:
+        if self.limited and len(self.experiments) == MOST_EXPERIMENTS:
             return "toomany"
         if name in self.names:
             return "samename"
@@ -104,7 +103,7 @@ class Judged:
         return cause
 
     def misplaced(self, moment: int) -> Optional[str]:
-        """Returns why no command of a moment can be here."""
+        """Returns why no command of this time can be here, or None."""
         if not self.experiments:
             return "noexperiment"
         if not self.is_open:
@@ -112,7 +111,7 @@ class Judged:
         return "backwards" if moment < self.last else None
 
     def take(self, part: Union[Command, Run], last: int, more: int) -> None:
-        """Adds one or more commands to the experiment, the last of them at a moment."""
+        """Adds one or more commands to the experiment, the last of them at a time (ns)."""
         self.last = last
         name, count = self.experiments[-1]
         self.experiments[-1] = name, count + more
@@ -121,8 +120,8 @@ class Judged:
 
 
 def _parts_of(text: bytes) -> Iterator[tuple[int, Union[bytes, Run]]]:
-    """Yields the lines of a text of whole lines, each with its number; by NumPy, if it is installed, those that inject together
-    if they are many."""
+    """Yields the lines of a text of whole lines, each with its number; runs of many `inject` lines together, if NumPy is
+    installed."""
     if text.count(b" inject ") >= MANY:
         with suppress(ModuleNotFoundError):
             from dnlab.io.injections import parts_of
@@ -132,14 +131,13 @@ def _parts_of(text: bytes) -> Iterator[tuple[int, Union[bytes, Run]]]:
 
 
 def read(text: bytes) -> dict[str, Plan]:
-    """The experiments of a scenario, by name; a text that is none is refused with its line and the cause.
+    """Returns the experiments of a scenario, by name. Raises `ParseError` with the line and the cause.
 
-    It may have more experiments and bytes than the program reads at once, as `dnlab-spread` takes them.
-    """
+    It may have more experiments and bytes than the program reads at once, as for `dnlab-spread`."""
     judged = Judged(text, keep=True, limited=False)
     if judged.fault:
         line, cause = judged.fault
         lines = text.split(b"\n")
         shown = lines[line - 1][:60].decode("ascii", "replace") if line <= len(lines) else "the end of the text"
-        raise Refused(line, f"{cause}: no line of a scenario: {shown!r}")
+        raise ParseError(line, f"{cause}: not a line of a scenario: {shown!r}")
     return judged.plans

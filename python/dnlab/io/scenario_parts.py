@@ -1,4 +1,4 @@
-"""What a scenario has: experiments, their commands and what these send; and the numbers of docs/reference/scenario.md."""
+"""The contents of a scenario: experiments, their commands and what these send; and the limits of docs/reference/scenario.md."""
 from bisect import bisect_right
 from dataclasses import dataclass
 from typing import TYPE_CHECKING, Iterator, Mapping, NamedTuple, Optional, Sequence, Union, overload
@@ -8,7 +8,7 @@ if TYPE_CHECKING:
 
 MOST_BYTES = 16777216
 MOST_LINE = 512
-MAX_EXPERIMENTS = 256
+MOST_EXPERIMENTS = 256
 CAUSES = ("toobig", "cut", "toolong", "badbyte", "badword", "outofrange", "noend", "toomany", "samename",
           "noexperiment", "afterend", "backwards")
 NUMBER = r"(?:0|[1-9][0-9]{0,19})"
@@ -19,11 +19,11 @@ TIMES = {"": 10**6, "s": 10**9, "ms": 10**6, "us": 10**3}
 MASKS = {"src-ip": 8, "dst-ip": 8, "src-port": 4, "dst-port": 4, "proto": 2}
 MOMENTS = (0, 10**15)
 STEPS = 10**6
-# What a flow has where its line doesn't say, and what its packets have besides the segment.
+# The defaults of a flow, and the size of its headers.
 WINDOW = 65535
 SSTHRESH = 65535
 HEADER = 40
-# The sender of injected packets, where a user gives no other name.
+# The sender of injected packets without a name of the user's.
 INJECTED = "injected"
 
 
@@ -31,9 +31,8 @@ INJECTED = "injected"
 class Sends:
     """What a command sends: a packet of `inject`, a train or a flow.
 
-    `size` is a packet's in bytes, with 40 bytes of header in a flow's; `count` packets or segments; `gap` in ns;
-    `smss`, `window` and `ssthresh` in bytes; `source` and `target` are addresses.
-    """
+    `size` is a packet's size in bytes, for flows with 40 bytes of headers; `count` packets or segments; `gap` in ns; `smss`,
+    `window` and `ssthresh` in bytes; `source` and `target` are addresses."""
     word: str
     number: Optional[int]
     size: int
@@ -46,7 +45,7 @@ class Sends:
     target: str = ""
 
     def name(self) -> str:
-        """The sender as tables name it.
+        """Returns the sender's name in tables.
 
         >>> Sends("train", 9, 100).name()
         'train 9'
@@ -55,10 +54,9 @@ class Sends:
 
 
 class Command(NamedTuple):
-    """A command: its line, its moment in ns, its first word and its words behind the moment.
+    """A command: its line, its time in ns, its first word and its text after the time.
 
-    `sends` is what it sends, `stops` the flow that it stops, `pipe` the pipe that it configures, else None.
-    """
+    `sends` is what it sends, `stops` the flow that it stops, `pipe` the pipe that it configures, else None."""
     line: int
     moment: int
     word: str
@@ -69,15 +67,14 @@ class Command(NamedTuple):
 
 
 class Run(NamedTuple):
-    """Lines that each inject a packet, with no others between them but empty ones: their numbers from 1, shape (n,), their bytes
-    without needless spaces, and what they say as int64 of shape (7, n): moment, protocol (6 or 17), source, its port, target,
-    its port, size."""
+    """Successive `inject` lines (ignoring empty ones): their numbers from 1, shape (n,), their bytes without extra spaces, and their values as
+    int64 of shape (7, n): time, protocol (6 or 17), source, its port, target, its port, size."""
     lines: "Ints"
     text: bytes
     columns: "Ints"
 
     def commands(self, begin: int = 0) -> Iterator[Command]:
-        """Yields the commands, from a place among them on."""
+        """Yields the commands, from an index on."""
         for number, line in zip(self.lines[begin:].tolist(), self.text.decode("ascii").split("\n")[begin:-1]):
             moment, text = line[1:].split(" ", 1)
             words = text.split(" ")
@@ -86,8 +83,8 @@ class Run(NamedTuple):
 
 
 class Commands(Sequence[Command]):
-    """The commands of an experiment, in order. Lines that inject may be kept in `runs`, whose commands are made when they
-    are used; `plain` has all others, each with its place. `runs` has the place of the first command of each."""
+    """The commands of an experiment, in order. `inject` lines may be kept in `runs`, whose commands are created on use; `plain` has all
+    others, each with its index. `runs` has the index of the first command of each."""
 
     def __init__(self) -> None:
         self.plain: list[tuple[int, Command]] = []
@@ -131,14 +128,14 @@ class Commands(Sequence[Command]):
         return next(part.commands(at - self._places[number])) if isinstance(part, Run) else part
 
     def text(self) -> bytes:
-        """Returns all lines, without comments and needless spaces."""
+        """Returns all lines, without comments and extra spaces."""
         return b"".join(part.text if isinstance(part, Run) else f"@{part.moment} {part.text}\n".encode()
                         for part in self._parts)
 
 
 class Plan(NamedTuple):
-    """An experiment of a scenario: its name, the line of its heading, seed, budgets of packets and of steps; `names` has
-    a user's names for senders of injected packets, by source (`dnlab.analysis.naming`)."""
+    """An experiment of a scenario: its name, the line of its heading, seed, budgets of packets and of steps; `names` has the user's names for
+    sources of injected packets (`dnlab.analysis.naming`)."""
     name: str
     line: int
     seed: int
@@ -148,10 +145,10 @@ class Plan(NamedTuple):
     names: Mapping[str, str] = {}
 
     def end(self) -> Optional[int]:
-        """The moment of its `end`, in ns."""
+        """Returns the time of its `end`, in ns, or None."""
         return self.commands[-1].moment if self.commands and self.commands[-1].word == "end" else None
 
     def settings(self) -> str:
-        """The configurations of its pipes, in the order in which they are given, without spaces too many."""
+        """Returns the configurations of its pipes, in order, without extra spaces."""
         return "; ".join(command.text.replace(" config", "", 1) for _, command in self.commands.plain
                          if command.pipe is not None)

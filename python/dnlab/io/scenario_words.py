@@ -1,4 +1,4 @@
-"""The words of a scenario's lines, judged one after the other."""
+"""Parses the words of a scenario's lines, from left to right."""
 import re
 from typing import Callable, NamedTuple, Optional
 
@@ -7,11 +7,11 @@ from dnlab.io.scenario_parts import (ADDRESS, BIT_UNITS, HEADER, MASKS, MOMENTS,
 
 
 class BadWord(Exception):
-    """The words aren't a line of the page."""
+    """The words are not a valid line of docs/reference/scenario.md."""
 
 
 class Words:
-    """The words of one line, taken from the left; `fits` says whether all numbers so far are in range."""
+    """The words of a line, removed from the left; `fits` says whether all numbers so far are in range."""
 
     def __init__(self, words: list[str]) -> None:
         self.left = words
@@ -48,7 +48,7 @@ class Words:
         return found[0]
 
     def ports(self) -> None:
-        """Ports behind an address of a rule, where there are some."""
+        """Parses the optional ports after an address of a rule."""
         if not self.left or self.left[0] == "to":
             return
         found = self.match(rf"({NUMBER})(?:-({NUMBER}))?")
@@ -57,7 +57,7 @@ class Words:
             self.within(int(found[2]), first, 65535)
 
     def ends(self) -> tuple[str, str]:
-        """Both addresses of what is sent, each with its port."""
+        """Parses source and target, each with its port."""
         addresses = []
         for _ in range(2):
             addresses.append(self.address())
@@ -66,7 +66,7 @@ class Words:
 
 
 class Told(NamedTuple):
-    """What a command's words tell of what it sends, stops or configures."""
+    """What a command sends, stops or configures."""
     sends: Optional[Sends] = None
     stops: Optional[int] = None
     pipe: Optional[int] = None
@@ -105,7 +105,7 @@ def add(words: Words) -> Told:
 
 
 def mask(words: Words) -> None:
-    """The list behind `mask`."""
+    """Parses the list after `mask`."""
     if words.left and words.left[0] == "all":
         words.word()
         return
@@ -119,7 +119,7 @@ def mask(words: Words) -> None:
 
 
 def codel(words: Words) -> None:
-    """The times behind `codel`."""
+    """Parses the times after `codel`."""
     seen: set[str] = set()
     while words.left and words.left[0] in ("target", "interval"):
         name = words.word()
@@ -231,7 +231,7 @@ COMMANDS: dict[str, Callable[[Words], Told]] = {
 
 
 def experiment(words: Words) -> tuple[str, int, int, int]:
-    """Name, seed, budget and steps."""
+    """Returns name, seed, budget and steps."""
     words.says("experiment")
     name = words.match("[a-z0-9_-]{1,32}")[0]
     words.says("seed")
@@ -246,7 +246,7 @@ def experiment(words: Words) -> tuple[str, int, int, int]:
 
 
 def command(words: Words) -> tuple[int, str, Told]:
-    """Its moment, its word, and what it tells."""
+    """Returns the command's time, its word, and its effect."""
     moment = words.within(int(words.match(rf"@({NUMBER})")[1]), *MOMENTS)
     name = words.word()
     if name not in COMMANDS:

@@ -1,21 +1,22 @@
-"""What the commands of a scenario set pipes to, by docs/reference/scenario.md: rates, delays and queues, and when they hold."""
+"""The configurations of pipes in a scenario (docs/reference/scenario.md): rates, delays and queues over time."""
 from dataclasses import dataclass
 from typing import Iterable, NamedTuple, Optional
 
 from dnlab.io.scenario_parts import BIT_UNITS, MASKS, SCALES, TIMES, Command
 
 _MILLION = 10**6
-# The options whose defaults are easily got back by a second `config` that doesn't name them, with these defaults in words.
-# CoDel's times where none are said (RFC 8289, sections 4.3 and 4.4), ns.
+# The options that a second `config` easily resets by omission, with their defaults as text.
 CODEL = {"target": 5 * 10**6, "interval": 100 * 10**6}
 DEFAULTS = {"bw": "no limit", "delay": "0 ms", "queue": "50 slots", "plr": "0"}
 
 
 @dataclass(frozen=True)
 class Config:
-    """A `config` of a pipe, and its line: `bw` in bit/s (0 is no limit), `delay` in ns, `slots` or `bytes` of its queue
-    (the other is None), `plr` in millionths, whether it is CoDel's with its `target` and `interval` in ns (None without CoDel),
-    the words of its `mask`; `given` has the options that it names, with their words."""
+    """A `config` of a pipe, with its line.
+
+    `bw` is in bit/s (0 is unlimited), `delay` in ns, the queue's limit in `slots` or `bytes` (the other is None), `plr` in
+    millionths; CoDel's `target` and `interval` are in ns (None without CoDel); `mask` is text; `given` has the options that it names,
+    with their text."""
     line: int
     bw: int = 0
     delay: int = 0
@@ -29,7 +30,7 @@ class Config:
     given: tuple[tuple[str, str], ...] = ()
 
     def words(self, *names: str) -> str:
-        """Some of its options as the scenario has them, else their defaults.
+        """Returns options in scenario syntax, with defaults for those it omits.
 
         >>> config_of(2, "pipe 1 config bw 8Mbit/s").words("bw", "delay")
         'bw 8Mbit/s delay 0'
@@ -40,7 +41,7 @@ class Config:
 
 
 def config_of(line: int, text: str) -> Config:
-    """Reads the words of a `config`, which must be right.
+    """Parses a valid `config`.
 
     >>> one = config_of(2, "pipe 1 config bw 8Mbit/s delay 10 queue 30KBytes mask src-ip 0xff codel target 5")
     >>> one.bw, one.delay, one.slots, one.bytes
@@ -64,7 +65,7 @@ def config_of(line: int, text: str) -> Config:
 
 
 def _codel_in(words: list[str]) -> dict[str, int]:
-    """CoDel's times, ns: those of the words, else its defaults."""
+    """Returns CoDel's times, ns: those of the words, or its defaults."""
     given = {name: value for name, value in zip(words, words[1:]) if name in CODEL}
     found = dict(CODEL)
     for name, value in given.items():
@@ -74,7 +75,7 @@ def _codel_in(words: list[str]) -> dict[str, int]:
 
 
 def _mask_in(words: list[str]) -> str:
-    """The words behind `mask`, '' without."""
+    """Returns the words after `mask`, '' without."""
     if "mask" not in words:
         return ""
     rest = words[words.index("mask") + 1:]
@@ -86,7 +87,7 @@ def _mask_in(words: list[str]) -> str:
 
 
 def rate_of(word: str) -> int:
-    """A rate in bit/s.
+    """Returns a rate in bit/s.
 
     >>> rate_of("10"), rate_of("8Mbit/s"), rate_of("2KByte/s")
     (10, 8000000, 16000)
@@ -100,14 +101,14 @@ def rate_of(word: str) -> int:
 
 
 class Change(NamedTuple):
-    """A `config` of a pipe that was done, or its deletion (`config` is None): its row in the report and its moment, ns."""
+    """An executed `config` of a pipe, or its deletion (`config` is None): its row in the report and its time, ns."""
     row: int
     moment: int
     config: Optional[Config]
 
 
 def changes_of(done: Iterable[tuple[int, Command]]) -> dict[int, list[Change]]:
-    """Of each pipe its changes, in order, by the commands that were done, each with its row in the report."""
+    """Returns the changes of each pipe, in order, by the executed commands, each with its row in the report."""
     found: dict[int, list[Change]] = {}
     for row, command in done:
         if command.pipe is not None:
@@ -119,7 +120,7 @@ def changes_of(done: Iterable[tuple[int, Command]]) -> dict[int, list[Change]]:
 
 
 def stretches_of(changes: Iterable[Change]) -> list[list[Change]]:
-    """The configurations of a pipe, in a list for each of its lives between deletions."""
+    """Returns the configurations of a pipe, in a list for each of its lifetimes between deletions."""
     found: list[list[Change]] = [[]]
     for change in changes:
         if change.config is None:

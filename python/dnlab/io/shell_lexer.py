@@ -1,10 +1,10 @@
-"""Cuts a shell script into words and operators, with the parts of each word."""
+"""Splits a shell script into words and operators, with the parts of each word."""
 import itertools
 import re
 from dataclasses import dataclass, field
 from typing import Sequence
 
-from dnlab.errors import Refused
+from dnlab.errors import ParseError
 
 _OPERATORS = re.compile(r"<<-|;;|&&|\|\||<<|>>|>&|<&|>\||[;&|()<>\n]")
 _PLAIN = re.compile(r"[^\s\\'\"$`;&|()<>]+")
@@ -13,7 +13,7 @@ _NAME = re.compile(r"[A-Za-z_][A-Za-z_0-9]*|[0-9@*#?$!-]")
 
 @dataclass(frozen=True)
 class Part:
-    """A part of a word: `text` as it is, a parameter (`name`), an expression (`sum`) or a command whose output is meant (`call`)."""
+    """A part of a word: literal `text`, a parameter (`name`), an expression (`sum`) or a command substitution (`call`)."""
     kind: str
     text: str
     quoted: bool = False
@@ -24,26 +24,26 @@ Word = tuple[Part, ...]
 
 @dataclass
 class Token:
-    """A word, or an operator with the here-document that it begins."""
+    """A word, or an operator with its here-document."""
     line: int
     word: Word = ()
     operator: str = ""
     body: Word = ()
 
     def plain(self) -> str:
-        """The word or operator, if no part of it is quoted or expanded."""
+        """Returns the word or operator, if no part of it is quoted or expanded."""
         whole = len(self.word) == 1 and self.word[0].kind == "text" and not self.word[0].quoted
         return self.operator or (self.word[0].text if whole else "")
 
 
 @dataclass
 class Lexer:
-    """Cuts a text into words and operators."""
+    """Splits a text into words and operators."""
     text: str
     at: int = 0
     line: int = 1
     found: list[Token] = field(default_factory=list)
-    # Here-documents that begin after the next line feed: the token, the word that ends it, `-` and whether it is quoted.
+    # Here-documents that start after the next line feed: the token, the word that ends it, `-` and whether it is quoted.
     due: list[tuple[Token, str, bool, bool]] = field(default_factory=list)
 
     def tokens(self) -> list[Token]:
@@ -55,7 +55,7 @@ class Lexer:
             elif self.at < len(self.text):
                 self._word()
         if self.due:
-            raise Refused(self.due[0][0].line, f"the here-document `{self.due[0][1]}` doesn't end")
+            raise ParseError(self.due[0][0].line, f"the here-document `{self.due[0][1]}` doesn't end")
         return self.found
 
     def _blank(self) -> None:
@@ -94,7 +94,7 @@ class Lexer:
                 token.body = (Part("text", text, True),) if quoted else tuple(_quoted(text, token.line))
                 return
             lines.append(line)
-        raise Refused(token.line, f"the here-document `{end}` doesn't end")
+        raise ParseError(token.line, f"the here-document `{end}` doesn't end")
 
     def _word(self) -> None:
         line, parts = self.line, list[Part]()
@@ -104,7 +104,7 @@ class Lexer:
                 break
             parts += self._part(one)
         if self.text[self.at:self.at + 1] in ("<", ">") and len(parts) == 1 and parts[0].text in ("0", "1", "2"):
-            # The number of a file that is redirected.
+            # The number of a file descriptor that is redirected.
             return
         self.found.append(Token(line, _joined(parts)))
 
@@ -131,7 +131,7 @@ class Lexer:
     def _to(self, end: str, skipped: int) -> str:
         found = self.text.find(end, self.at + skipped)
         if found < 0:
-            raise Refused(self.line, f"`{end}` has no other that ends it")
+            raise ParseError(self.line, f"`{end}` has no closing one")
         text = self.text[self.at + skipped:found]
         self.line += text.count("\n")
         self.at = found + len(end)
@@ -140,14 +140,14 @@ class Lexer:
     def _to_quote(self) -> str:
         found = re.compile(r'"((?:[^"\\]|\\.)*)"', re.S).match(self.text, self.at)
         if not found:
-            raise Refused(self.line, '`"` has no other that ends it')
+            raise ParseError(self.line, '`"` has no closing one')
         self.line += found[0].count("\n")
         self.at = found.end()
         return found[1]
 
 
 def _joined(parts: Sequence[Part]) -> Word:
-    """Joins neighbours that are alike."""
+    """Joins adjacent parts of the same kind."""
     found: list[Part] = []
     for (kind, quoted), alike in itertools.groupby(parts, lambda part: (part.kind, part.quoted)):
         found += [Part(kind, "".join(part.text for part in alike), quoted)] if kind == "text" else alike
@@ -155,7 +155,7 @@ def _joined(parts: Sequence[Part]) -> Word:
 
 
 def _quoted(text: str, line: int) -> Word:
-    """The parts of what double quotes or a here-document hold."""
+    """Returns the parts of the content of double quotes or of a here-document."""
     found: list[Part] = []
     at = 0
     while at < len(text):
@@ -173,11 +173,11 @@ def _quoted(text: str, line: int) -> Word:
 
 
 def _dollar(text: str, at: int, line: int, quoted: bool) -> tuple[Part, int]:
-    """What `$` or a backquote begins, and where it ends."""
+    """Returns what `$` or a backquote starts, and where it ends."""
     if text[at] == "`":
         end = text.find("`", at + 1)
         if end < 0:
-            raise Refused(line, "a backquote has no other that ends it")
+            raise ParseError(line, "a backquote has no closing one")
         return Part("call", text[at + 1:end], quoted), end + 1
     for begin, closing, kind in (("$((", "))", "sum"), ("$(", ")", "call"), ("${", "}", "name")):
         if text.startswith(begin, at):
@@ -188,15 +188,15 @@ def _dollar(text: str, at: int, line: int, quoted: bool) -> tuple[Part, int]:
 
 
 def _matching(text: str, begin: int, closing: str, line: int) -> int:
-    """Where the bracket that closes stands."""
+    """Returns the position of the closing bracket."""
     opening, depth = {")": "(", "}": "{"}[closing[0]], 0
     for at in range(begin, len(text)):
         if depth == 0 and text.startswith(closing, at):
             return at
         depth += (text[at] == opening) - (text[at] == closing[0])
-    raise Refused(line, f"`{opening}` has no `{closing}` that ends it")
+    raise ParseError(line, f"`{opening}` has no closing `{closing}`")
 
 
 def parts_of(text: str, line: int) -> Word:
-    """Returns the parts of a text as in double quotes; raises `Refused`."""
+    """Returns the parts of a text as in double quotes. Raises `ParseError`."""
     return _quoted(text, line)

@@ -7,11 +7,11 @@ import re
 from dataclasses import dataclass
 from typing import Optional, Union
 
-from dnlab.errors import Refused
+from dnlab.errors import ParseError
 from dnlab.io.shell_lexer import Lexer, Part, Token, Word
 
 _ASSIGNED = re.compile(r"([A-Za-z_][A-Za-z_0-9]*)=")
-# Words that end a list of commands, where a command would begin.
+# Words that end a list of commands, where a command would start.
 _CLOSING = {"then", "else", "elif", "fi", "do", "done", "esac", "}", ";;", ")"}
 _UNKNOWN = {"select", "function", "[[", "time", "coproc"}
 
@@ -27,7 +27,7 @@ class Simple:
 
 @dataclass(frozen=True)
 class Chain:
-    """Commands that `&&` and `||` join; `!` turns the status of one."""
+    """Commands joined by `&&` and `||`; `!` inverts the status of one."""
     line: int
     first: "Node"
     rest: tuple[tuple[str, "Node"], ...] = ()
@@ -93,7 +93,7 @@ class _Parser:
     def _take(self, wanted: str = "") -> Token:
         token = self._now()
         if wanted and token.plain() != wanted:
-            raise Refused(token.line, f"`{wanted}` is missing before `{_shown(token)}`")
+            raise ParseError(token.line, f"`{wanted}` is missing before `{_shown(token)}`")
         self.at += 1
         return token
 
@@ -105,18 +105,18 @@ class _Parser:
             self.at += 1
 
     def nodes(self, *closing: str) -> Nodes:
-        """Commands up to a word that closes them, which stays."""
+        """Parses commands up to a word that closes them, which is not consumed."""
         found: list[Node] = []
         self._feeds()
         while not self._is("end", *_CLOSING):
             found.append(self._chain())
             if not self._is(";", "\n", "end", *_CLOSING):
-                raise Refused(self._now().line, f"`{_shown(self._now())}` isn't understood")
+                raise ParseError(self._now().line, f"`{_shown(self._now())}` isn't understood")
             if self._is(";"):
                 self.at += 1
             self._feeds()
         if not self._is(*(closing or ("end",))):
-            raise Refused(self._now().line, f"`{_shown(self._now())}` where {' or '.join(f'`{one}`' for one in closing) or 'a command'}"
+            raise ParseError(self._now().line, f"`{_shown(self._now())}` where {' or '.join(f'`{one}`' for one in closing) or 'a command'}"
                           " should be")
         return tuple(found)
 
@@ -136,7 +136,7 @@ class _Parser:
             self.at += 1
             return Chain(token.line, self._command(), (), True)
         if word in _UNKNOWN:
-            raise Refused(token.line, f"`{word}` isn't understood")
+            raise ParseError(token.line, f"`{word}` isn't understood")
         read = {"if": self._if, "while": self._while, "until": self._while, "for": self._for, "case": self._case, "{": self._group}.get(word)
         if read is None:
             return self._simple()
@@ -229,7 +229,7 @@ class _Parser:
             if len(words) == 1 and not assigned and self._is("("):
                 return self._function(token)
         if not words and not assigned:
-            raise Refused(begin.line, f"`{_shown(begin)}` isn't understood")
+            raise ParseError(begin.line, f"`{_shown(begin)}` isn't understood")
         return Simple(begin.line, tuple(words), tuple(assigned), body)
 
     def _function(self, name: Token) -> Node:
@@ -241,7 +241,7 @@ class _Parser:
         return Function(name.line, name.plain(), group.nodes if isinstance(group, Group) else ())
 
     def _redirected(self) -> Optional[Word]:
-        """Passes redirections; the here-document of one, if there is one. Nothing is read from files or written to them."""
+        """Skips redirections; returns the here-document, if there is one. No file is read or written."""
         body: Optional[Word] = None
         while self._is("<<", "<<-"):
             body = self._take().body
@@ -249,7 +249,7 @@ class _Parser:
             operator = self._take()
             target = self._take().plain()
             if target != "/dev/null" and not (operator.operator in (">&", "<&") and re.fullmatch(r"[0-9-]", target)):
-                raise Refused(operator.line, f"`{operator.operator} {target}`: no file is read or written")
+                raise ParseError(operator.line, f"`{operator.operator} {target}`: redirections to and from files are not supported")
         return body
 
 
@@ -259,5 +259,5 @@ def _shown(token: Token) -> str:
 
 
 def read(text: str, line: int = 1) -> Nodes:
-    """Returns the commands of a script whose first line is `line`; raises `Refused` with the line that isn't understood."""
+    """Returns the commands of a script whose first line is `line`. Raises `ParseError` with the line that isn't understood."""
     return _Parser(Lexer(text, line=line).tokens()).nodes()

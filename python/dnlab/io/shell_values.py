@@ -1,4 +1,4 @@
-"""The values of a shell's whole numbers, expressions and tests."""
+"""Integers, arithmetic expressions and tests of a shell."""
 import ast
 import operator
 import re
@@ -13,14 +13,14 @@ _LONGEST = 200
 
 
 def number_of(text: str) -> int:
-    """Returns a whole number of at most 18 digits; raises `ValueError`."""
+    """Returns an integer of at most 18 digits. Raises `ValueError`."""
     if not re.fullmatch(r"-?[0-9]{1,18}", text):
         raise ValueError(text)
     return int(text)
 
 
 def sequence_of(words: Sequence[str]) -> range:
-    """Returns the numbers that seq(1) prints for `[FIRST [STEP]] LAST`; raises `ValueError`.
+    """Returns the numbers that seq(1) prints for `[FIRST [STEP]] LAST`. Raises `ValueError`.
 
     >>> list(sequence_of(["3"])), list(sequence_of(["5", "-2", "1"]))
     ([1, 2, 3], [5, 3, 1])
@@ -33,7 +33,7 @@ def sequence_of(words: Sequence[str]) -> range:
 
 
 def is_so(words: Sequence[str]) -> bool:
-    """Returns what `[` finds of words; raises `ValueError` for tests of files and others that aren't known.
+    """Returns the result of `[`. Raises `ValueError` for tests of files and other unknown tests.
 
     >>> is_so(["-n", "a"]), is_so(["!", "3", "-lt", "5"]), is_so(["a", "=", "b"])
     (True, False, False)
@@ -52,7 +52,7 @@ def is_so(words: Sequence[str]) -> bool:
 
 
 def sum_of(text: str) -> int:
-    """Returns the value of an expression, cut to 64 bits as C does it; raises `ValueError`.
+    """Returns the value of an expression, wrapped to 64 bits as in C. Raises `ValueError`.
 
     >>> sum_of("(1 + 2) * -7 / 2"), sum_of("-7 % 4")
     (-10, -3)

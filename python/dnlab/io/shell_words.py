@@ -1,5 +1,4 @@
-"""The words that a shell script gives to ipfw(8), sysctl(8) and sleep(1), found by reading it. Nothing is executed: what isn't understood
-is refused with its line.
+"""Finds the arguments that a shell script passes to ipfw(8), sysctl(8) and sleep(1), without running it. Refuses other syntax.
 
 >>> words_of("for rate in 1 2; do ipfw pipe 1 config bw ${rate}Mbit/s; done")
 [('ipfw', 'pipe', '1', 'config', 'bw', '1Mbit/s'), ('ipfw', 'pipe', '1', 'config', 'bw', '2Mbit/s')]
@@ -8,24 +7,24 @@ import fnmatch
 import re
 from typing import Optional, Sequence
 
-from dnlab.errors import Refused
+from dnlab.errors import ParseError
 from dnlab.io import shell_syntax
 from dnlab.io.shell_lexer import Part, Word, parts_of
 from dnlab.io.shell_syntax import Case, Chain, For, Group, If, Node, Nodes, Simple, While
 from dnlab.io.shell_values import is_so, sequence_of, sum_of
 
 KEPT = ("ipfw", "sysctl", "sleep")
-# What changes nothing that a scenario has.
+# Commands without an effect on a scenario.
 _SILENT = {"kldload", "kldstat", "kldunload", "ifconfig", "route", "service", "sysrc", "logger", "echo", "printf", ":", "true", "export",
            "readonly", "local", "umask", "ulimit"}
 _PLACE = re.compile(r"/(?:usr/)?(?:local/)?s?bin/")
-# Characters of all words together, and of a script.
+# The maximum number of characters of all words together, and of a script.
 _MOST = 2**20
 _LONGEST = 2**18
 
 
 class _Ends(Exception):
-    """A word that ends what goes on: `exit`, `return`, `break` or `continue`, and its status."""
+    """A word that leaves the current construct: `exit`, `return`, `break` or `continue`, and its status."""
 
     def __init__(self, word: str, status: int = 0) -> None:
         super().__init__(word)
@@ -33,7 +32,7 @@ class _Ends(Exception):
 
 
 class _Script:
-    """Goes over the commands of a script; `found` are the words of the programs that count."""
+    """Interprets the commands of a script; `found` are the calls of the programs of interest."""
 
     def __init__(self) -> None:
         self.found: list[tuple[str, ...]] = []
@@ -44,13 +43,13 @@ class _Script:
         self.status, self.strict, self.asked = 0, False, 0
         self.left, self.line = _MOST, 1
 
-    def no(self, cause: str) -> Refused:
-        return Refused(self.line, cause)
+    def no(self, cause: str) -> ParseError:
+        return ParseError(self.line, cause)
 
     def spend(self, amount: int) -> None:
         self.left -= amount
         if self.left < 0:
-            raise self.no(f"by here the script has more than {_MOST} characters of commands: a loop that doesn't end?")
+            raise self.no(f"at this point the script has more than {_MOST} characters of commands: is there an endless loop?")
 
     def run(self, nodes: Nodes) -> int:
         for node in nodes:
@@ -58,7 +57,7 @@ class _Script:
             self.line = node.line
             self.status = self.one(node)
             if self.strict and self.status and not self.asked and isinstance(node, Simple):
-                raise self.no("a command fails, which ends the script by `set -e`")
+                raise self.no("a command fails, which ends the script because of `set -e`")
         return self.status
 
     def one(self, node: Node) -> int:
@@ -139,7 +138,7 @@ class _Script:
         if name == "ipfw" and words and words[-1] in ("/dev/stdin", "-") and body is not None:
             self.found += [("ipfw", *one.split()) for one in self.text(body).splitlines() if one.strip() and one.lstrip()[0] != "#"]
             return
-        # ipfw(8) takes words that hold spaces apart too.
+        # ipfw(8) also splits arguments that contain spaces.
         self.found.append((name, *(one for word in words for one in word.split())))
 
     def call(self, name: str, words: list[str]) -> int:
@@ -171,7 +170,7 @@ class _Script:
             return 0
         if name == "read":
             return self.read([word for word in words if word != "-r"])
-        raise self.no(f"`{name}` isn't run: write the words of ipfw that it leads to, or give what `ipfw list` and `ipfw pipe show` print")
+        raise self.no(f"`{name}` isn't executed: write the ipfw commands that it runs, or use the output of `ipfw list` and `ipfw pipe show`")
 
     def read(self, names: list[str]) -> int:
         line = self.input.pop(0) if self.input else None
@@ -187,13 +186,13 @@ class _Script:
             raise self.no(f"`[ {' '.join(words)[:60]} ]` isn't understood") from None
 
     def text(self, word: Word) -> str:
-        """The value of a word that isn't split."""
+        """Returns the value of a word that isn't split."""
         found = "".join(self.value(part) for part in word)
         self.spend(len(found))
         return found
 
     def fields(self, words: Sequence[Word]) -> list[str]:
-        """The words that come of words: what isn't quoted is split at blanks."""
+        """Returns the fields that words expand to; unquoted parts are split at blanks."""
         found: list[str] = []
         for word in words:
             now: Optional[str] = None
@@ -207,7 +206,8 @@ class _Script:
         return found
 
     def pieces(self, part: Part) -> list[Optional[str]]:
-        """The fields of a part; the first joins what stands before it and the last what follows, and None joins nothing."""
+        """Returns the fields of a part; the first joins the text before it and the last the text after it, and None joins
+        nothing."""
         if part.kind == "name" and part.text in ("@", "*") and (part.quoted or not self.given):
             return [*self.given] if self.given else [None]
         value = self.value(part)
@@ -261,7 +261,7 @@ class _Script:
         return self.text(parts_of(text, self.line))
 
     def sum(self, text: str) -> int:
-        """The value of an expression of whole numbers, which C cuts to 64 bits."""
+        """Returns the value of an integer expression, which wraps to 64 bits as in C."""
         filled = self.nested(re.sub(r"(?<![\w$])([A-Za-z_]\w*)", r"$\1", text)).strip()
         try:
             return sum_of(filled)
@@ -269,7 +269,7 @@ class _Script:
             raise self.no(f"`$(({text[:60]}))` isn't understood") from None
 
     def output(self, text: str) -> str:
-        """What a command would print: `echo` and `seq` are known."""
+        """Returns the output of a command: `echo` and `seq` are known."""
         nodes = shell_syntax.read(text, self.line)
         words = self.fields(nodes[0].words) if len(nodes) == 1 and isinstance(nodes[0], Simple) else [""]
         try:
@@ -279,14 +279,14 @@ class _Script:
             self.spend(2 * len(numbers))
             return "\n".join(map(str, numbers))
         except ValueError:
-            raise self.no(f"`$({text[:60]})` isn't run: write what it prints") from None
+            raise self.no(f"`$({text[:60]})` isn't executed: write its output") from None
 
 
 def words_of(text: str) -> list[tuple[str, ...]]:
-    """Returns the words of each call of `ipfw`, `sysctl` and `sleep` in a script, in their order; raises `Refused` with the line that isn't
+    """Returns the arguments of each call of `ipfw`, `sysctl` and `sleep` in a script, in order. Raises `ParseError` with the line that isn't
     understood, or whose loops don't end."""
     if len(text) > _LONGEST:
-        raise Refused(1, f"the script has {len(text)} characters, and {_LONGEST} are the most")
+        raise ParseError(1, f"the script has {len(text)} characters; the maximum is {_LONGEST}")
     script = _Script()
     try:
         script.run(shell_syntax.read(text))
@@ -294,7 +294,7 @@ def words_of(text: str) -> list[tuple[str, ...]]:
         if ends.word == "exit" and ends.status:
             raise script.no(f"the script ends with status {ends.status}") from None
         if ends.word != "exit":
-            raise script.no(f"`{ends.word}` has no loop or function around it") from None
+            raise script.no(f"`{ends.word}` is outside of a loop or function") from None
     except RecursionError:
-        raise script.no("commands are nested too deep") from None
+        raise script.no("commands are nested too deeply") from None
     return script.found

@@ -1,13 +1,13 @@
-"""Cuts scenario texts between their experiments, so that the program can take them."""
+"""Splits scenarios between their experiments, so that the program can read them."""
 from typing import Iterable, Iterator, NamedTuple, Optional, Sequence
 
 from dnlab.io.scenario import Judged
-from dnlab.io.scenario_parts import MOST_BYTES, MAX_EXPERIMENTS
+from dnlab.io.scenario_parts import MOST_BYTES, MOST_EXPERIMENTS
 
 
 class Part(NamedTuple):
-    """An experiment of a text: its name, the line of its heading (from 1), how many commands it has, and its lines up to
-    the next heading."""
+    """An experiment of a text: its name, the line of its heading (from 1), its number of commands, and its lines up to the next
+    heading."""
     name: str
     line: int
     commands: int
@@ -21,7 +21,7 @@ class Fault(NamedTuple):
 
 
 def lines_in(text: bytes) -> Iterator[tuple[int, bytes, int]]:
-    """The lines of a text that begin an experiment: place, line (bytes) and number, from 1."""
+    """Yields the lines of a text that start an experiment: position, line (bytes) and number, from 1."""
     place = number = 0
     while True:
         found = text.find(b"experiment", place)
@@ -43,7 +43,8 @@ def names_of(text: bytes) -> list[str]:
 
 
 def experiments_in(texts: Iterable[bytes]) -> list[Part]:
-    """The experiments of some texts, one behind the other. What stands before a text's first is left out: comments."""
+    """Returns the experiments of some texts, in order. What precedes the first heading of a text is left out, since it is
+    comments."""
     found = []
     for text in texts:
         headings = list(lines_in(text))
@@ -58,11 +59,12 @@ def experiments_in(texts: Iterable[bytes]) -> list[Part]:
 
 
 def texts_of(parts: Sequence[Part]) -> list[list[Part]]:
-    """The experiments in as few texts as the program takes, in order: each at most 256 of them and 16777216 bytes."""
+    """Returns the experiments in as few texts as the program's limits allow, in order: each has at most 256 of them and 16777216
+    bytes."""
     found: list[list[Part]] = []
     size = 0
     for part in parts:
-        if not found or len(found[-1]) == MAX_EXPERIMENTS or size + len(part.text) > MOST_BYTES:
+        if not found or len(found[-1]) == MOST_EXPERIMENTS or size + len(part.text) > MOST_BYTES:
             found.append([])
             size = 0
         found[-1].append(part)
@@ -71,7 +73,7 @@ def texts_of(parts: Sequence[Part]) -> list[list[Part]]:
 
 
 def groups(costs: Sequence[int], parts: int) -> list[int]:
-    """Where each of so many groups ends: contiguous, none empty, each end as near as can be to its share of all costs.
+    """Returns where each of `parts` groups ends: contiguous, none empty, each end as close as possible to its share of all costs.
 
     >>> groups([9, 1, 1, 1], 2), groups([3, 3, 3, 3], 2)
     ([1, 4], [2, 4])
@@ -85,7 +87,7 @@ def groups(costs: Sequence[int], parts: int) -> list[int]:
         least, most = (ends[-1] if ends else 0) + 1, len(costs) - (parts - part)
         wanted = part * sums[-1]
         end = least
-        # The sums only grow, so the nearest is the first that the next isn't nearer than.
+        # The sums increase, so the nearest is the first one that is not farther than the next.
         while end < most and abs(sums[end + 1] * parts - wanted) < abs(sums[end] * parts - wanted):
             end += 1
         ends.append(end)
@@ -93,8 +95,8 @@ def groups(costs: Sequence[int], parts: int) -> list[int]:
 
 
 def shares(parts: Sequence[Part], count: int) -> list[list[Part]]:
-    """The experiments in so many groups with about as many commands each; more, where a group would be too long for the
-    program."""
+    """Returns the experiments in `count` groups with about the same number of commands; in more, if a group would exceed the program's
+    limits."""
     found = []
     begin = 0
     for end in groups([part.commands for part in parts], count) if parts else []:
@@ -104,7 +106,7 @@ def shares(parts: Sequence[Part], count: int) -> list[list[Part]]:
 
 
 def repeated(parts: Sequence[Part], before: set[str]) -> Optional[Part]:
-    """The first experiment whose name stood before; the names are added to those before."""
+    """Returns the first experiment whose name occurred before, and adds the names to `before`."""
     for part in parts:
         if part.name in before:
             return part
@@ -113,6 +115,6 @@ def repeated(parts: Sequence[Part], before: set[str]) -> Optional[Part]:
 
 
 def heading_fault(line: bytes) -> Optional[str]:
-    """What is wrong with the words of a heading by itself, if anything."""
+    """Returns the fault of a heading by itself, or None."""
     fault = Judged(line.split(b"\n")[0] + b"\n").fault
     return None if fault is None or fault[1] == "noend" else fault[1]

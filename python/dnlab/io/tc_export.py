@@ -1,12 +1,13 @@
-"""A setting of a scenario as a script for Linux' tc(8): rates and queues where packets leave, delays and losses where they come in.
+"""The configuration of a scenario as a script for Linux's tc(8): rates and queues where packets leave, delays and losses where they
+come in.
 
-A delay that is the same for all packets of a pipe may stand before its queue or behind it: each packet leaves as late. netem under a
-class of a rate would count what flies in its limit; so it stands on an ifb at the other interface.
+A constant delay may be applied before the queue or after it: packets leave at the same time. netem below a class with a rate would
+count packets in flight towards its limit, so it is on an ifb at the other interface.
 """
 import ipaddress
 from typing import Iterator, NamedTuple, Optional, Sequence
 
-from dnlab.errors import Faulty
+from dnlab.errors import InputError
 from dnlab.io.exports import Rule, Setting, number_behind, printable
 from dnlab.io.ipfw_words import network
 from dnlab.io.scenario_parts import TIMES
@@ -18,15 +19,15 @@ _MOST_CLASSES = 4000
 
 
 class Place(NamedTuple):
-    """The interface where packets leave, the one where they come in (for delays and losses; None where there is none), and the hosts
-    that get a class each where a pipe has a mask."""
+    """The interface where packets leave, the one where they come in (for delays and losses; None if there is none), and the hosts that
+    get a class each if a pipe has a mask."""
     leave: str
     enter: Optional[str]
     hosts: tuple[str, ...] = ()
 
 
 class _Class(NamedTuple):
-    """A pipe's instance: its number in tc, its pipe, and the address that alone it takes ('' for all)."""
+    """An instance of a pipe: its number in tc, its pipe, and the only address that it serves ('' for all)."""
     number: int
     pipe: int
     host: str
@@ -34,7 +35,7 @@ class _Class(NamedTuple):
 
 
 def script_of(setting: Setting, place: Place, source: str) -> str:
-    """The script; `Faulty` where something can't be said there, with the way out."""
+    """Returns the script. Raises `InputError` for what tc cannot express, with what to do."""
     rules = setting.rules()
     _judge(setting, rules, place)
     classes = list(_classes(setting, place))
@@ -56,16 +57,16 @@ def script_of(setting: Setting, place: Place, source: str) -> str:
 def _judge(setting: Setting, rules: Sequence[Rule], place: Place) -> None:
     for rule in rules:
         if rule.action in ("count", "skipto"):
-            raise Faulty(f"rule {rule.text()}: tc has no `{rule.action}` among its filters: write rules that each decide")
+            raise InputError(f"rule {rule.text()}: tc has no filter for `{rule.action}`: write rules that allow, deny or use a pipe")
         if rule.action == "pipe" and rule.value not in setting.pipes():
-            raise Faulty(f"rule {rule.text()}: no command configures pipe {rule.value}")
+            raise InputError(f"rule {rule.text()}: no command configures pipe {rule.value}")
     if any(one.word == "delete" or one.text.startswith("pipe delete") for one in setting.sets):
-        raise Faulty("`delete`: leave out what is deleted at once")
+        raise InputError("`delete`: leave out what is deleted immediately")
     if not setting.one_pass():
-        raise Faulty("`one_pass 0`: a chain of pipes takes an interface for each: write one pipe, or an experiment for each link")
+        raise InputError("`one_pass 0`: a chain of pipes needs an interface for each: write one pipe, or an experiment for each link")
     late = [number for number, (config, _) in setting.pipes().items() if _late(config)]
     if late and place.enter is None:
-        raise Faulty(f"pipe {late[0]} has a delay or losses: name the interface where its packets come in, as --in eth0")
+        raise InputError(f"pipe {late[0]} has a delay or losses: name the interface where its packets come in, as --in eth0")
 
 
 def _late(config: Config) -> bool:
@@ -73,15 +74,15 @@ def _late(config: Config) -> bool:
 
 
 def _differs(setting: Setting, classes: Sequence[_Class]) -> list[str]:
-    """What is otherwise on the real machine."""
-    said = ["# What no rule matches is dropped on this interface, as in the scenario, your own login too; ARP and IPv6 aren't touched.",
-            "# htb lets one packet through at once, and counts in ticks of the kernel's timers; sizes count without Ethernet (stab)."]
+    """Returns comments about what differs on the real machine."""
+    said = ["# Packets that match no rule are dropped on this interface, as in the scenario, including your own login; ARP and IPv6 are unaffected.",
+            "# htb sends one packet immediately, and counts in ticks of the kernel's timers; sizes count without Ethernet (stab)."]
     if any(config.codel for config, _ in setting.pipes().values()):
-        said.append("# Linux' CoDel goes on with a higher count of drops behind an idle time than RFC 8289's.")
+        said.append("# Linux's CoDel continues with a higher count of drops after an idle time than RFC 8289's.")
     if any(config.plr for config, _ in setting.pipes().values()):
-        said.append("# Losses by netem draw random numbers of their own: as many on average, of other packets.")
+        said.append("# Losses by netem use their own random numbers: as many on average, but other packets.")
     if any(one.host for one in classes):
-        said.append("# A mask: a class for each host that was named; others of the rule are dropped, as no rule matches them.")
+        said.append("# A mask becomes a class for each named host; other hosts of the rule are dropped, because no rule matches them.")
     return said
 
 
@@ -95,20 +96,20 @@ def _classes(setting: Setting, place: Place) -> Iterator[_Class]:
         side = next((side for side in ("src", "dst") if text.endswith(f"mask {side}-ip 0xffffffff")
                      or f"mask {side}-ip 0xffffffff codel" in text or f"mask {side}-ip 0xffffffff droptail" in text), None)
         if side is None or not place.hosts:
-            raise Faulty(f"pipe {pipe} has a mask, and tc makes no class by itself: --hosts 10.0.0.1-10.0.0.9 writes a class for each,"
-                         " where the mask is src-ip or dst-ip 0xffffffff alone")
+            raise InputError(f"pipe {pipe} has a mask, but tc creates no classes by itself: --hosts 10.0.0.1-10.0.0.9 writes a class for each,"
+                         " if the mask is only src-ip or dst-ip 0xffffffff")
         for host in place.hosts:
             yield _Class(number, pipe, host, side)
             number += 1
 
 
 def _served(device: str, one: _Class, config: Config, text: str) -> list[str]:
-    """A class with the rate, and the queue below it."""
+    """Returns a class with the rate, and the queue below it."""
     rate = f"{config.bw}bit burst 1514b cburst 1514b quantum 1514" if config.bw else _FAST
     made = [f"tc class add dev {device} parent 1: classid 1:{one.number:x} htb rate {rate}"]
     begin = f"tc qdisc add dev {device} parent 1:{one.number:x} handle {one.number:x}:"
     if config.codel:
-        # Linux' CoDel has a limit of packets alone.
+        # Linux's CoDel only has a limit in packets.
         limit = config.slots if config.slots is not None else max(1, (config.bytes or 0) // 1500)
         made.append(f"{begin} codel limit {limit} target {_us(number_behind('target', text), 5000)}us"
                     f" interval {_us(number_behind('interval', text), 100000)}us noecn")
@@ -120,7 +121,7 @@ def _served(device: str, one: _Class, config: Config, text: str) -> list[str]:
 
 
 def _us(word: Optional[str], default: int) -> int:
-    """A time of `codel` in microseconds.
+    """Returns a time of `codel` in microseconds.
 
     >>> _us("5ms", 1), _us("50", 1), _us(None, 1)
     (5000, 50000, 1)
@@ -132,7 +133,7 @@ def _us(word: Optional[str], default: int) -> int:
 
 
 def _matches(rule: Rule, one: Optional[_Class]) -> Iterator[str]:
-    """The words of `flower` for a rule: tcp and udp apart where it has ports."""
+    """Yields the arguments of `flower` for a rule: TCP and UDP separately if it has ports."""
     source, target = rule.source, rule.target
     if one is not None and one.host:
         own = source if one.side == "src" else target
@@ -150,7 +151,7 @@ def _matches(rule: Rule, one: Optional[_Class]) -> Iterator[str]:
 
 
 def _filters(device: str, rules: Sequence[Rule], classes: Sequence[_Class], denies: bool) -> list[str]:
-    """A filter for each rule, in their order; what no rule matches is dropped where that is asked for."""
+    """Returns a filter for each rule, in order; with `denies`, packets that match no rule are dropped."""
     made: list[str] = []
 
     def add(words: str) -> None:
@@ -169,12 +170,13 @@ def _filters(device: str, rules: Sequence[Rule], classes: Sequence[_Class], deni
     if denies:
         add("flower action drop")
     if len(made) > _MOST_CLASSES:
-        raise Faulty(f"it takes {len(made)} filters: name fewer hosts")
+        raise InputError(f"it needs {len(made)} filters: name fewer hosts")
     return made
 
 
 def _ifb(setting: Setting, place: Place, late: Sequence[_Class], rules: Sequence[Rule]) -> list[str]:
-    """Delays and losses, on an ifb that takes what comes in at the other interface. Pipes without either pass it untouched."""
+    """Returns delays and losses, on an ifb that receives what comes in at the other interface. Pipes without either are
+    unaffected."""
     made = ["ip link add ifb0 type ifb 2>/dev/null", "ip link set ifb0 up",
             f"tc qdisc del dev {place.enter} ingress 2>/dev/null", f"tc qdisc add dev {place.enter} handle ffff: ingress",
             f"tc filter add dev {place.enter} parent ffff: protocol ip matchall action mirred egress redirect dev ifb0",
@@ -182,13 +184,13 @@ def _ifb(setting: Setting, place: Place, late: Sequence[_Class], rules: Sequence
             f"tc class add dev ifb0 parent 1: classid 1:1 htb rate {_FAST}"]
     for one in late:
         config = setting.pipes()[one.pipe][0]
-        # As many of the smallest packets as fly at the pipe's rate, and a queue of them.
+        # The number of smallest packets in flight at the pipe's rate, and a queue of them.
         flying = (config.bw or 10**10) * config.delay // (8 * 10**9 * _LEAST) + 1000
         loss = f" loss {config.plr / 10**4:g}%" if config.plr else ""
         made += [f"tc class add dev ifb0 parent 1: classid 1:{one.number:x} htb rate {_FAST}",
                  f"tc qdisc add dev ifb0 parent 1:{one.number:x} handle {one.number:x}: netem delay {config.delay // 1000}us{loss}"
                  f" limit {flying}"]
-    # All rules in their order, so that each packet is where its first rule sends it.
+    # All rules in order, so that each packet goes where its first rule sends it.
     known = {one.pipe for one in late}
     told = [rule if rule.action != "pipe" or rule.value in known else rule._replace(action="allow", value=0) for rule in rules]
     return made + _filters("ifb0", [rule if rule.action != "deny" else rule._replace(action="allow") for rule in told], late, False)

@@ -1,10 +1,10 @@
-"""dnlab in this process, by the library libdnlab: the bytes of a scenario in, the bytes of its report out.
+"""Runs dnlab in this process through the library libdnlab: the bytes of a scenario in, the bytes of its report out.
 
     from dnlab import library
     report = library.alone(b"experiment a seed 0 budget 9\\n@0 end\\n")
 
-The GIL is given up while a call runs, so threads run beside each other. A call can't be interrupted: Ctrl-C waits for it. `dnlab.run(.., engine=
-"library")` gives the same with tables, and `dnlab.live(engine="library")` a session by `Talk`.
+Calls release the GIL, so threads run concurrently. A call can't be interrupted: Ctrl-C waits for its end. `dnlab.run(..,
+engine="library")` returns the same as tables, and `dnlab.live(engine="library")` opens a session on `Talk`.
 """
 from dnlab.library.calls import FaultIn, alone, check, explain, version
 from dnlab.library.places import library

@@ -1,11 +1,11 @@
-"""Sessions of libdnlab (library/dnlab.h), by ctypes."""
+"""Sessions of libdnlab (library/dnlab.h), through ctypes."""
 import ctypes
 import threading
 import weakref
 from types import TracebackType
 from typing import Optional, cast
 
-from dnlab.errors import Failed
+from dnlab.errors import ProgramError
 from dnlab.io.scenario_parts import CAUSES
 from dnlab.library.calls import CLOSED, DONE, FAULT, FIRST, ROOM, Answer, FaultIn, Place, bound
 from dnlab.library.places import library
@@ -18,15 +18,14 @@ def _closed(calls: ctypes.CDLL, place: Place) -> Answer:
 
 
 class Talk:
-    """A session in this process: each line is given to `take`, and what `dnlab live` writes for it comes back.
+    """A session in this process: `take` accepts a line, and returns what `dnlab live` would write.
 
         with library.Talk() as talk:
             talk.take(b"experiment a seed 0 budget 9")
             said = talk.take(b"@0 end")
 
-    Threads may share one: its lines are taken one after another. Its memory is given back by `close`, by the end of the block, or with
-    the object.
-    """
+    Threads may share one; lines are processed one at a time. The memory is freed by `close`, at the end of the block, or with the
+    object."""
 
     def __init__(self) -> None:
         calls = bound(library())
@@ -35,40 +34,40 @@ class Talk:
         self._room = ctypes.create_string_buffer(FIRST)
         calls.dnlab_open(self._at, self._told)
         if self._answer.status != DONE:
-            raise Failed(3, "memory")
+            raise ProgramError(3, "memory")
         self._forget = weakref.finalize(self, _closed, calls, self._place)
 
     @property
     def has_ended(self) -> bool:
-        """Whether it is closed."""
+        """Returns whether it is closed."""
         return not self._forget.alive
 
     def take(self, line: bytes) -> bytes:
-        """What is said to a line, which has no line feed. A line that isn't taken is answered by `#< fault CAUSE`. `Failed` where memory is
-        refused, now or before, or where the session is closed."""
+        """Returns the reply to a line, given without its line feed. A rejected line is answered by `#< fault CAUSE`. Raises `ProgramError`
+        if memory runs out, now or before, or if the session is closed."""
         answer = self._answer
         with self._lock:
             self._take(self._at, line, len(line), self._room, len(self._room), self._told)
             while answer.status == ROOM:
-                # All of it is kept for the next call, and an empty line says nothing itself.
+                # The buffer was too small, but the library keeps the reply: an empty line returns it and adds nothing.
                 self._room = ctypes.create_string_buffer(answer.length)
                 self._take(self._at, b"", 0, self._room, len(self._room), self._told)
             if answer.status == DONE:
-                # (a part of an array of characters is bytes)
+                # (a slice of an array of characters is bytes)
                 return cast(bytes, self._room[:answer.length])
         if answer.status == CLOSED:
-            raise Failed(0, "the session is closed")
-        raise Failed(3, "memory")
+            raise ProgramError(0, "the session is closed")
+        raise ProgramError(3, "memory")
 
     def close(self) -> None:
-        """Ends it. `FaultIn` where an experiment has no `end`, `Failed` where memory was refused before; it has ended all the same. A second
-        call does nothing."""
+        """Ends the session. Raises `FaultIn` if an experiment has no `end`, and `ProgramError` if memory ran out before; it is closed in
+        both cases. Further calls do nothing."""
         with self._lock:
             answer = self._forget()
         if answer is not None and answer.status == FAULT:
             raise FaultIn(answer.line, CAUSES[answer.cause - 1])
         if answer is not None and answer.status != DONE:
-            raise Failed(3, "memory")
+            raise ProgramError(3, "memory")
 
     def __enter__(self) -> "Talk":
         return self

@@ -1,1 +1,1 @@
-"""Pictures and pages."""
+"""Pictures and pages of reports and sweeps."""

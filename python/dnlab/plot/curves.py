@@ -1,5 +1,4 @@
-"""The pictures of a sweep: means with their intervals over a setting, one statistic against another, and distributions over
-seeds."""
+"""Pictures of a sweep: means with their intervals over a setting, one statistic against another, and distributions over seeds."""
 from typing import Any, Callable, Optional, Sequence
 
 import matplotlib
@@ -7,24 +6,24 @@ import pandas as pd
 from matplotlib.figure import Figure
 from matplotlib.ticker import FuncFormatter, LogLocator, NullLocator
 
-from dnlab.errors import Faulty
+from dnlab.errors import InputError
 from dnlab.plot import names
 from dnlab.plot.design import add_legend, subplots
 from dnlab.plot.looks import Line, Look, axis_of, check_count, check_two, lines_of, number_of, others_of, places_of
 
-# So many values have a tick each on a logarithmic axis.
+# Up to this many values have a tick each on a logarithmic axis.
 _MOST_TICKS = 8
-# Texts of ticks that are longer than this are turned.
+# Longer tick labels are rotated.
 _LONG = 8
 
 
 def figure_of(table: pd.DataFrame, settings: Sequence[str], look: Look = Look(), each: Optional[pd.DataFrame] = None) -> Figure:
-    """The picture of a sweep: by its table (`Sweep.table`), or for distributions by each value (`Sweep.long`).
+    """Returns the picture of a sweep: by its table (`Sweep.table`), or for distributions by each value (`Sweep.long`).
 
-    A row of panels for each sender and statistic (and each value of `look.rows`), with a line for each combination of the
-    settings that are left; hollow points have warnings, which are named below. More than eight lines, or 24 panels, are refused
-    by `Faulty`."""
-    # Here, since it builds on this module.
+    It has a row of panels for each sender and statistic (and each value of `look.rows`), with a line for each combination of the
+    remaining settings; hollow points have warnings, which are named below. Raises `InputError` for more than eight lines or 24
+    panels."""
+    # Imported here, because it imports this module.
     from dnlab.plot import distributions
 
     look.check(settings)
@@ -44,7 +43,7 @@ def figure_of(table: pd.DataFrame, settings: Sequence[str], look: Look = Look(),
 
 def _grid(data: pd.DataFrame, panels: Sequence[tuple[str, str]], along: str, others: Sequence[str], look: Look,
           draw: Callable[..., list[Any]]) -> Figure:
-    """Panels in rows and columns, which `draw` fills; it gives the handles of the legend."""
+    """Returns panels in rows and columns, filled by `draw`, which returns the handles of the legend."""
     values = [None] if look.rows is None else list(dict.fromkeys(data[look.rows]))
     rows = [(panel, value) for panel in panels for value in values]
     columns: list[Any] = [None] if look.columns is None else list(dict.fromkeys(data[look.columns]))
@@ -88,7 +87,7 @@ def _name_axes(line: Sequence[Any], stat: str, unit: str, along: str, look: Look
 
 
 def _say(figure: Figure, data: pd.DataFrame, panels: Sequence[tuple[str, str]], along: str, look: Look) -> None:
-    """The title, and below the panels what points, bars and boxes are."""
+    """Adds the title, and the explanation of points, bars and boxes below the panels."""
     from dnlab.plot import distributions
 
     of = list(dict.fromkeys(sender for sender, _ in panels))
@@ -104,7 +103,7 @@ def _say(figure: Figure, data: pd.DataFrame, panels: Sequence[tuple[str, str]], 
 
 
 def intervals_in_words(table: pd.DataFrame) -> str:
-    """What points and bars are."""
+    """Returns the explanation of points and bars."""
     fewest, seeds = (int(table["n"].min()), int(table["n"].max())) if len(table) else (0, 0)
     if seeds < 2:
         return "Points: single runs"
@@ -113,7 +112,7 @@ def intervals_in_words(table: pd.DataFrame) -> str:
 
 
 def _lower(label: str) -> str:
-    """A label within a sentence, without its unit; CoDel stays as it is.
+    """Returns a label for use within a sentence, without its unit; CoDel keeps its capitals.
 
     >>> _lower("Queue limit (packets)"), _lower("CoDel target (ms)")
     ('queue limit', 'CoDel target')
@@ -123,7 +122,7 @@ def _lower(label: str) -> str:
 
 
 def _part(rows: pd.DataFrame, look: Look, row: Any, column: Any) -> pd.DataFrame:
-    """The rows of a panel."""
+    """Returns the rows of a panel."""
     for name, value in ((look.rows, row), (look.columns, column)):
         if name is not None:
             rows = rows[rows[name] == value]
@@ -138,7 +137,7 @@ def _title(look: Look, sender: Optional[str], row: Any, column: Any) -> str:
 
 
 def means(axes: Any, lines: Sequence[Line], along: str, look: Look, scale: tuple[str, int]) -> list[Any]:
-    """Means with their intervals. Numbers are joined, words are apart."""
+    """Draws means with their intervals. Numbers are joined by lines, words are not."""
     values = [value for line in lines for value in line.rows[along]]
     places = places_of(values)
     is_number = all(number_of(value) is not None for value in places)
@@ -154,7 +153,7 @@ def means(axes: Any, lines: Sequence[Line], along: str, look: Look, scale: tuple
 
 
 def label_values(axes: Any, places: dict[Any, float], along: str, look: Look) -> None:
-    """A tick for each value; a thin line between numbers and words."""
+    """Draws a tick for each value, and a thin line between numbers and words."""
     texts = [names.of_value(along, value, look.labels) for value in places]
     is_long = max(map(len, texts), default=0) > _LONG
     axes.set_xticks(list(places.values()), texts, rotation=20 if is_long else 0, ha="right" if is_long else "center")
@@ -165,7 +164,7 @@ def label_values(axes: Any, places: dict[Any, float], along: str, look: Look) ->
 
 
 def _line(axes: Any, line: Line, along: str, places: dict[Any, float], scale: int) -> Any:
-    """One line with its intervals; points whose experiments have warnings are hollow."""
+    """Draws one line with its intervals; points whose experiments have warnings are hollow."""
     known = line.rows[line.rows["mean"].notna()]
     known = known.assign(_at=[places[value] for value in known[along]]).sort_values("_at", kind="stable")
     mean = known["mean"].astype(float) / scale
@@ -181,10 +180,10 @@ def _line(axes: Any, line: Line, along: str, places: dict[Any, float], scale: in
 
 
 def _ticks(axes: Any, values: Sequence[float], is_log: bool) -> None:
-    """A tick for each value where there are few, in plain numbers on a logarithmic axis too."""
+    """Draws a tick for each value if there are few, in plain numbers on a logarithmic axis too."""
     if is_log:
         if values[0] <= 0:
-            raise Faulty(f"--log x: {values[0]:g} has no place on a logarithmic axis")
+            raise InputError(f"--log x: {values[0]:g} has no place on a logarithmic axis")
         axes.set_xscale("log")
         _plain(axes.xaxis)
         if len(values) <= _MOST_TICKS:
@@ -192,7 +191,7 @@ def _ticks(axes: Any, values: Sequence[float], is_log: bool) -> None:
 
 
 def _plain(axis: Any) -> None:
-    """Plain numbers on a logarithmic axis: 1, 2, 5, 10 and so on."""
+    """Uses plain numbers on a logarithmic axis: 1, 2, 5, 10 and so on."""
     axis.set_major_locator(LogLocator(subs=(1, 2, 5)))
     axis.set_major_formatter(FuncFormatter(lambda value, _: f"{value:g}"))
     axis.set_minor_locator(NullLocator())

@@ -1,4 +1,4 @@
-"""Pictures of a sweep that aren't means over a setting: one statistic against another, and how seeds are distributed."""
+"""Pictures of a sweep other than means over a setting: one statistic against another, and distributions over seeds."""
 from typing import Any, Sequence
 
 import numpy as np
@@ -11,13 +11,13 @@ from dnlab.plot.curves import intervals_in_words, label_values
 from dnlab.plot.design import add_legend, subplots
 from dnlab.plot.looks import Line, Look, in_order, lines_of, number_of, places_of
 
-# What is said below a picture.
+# The explanations below a picture.
 WORDS = {"ecdf": "Empirical distribution over seeds, one step for each",
          "box": "Boxes: quartiles and median over seeds; whiskers: up to 1.5 interquartile ranges; circles: seeds beyond"}
 
 
 def ecdf(axes: Any, lines: Sequence[Line], along: str, look: Look, scale: tuple[str, int]) -> list[Any]:
-    """The empirical distribution of each line's values."""
+    """Draws the empirical distribution of each line's values."""
     handles = []
     for line in lines:
         values = np.sort(line.rows["value"].astype(float).to_numpy()) / scale[1]
@@ -29,7 +29,7 @@ def ecdf(axes: Any, lines: Sequence[Line], along: str, look: Look, scale: tuple[
 
 
 def boxes(axes: Any, lines: Sequence[Line], along: str, look: Look, scale: tuple[str, int]) -> list[Any]:
-    """A box for each value of the setting, side by side for each line."""
+    """Draws a box for each value of the setting, side by side for each line."""
     places = in_order([value for line in lines for value in line.rows[along]])
     width = 0.7 / len(lines)
     for line in lines:
@@ -43,7 +43,8 @@ def boxes(axes: Any, lines: Sequence[Line], along: str, look: Look, scale: tuple
 
 
 def tradeoff(table: pd.DataFrame, panels: Sequence[tuple[str, str]], along: str, others: Sequence[str], look: Look) -> Figure:
-    """One statistic against another, a point for each setting with the intervals of both; a time is on the vertical axis."""
+    """Returns a picture of one statistic against another: a point for each setting with both intervals; a time is on the vertical
+    axis."""
     keys = [along, *others]
     sides = [table[(table["sender"] == of) & (table["stat"] == stat)] for of, stat in panels]
     if sides[0]["unit"].iloc[0] == "ns" and sides[1]["unit"].iloc[0] != "ns":
@@ -87,6 +88,6 @@ def _stat(panel: tuple[str, str]) -> str:
 
 
 def _bars(rows: pd.DataFrame, suffix: str, scale: int) -> tuple[Any, Any]:
-    """Means, and how far their intervals go to both sides."""
+    """Returns means, and the distances to both ends of their intervals."""
     mean, low, high = (rows[name + suffix].astype(float).to_numpy() / scale for name in ("mean", "low", "high"))
     return mean, np.nan_to_num([mean - low, high - mean]).clip(min=0)

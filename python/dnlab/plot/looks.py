@@ -1,4 +1,4 @@
-"""How the picture of a sweep is laid out: what is along its axes, in its rows and columns, and in its lines."""
+"""The layout of a sweep's picture: what is along its axes, in its rows and columns, and in its lines."""
 from dataclasses import dataclass
 from typing import Any, NamedTuple, Optional, Sequence
 
@@ -7,11 +7,11 @@ import pandas as pd
 from pandas.api.types import is_numeric_dtype
 
 from dnlab.analysis.series import MOST
-from dnlab.errors import Faulty
+from dnlab.errors import InputError
 from dnlab.plot import names
 from dnlab.plot.design import LINES, MARKERS, Design
 
-# More panels than this are no picture.
+# With more panels than this, a picture is unreadable.
 _MOST_PANELS = 24
 AXES = ("x", "y")
 KINDS = ("means", "tradeoff", "ecdf", "box")
@@ -19,14 +19,13 @@ KINDS = ("means", "tradeoff", "ecdf", "box")
 
 @dataclass(frozen=True)
 class Look(Design):
-    """How a picture of a sweep is laid out, besides its design.
+    """The layout of a sweep's picture, in addition to its design.
 
     along          the setting on the horizontal axis; by default the first with several values, numbers before words
     rows, columns  settings with a row or a column of panels for each value; the others are the lines of a panel
     log            which axes are logarithmic, of `x` and `y`
-    kind           `means` with their intervals; `tradeoff`, one statistic against another; `ecdf` or `box`, how the values of
-                   the seeds are distributed
-    """
+    kind           `means` with their intervals; `tradeoff`, one statistic against another; `ecdf` or `box`, the distribution of
+                   the values of the seeds"""
     along: Optional[str] = None
     rows: Optional[str] = None
     columns: Optional[str] = None
@@ -34,25 +33,25 @@ class Look(Design):
     kind: str = "means"
 
     def check(self, settings: Sequence[str]) -> None:
-        """`Faulty` if a setting isn't one of those that there are, or stands twice."""
+        """Raises `InputError` if a setting does not exist, or is used twice."""
         said = [(word, name) for word, name in (("--along", self.along), ("--rows", self.rows), ("--columns", self.columns))
                 if name is not None]
         for word, name in said:
             if name not in settings:
-                raise Faulty(f"{word} {name}: no setting; there are {', '.join(settings) or 'none'}")
+                raise InputError(f"{word} {name}: no such setting; the settings are {', '.join(settings) or 'none'}")
         if len({name for _, name in said}) < len(said):
-            raise Faulty("--along, --rows and --columns: each names another setting")
+            raise InputError("--along, --rows and --columns: each must name another setting")
         for axis in self.log:
             if axis not in AXES:
-                raise Faulty(f"--log {axis}: x, y or x,y")
+                raise InputError(f"--log {axis}: expected x, y or x,y")
         if self.kind not in KINDS:
-            raise Faulty(f"--kind {self.kind}: {', '.join(KINDS)} are expected")
+            raise InputError(f"--kind {self.kind}: expected one of {', '.join(KINDS)}")
         if self.kind == "tradeoff" and (self.rows or self.columns):
-            raise Faulty("--kind tradeoff is one panel: --rows and --columns don't go with it")
+            raise InputError("--kind tradeoff is one panel: --rows and --columns don't go with it")
 
 
 class Line(NamedTuple):
-    """The rows of a line, its place among the lines, and its text in the legend."""
+    """The rows of a line, its index among the lines, and its text in the legend."""
     rows: pd.DataFrame
     place: int
     label: str
@@ -66,7 +65,7 @@ class Line(NamedTuple):
 
 
 def axis_of(table: pd.DataFrame, settings: Sequence[str], look: Look = Look()) -> str:
-    """The setting that the picture goes along."""
+    """Returns the setting on the horizontal axis."""
     if look.along is not None:
         return look.along
     several = [name for name in settings if table[name].nunique() > 1 and name not in (look.rows, look.columns)]
@@ -75,8 +74,8 @@ def axis_of(table: pd.DataFrame, settings: Sequence[str], look: Look = Look()) -
 
 
 def judge(cases: pd.DataFrame, settings: Sequence[str], panels: Sequence[tuple[str, str]], look: Look = Look()) -> None:
-    """Refuses by `Faulty` a picture of a sweep that couldn't be drawn, before anything is run: by the settings of its
-    experiments, and what is asked of whom."""
+    """Raises `InputError` for a picture of a sweep that could not be drawn, before anything runs, given the settings of its experiments
+    and the requested statistics."""
     look.check(settings)
     look.rc()
     if settings:
@@ -88,32 +87,32 @@ def judge(cases: pd.DataFrame, settings: Sequence[str], panels: Sequence[tuple[s
 
 
 def check_count(panels: int) -> None:
-    """`Faulty` for more panels than can be drawn, or none."""
+    """Raises `InputError` for too many panels, or none."""
     if not 1 <= panels <= _MOST_PANELS:
-        raise Faulty(f"--plot: {panels} panels, where 1 to {_MOST_PANELS} can be drawn: ask for fewer --of and --stat")
+        raise InputError(f"--plot: {panels} panels, but 1 to {_MOST_PANELS} can be drawn: use fewer --of and --stat")
 
 
 def check_two(panels: Sequence[tuple[str, str]]) -> None:
-    """`Faulty` unless there are two statistics, one for each axis."""
+    """Raises `InputError` unless there are two statistics, one for each axis."""
     if len(panels) != 2:
-        raise Faulty(f"--kind tradeoff: two statistics are expected, as --of 'train 9' --stat delay.p95 --of flows --stat goodput,"
-                     f" and there are {len(panels)}")
+        raise InputError(f"--kind tradeoff: expected two statistics, as --of 'train 9' --stat delay.p95 --of flows --stat goodput,"
+                     f" but there are {len(panels)}")
 
 
 def others_of(table: pd.DataFrame, settings: Sequence[str], along: str, look: Look) -> list[str]:
-    """The settings whose combinations are the lines of a panel; too many are refused."""
+    """Returns the settings whose combinations are the lines of a panel. Raises `InputError` for too many."""
     apart = (look.rows, look.columns, None if look.kind == "ecdf" else along)
     others = [name for name in settings if name not in apart and table[name].nunique() > 1]
     lines = len(table[others].drop_duplicates()) if others else 1
     if lines > MOST:
-        raise Faulty(f"--plot: {lines} lines in a panel can't be told apart, {MOST} at most: one for each combination of"
-                     f" {', '.join(others)}; give fewer values, or panels of their own by --rows and --columns")
+        raise InputError(f"--plot: {lines} lines in a panel can't be told apart, {MOST} at most: one for each combination of"
+                     f" {', '.join(others)}; use fewer values, or separate panels with --rows and --columns")
     return others
 
 
 def lines_of(rows: pd.DataFrame, others: Sequence[str], look: Look) -> list[Line]:
-    """The lines of a panel: one for each combination of the other settings."""
-    # pandas gives a key of one column bare where it is asked for by its name alone.
+    """Returns the lines of a panel: one for each combination of the other settings."""
+    # With a single column name, pandas returns keys that are not tuples.
     by = others[0] if len(others) == 1 else list(others)
     groups = rows.groupby(by, sort=False, dropna=False) if others else [((), rows)]
     return [Line(group, place, ", ".join(names.of_value(name, value, look.labels)
@@ -122,7 +121,7 @@ def lines_of(rows: pd.DataFrame, others: Sequence[str], look: Look) -> list[Line
 
 
 def number_of(value: Any) -> Optional[float]:
-    """A setting's value as a number; None for words.
+    """Returns a setting's value as a number, or None for words.
 
     >>> number_of("10"), number_of("50 codel")
     (10.0, None)
@@ -134,7 +133,7 @@ def number_of(value: Any) -> Optional[float]:
 
 
 def in_order(values: Sequence[Any]) -> dict[Any, float]:
-    """Places 0, 1, 2 and so on for the values of a setting: numbers in order, and then words.
+    """Returns positions 0, 1, 2 and so on for the values of a setting: numbers in order, and then words.
 
     >>> in_order(["50", "10", "50 codel"])
     {'10': 0.0, '50': 1.0, '50 codel': 2.0}
@@ -145,7 +144,7 @@ def in_order(values: Sequence[Any]) -> dict[Any, float]:
 
 
 def places_of(values: Sequence[Any]) -> dict[Any, float]:
-    """Where the values of a setting are on its axis: numbers where they belong, unless some values are words.
+    """Returns the positions of a setting's values on its axis: numbers at their value, unless some values are words.
 
     >>> places_of([10, 5])
     {10: 10.0, 5: 5.0}

@@ -1,4 +1,4 @@
-"""What stands beside axes: figures and settings in words, with their units, and never by the names of variables."""
+"""Labels of axes: statistics and settings in words, with their units, and never variable names."""
 import re
 from typing import Any, Mapping, Sequence
 
@@ -6,7 +6,7 @@ from dnlab.analysis.stats import percentile_of
 
 _STATS = {"packets": "Packets made", "delivered": "Packets delivered", "in_flight": "Packets in flight", "retransmissions": "Segments retransmitted",
           "lost": "Packets dropped", "bytes": "Bytes delivered", "useful": "New bytes delivered", "rate": "Throughput",
-          "goodput": "Goodput", "time": "Time to the last delivery", "first": "First packet made", "last": "Last delivery",
+          "goodput": "Goodput", "time": "Time to the last delivery", "first": "First packet created", "last": "Last delivery",
           "fct": "Flow completion time", "jain": "Jain's fairness index", "utilisation": "Utilisation", "jitter": "Jitter",
           "delay.min": "Minimum delay", "delay.mean": "Mean delay", "delay.p50": "Median delay",
           "delay.max": "Maximum delay"}
@@ -17,12 +17,12 @@ _OPTIONS = {"bw": ("Link rate", ""), "delay": ("Link delay", "ms"), "queue": ("Q
             "ssthresh": ("Initial ssthresh", "bytes"), "rto": ("Retransmission timeout", "ms"), "gap": ("Packet spacing", "ns")}
 _WHOLE = {"flows": "all flows", "trains": "all trains", "injected": "single packets", "there": "all on the way there",
           "back": "all on the way back", "all": "all packets"}
-# Names for other texts: of a setting, a stat or of whom by its name, of a setting's value as `queue:codel`.
+# The user's labels: for a setting, statistic or sender by its name, for a setting's value as `queue:codel`.
 Labels = Mapping[str, str]
 
 
 def of_setting(name: str, labels: Labels = {}) -> str:
-    """A setting beside an axis.
+    """Returns a setting's label on an axis.
 
     >>> of_setting("link_rate"), of_setting("rate", {"rate": "Link rate (Mbit/s)"})
     ('Link rate', 'Link rate (Mbit/s)')
@@ -32,7 +32,7 @@ def of_setting(name: str, labels: Labels = {}) -> str:
 
 
 def of_value(name: str, value: Any, labels: Labels = {}) -> str:
-    """A value of a setting in a legend.
+    """Returns the label of a setting's value in a legend.
 
     >>> of_value("queue", 10), of_value("queue", "codel", {"queue:codel": "CoDel"})
     ('10', 'CoDel')
@@ -41,7 +41,7 @@ def of_value(name: str, value: Any, labels: Labels = {}) -> str:
 
 
 def of_template(text: str, settings: Sequence[str]) -> dict[str, str]:
-    """Labels of settings, by the options of the scenario that they are values of.
+    """Returns labels of settings, by the options of the scenario that they are values of.
 
     >>> text = "@0 pipe 1 config bw {{ rate }}Mbit/s queue {{ queue }}\\n@{{ up | s }} pipe 1 delete"
     >>> of_template(text, ["rate", "queue", "up"])
@@ -58,7 +58,7 @@ def of_template(text: str, settings: Sequence[str]) -> dict[str, str]:
 
 
 def shown_in(unit: str, greatest: float) -> tuple[str, int]:
-    """The unit in which values are shown, and how many of the base unit it has: long times in seconds.
+    """Returns the unit in which values are shown, and its size in base units: long times are in seconds.
 
     >>> shown_in("ns", 2e8), shown_in("ns", 2e10), shown_in("packets", 5)
     (('ms', 1000000), ('s', 1000000000), ('packets', 1))
@@ -69,7 +69,7 @@ def shown_in(unit: str, greatest: float) -> tuple[str, int]:
 
 
 def of_stat(stat: str, unit: str, labels: Labels = {}) -> str:
-    """A statistic beside an axis, with the unit in which it is drawn.
+    """Returns a statistic's label on an axis, with the unit in which it is drawn.
 
     >>> of_stat("delay.p95", "ms"), of_stat("jain", ""), of_stat("drops.full", "packets")
     ('95th percentile of delay (ms)', "Jain's fairness index", 'Packets dropped (full)')
@@ -89,7 +89,7 @@ def of_stat(stat: str, unit: str, labels: Labels = {}) -> str:
 
 
 def of_whom(of: str, labels: Labels = {}) -> str:
-    """Of whom a panel is.
+    """Returns the label of a sender.
 
     >>> of_whom("flows"), of_whom("train 9", {"train 9": "the call"})
     ('all flows', 'the call')
@@ -98,7 +98,7 @@ def of_whom(of: str, labels: Labels = {}) -> str:
 
 
 def ordinal(number: str) -> str:
-    """A percentile as it is read.
+    """Returns a percentile as an ordinal.
 
     >>> [ordinal(one) for one in ("1", "2", "13", "95", "99.9")]
     ['1st', '2nd', '13th', '95th', '99.9th']
@@ -108,7 +108,7 @@ def ordinal(number: str) -> str:
 
 
 def quantity(words: str, unit: str) -> str:
-    """A quantity and its unit, as they stand beside an axis.
+    """Returns a quantity and its unit, as on an axis.
 
     >>> quantity("One-way delay", "ms"), quantity("Fraction of packets", "")
     ('One-way delay (ms)', 'Fraction of packets')

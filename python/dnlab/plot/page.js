@@ -11,7 +11,7 @@ const at = (name) => document.getElementById(name);
 // What is shown: one experiment, or two side by side; `now` is the side that is being worked on, `span` what is in sight (ns)
 // and `until` the greatest end.
 let now = null, sides = [], span = [0, 1], until = 1, turns = 0, drawing = 0, saving = 0;
-// So many lines can be told apart in a panel, and of windows so many flows.
+// The maximum number of lines in a panel, and of flows with windows.
 const MOST = 8, FLOWS = 16;
 
 // ---- columns
@@ -67,6 +67,20 @@ function tell(serial) {
 
 // ---- traces
 
+// What came in windows of one of 1, 2, 5, 10 .. ns, of which some fifty lie between two moments: `x` are moments in order, `y`
+// what had come by then, `ended` the last moment.
+function windowed(x, y, begin, end, ended) {
+  let every = 10 ** Math.floor(Math.log10(Math.max((end - begin) / 50, 1)));
+  every *= [1, 2, 5, 10].find((factor) => factor * every >= (end - begin) / 50) || 10;
+  const before = (moment) => { const place = lower(x, moment); return place ? y[place - 1] : 0; };
+  const windows = [];
+  for (let k = Math.floor(begin / every); k * every < Math.min(end, ended); k++) {
+    const to = Math.min((k + 1) * every, ended);
+    windows.push({from: k * every, to, came: before((k + 1) * every < ended ? to : to + 1) - before(k * every)});
+  }
+  return {every, windows};
+}
+
 // Bits (or packets) a second in windows, as `dnlab-summary --every` has them.
 function rateOf(one, isBytes, begin, end) {
   const {every, windows} = windowed(now.columns[one.x], now.columns[one.y], begin, end, now.ended);
@@ -99,14 +113,20 @@ const flowOf = (label) => (label.match(/^(?:flow|cwnd|effective|ssthresh|loss|ti
 // Lines that belong to no sender: pipes, and all that is under way.
 const isCommon = (label) => /^(pipe |through |rate of |limit of |delay line of |in flight)/.test(label);
 
+// The series of a panel without those of acknowledgements, unless these are asked for, or there are no others.
+function wantedOf(panel) {
+  const others = panel.series.filter((one) => !one.ack);
+  return at("acks").checked || !others.some((one) => one.form !== "level") ? panel.series : others;
+}
+
 // As many lines as can be told apart, and what goes with them: acknowledgements are left out first, then the shortest.
 function fewest(panel) {
-  const lines = panel.series.filter((one) => !one.under && one.form !== "marks" && one.form !== "level");
-  const length = (one) => now.columns[one.x].length, isAck = (one) => one.label.endsWith(" acks");
-  const kept = new Set([...lines].sort((a, b) => isAck(a) - isAck(b) || length(b) - length(a))
+  const lines = wantedOf(panel).filter((one) => !one.under && one.form !== "marks" && one.form !== "level");
+  const length = (one) => now.columns[one.x].length;
+  const kept = new Set([...lines].sort((a, b) => a.ack - b.ack || length(b) - length(a))
     .slice(0, panel.what === "window" ? FLOWS : MOST).map((one) => one.label));
   panel.left = lines.length - kept.size;
-  return panel.series.filter((one) => one.form === "level" || kept.has(one.under || one.label)
+  return wantedOf(panel).filter((one) => one.form === "level" || kept.has(one.under || one.label)
     || (one.form === "marks" && (panel.what !== "window" || kept.has(`cwnd ${flowOf(one.label)}`))));
 }
 
@@ -117,10 +137,10 @@ function chosenOf(panel) {
   panel.left = 0;
   if (panel.what === "sequence") {
     panel.flow = flow || (panel.series.length ? panel.series[0].label.split(": ")[0] : "");
-    return panel.series.filter((one) => one.label.startsWith(panel.flow + ": "));
+    return wantedOf(panel).filter((one) => one.label.startsWith(panel.flow + ": "));
   }
-  if (!flow) return panel.what === "queue" ? panel.series : fewest(panel);
-  return panel.series.filter((one) => isCommon(one.label) || flowOf(one.label) === flow.split(" ")[1]);
+  if (!flow) return panel.what === "queue" ? wantedOf(panel) : fewest(panel);
+  return wantedOf(panel).filter((one) => isCommon(one.label) || flowOf(one.label) === flow.split(" ")[1]);
 }
 
 // What a series marks, whoever's it is.
@@ -209,7 +229,7 @@ async function draw() {
     await new Promise((next) => setTimeout(next));
     if (turn !== drawing) return;
   }
-  // Behind the last of many steps, since browsers take only so many of these.
+  // After the last of many steps, because browsers limit the number of these.
   clearTimeout(saving);
   const others = sides.slice(1).map((side) => `,${side.name}`).join("");
   saving = setTimeout(() => history.replaceState(null, "", `#${sides[0].name},${Math.round(begin)},${Math.round(end)}${others}`), 300);
@@ -293,6 +313,7 @@ async function choose(place, range, beside = null) {
   at("flow").replaceChildren(new Option("all flows", ""), ...flows.map((one) => new Option(one, one)));
   at("flow").value = flows.includes(flow) ? flow : "";
   at("flow").disabled = flows.length < 2;
+  at("acks").disabled = !sides.some((side) => side.panels.some((panel) => panel.series.some((one) => one.ack)));
   at("unit").disabled = !sides.some((side) => side.panels.some((panel) => panel.segment));
   at("packet").value = "";
   tell(null);
@@ -326,6 +347,7 @@ at("experiment").addEventListener("change", () => choose(+at("experiment").value
 at("beside").addEventListener("change", () => choose(+at("experiment").value, span, besides()));
 at("unit").addEventListener("change", () => draw());
 at("flow").addEventListener("change", () => draw());
+at("acks").addEventListener("change", () => draw());
 at("packet").addEventListener("input", () => tell(at("packet").value === "" ? null : +at("packet").value));
 for (const [name, key] of [["in", "+"], ["out", "-"], ["earlier", "ArrowLeft"], ["later", "ArrowRight"], ["whole", "0"]]) {
   at(name).addEventListener("click", KEYS[key]);

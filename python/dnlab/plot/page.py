@@ -1,7 +1,7 @@
-"""A page of HTML to look at runs in a browser: what `dnlab-view` writes.
+"""The HTML page of `dnlab-view`, to look at runs in a browser.
 
-Each experiment is its panels (`dnlab.analysis.series`, whole) and its packets' journeys, in columns that are packed into one
-text; `page.js`, behind `page.shared.js`, unpacks and draws them, thinned to what is in sight. plotly draws (Debian: python3-plotly).
+Each experiment has its panels (`dnlab.analysis.series`, complete) and its packets' journeys, as columns packed into one text;
+`page.js`, after `page.shared.js`, unpacks and draws them, thinned to what is visible. plotly draws (Debian: python3-plotly).
 """
 import base64
 import html
@@ -13,8 +13,8 @@ from typing import Any, Iterable, NamedTuple, Optional, Sequence
 import numpy as np
 
 from dnlab.analysis.packets import DELIVERED, DROPPED, OUTCOMES, UNKNOWN
-from dnlab.analysis.pipe_series import flights, link_rates, queues
-from dnlab.analysis.series import Panel, Series, Values, rates, sojourns, windows
+from dnlab.analysis.pipe_series import flights, labelled, link_rates, queues
+from dnlab.analysis.series import Panel, Series, Values, rates, sojourns, windows, without_acks
 from dnlab.analysis.view import View, flows_of
 from dnlab.io.digits import Ints
 from dnlab.io.lines import ACKNOWLEDGES, pipe_name
@@ -22,7 +22,7 @@ from dnlab.io.outputs import whole_file
 
 SCRIPT = "dnlab-plotly.js"
 _HERE = Path(__file__).resolve().parent
-# Types of columns by how many bytes a value has; a Float64 has every whole number up to 2^53.
+# Types of columns by the bytes of a value; a Float64 has every integer up to 2^53.
 _TYPES = {1: "i1", 2: "i2", 4: "i4", 8: "f8"}
 _UNITS = ((10**9, "s"), (10**6, "ms"), (10**3, "us"), (1, "ns"))
 
@@ -34,8 +34,8 @@ class Drawn(NamedTuple):
 
 
 class Blocks:
-    """Columns under one another, each at a multiple of eight bytes, as the narrowest type that has all its values; whole
-    numbers as the differences from one to the next where these are narrower."""
+    """Concatenated columns, each at a multiple of eight bytes, in the narrowest type that has all its values; integers as differences if
+    these are narrower."""
 
     def __init__(self) -> None:
         self.heads: list[tuple[str, int, int, int]] = []
@@ -43,7 +43,7 @@ class Blocks:
         self.size = 0
 
     def add(self, values: "Ints | Values") -> int:
-        """Adds a column, shape (n,); gives its number."""
+        """Adds a column, shape (n,), and returns its number."""
         if values.dtype.kind == "f":
             kind, is_delta, part = "f8", 0, values.astype("<f8").tobytes()
         else:
@@ -60,42 +60,42 @@ class Blocks:
         return len(self.heads) - 1
 
     def text(self) -> str:
-        """All columns, packed by zlib, as base64."""
+        """Returns all columns, compressed by zlib, as base64."""
         return base64.b64encode(zlib.compress(b"".join(self.parts), 2)).decode("ascii")
 
 
 def _bytes(values: Ints) -> int:
-    """How many bytes a value of a column needs, a key of `_TYPES`."""
+    """Returns how many bytes a value of a column needs, a key of `_TYPES`."""
     most = max(int(values.max()) + 1, -int(values.min())) if len(values) else 0
     return next(size for size in _TYPES if most <= 2**(8 * size - 1))
 
 
 class Shown(NamedTuple):
-    """A series, and the packets that its points are of, shape (n,); None where they are of no packet."""
+    """A series, and the packet of each of its points, shape (n,); None if points belong to no packet."""
     series: Series
     packets: Optional[Ints] = None
 
 
 class Pane(NamedTuple):
-    """A panel's title, the quantity and unit of its vertical axis, and its series; `words` stand in place of these."""
+    """A panel's title, the quantity and unit of its vertical axis, and its series, or `words` instead of them."""
     title: str
     quantity: str
     unit: str
     shown: list[Shown]
     words: str
-    # How many bytes a segment has, 0 if the flows differ or it isn't known.
+    # The bytes of a segment, 0 if the flows differ or it isn't known.
     segment: int = 0
 
 
 def pane_of(panel: Panel) -> Pane:
-    """A panel of pictures, whole."""
+    """Returns a panel of pictures, without thinning."""
     shown = [Shown(one) for one in panel.series if len(one.moments)]
     return Pane(panel.title, panel.quantity or panel.title, panel.unit, shown, panel.words.replace("\n", " "), panel.segment)
 
 
 def sequences(view: View) -> Pane:
-    """Of each flow the bytes over time: sent, sent again, acknowledged, and dropped; labels are as `flow 1: sent`. Without
-    the moments of making what was delivered stands in place of what was sent."""
+    """Returns for each flow the bytes over time: sent, sent again, acknowledged, and dropped; labels are as `flow 1: sent`. Without creation
+    times, deliveries replace what was sent."""
     table = view.packets
     series: list[Shown] = []
     for flow, packets in flows_of(view):
@@ -119,7 +119,7 @@ def _of(view: View, flow: int, what: str, form: str, packets: Ints, moments: Int
 
 
 def delays(view: View) -> Pane:
-    """The times under way, with the packets: those of each sender stand in the order of delivery."""
+    """Returns the one-way delays, with the packets, for each sender in the order of delivery."""
     pane, table, senders = pane_of(sojourns(view, None)), view.packets, dict(view.senders)
 
     def own(one: Series) -> Ints:
@@ -131,7 +131,7 @@ def delays(view: View) -> Pane:
 
 
 def speeds(view: View) -> Pane:
-    """What was delivered, added up: the script makes rates of it, of as long a time as is in sight; and what pipes can carry."""
+    """Returns the cumulative deliveries, from which the script computes rates over the visible time, and the rates of the pipes."""
     pane = pane_of(rates(view, None))
     links = [Shown(one) for one in link_rates(view)] if pane.unit == "bytes" else []
     title = "Throughput" if pane.unit == "bytes" else "Delivered packets (throughput needs the scenario)"
@@ -140,23 +140,33 @@ def speeds(view: View) -> Pane:
 
 
 def occupancy(view: View) -> Pane:
-    """The queues and their limits, and what is in flight."""
+    """Returns the queues and their limits, and the packets in flight."""
     pane = pane_of(queues(view))
     return pane._replace(shown=pane.shown + pane_of(flights(view)).shown, title=f"{pane.title}, and packets in flight", quantity="Packets",
                          unit="") if view.is_told else pane
 
 
 def panes_of(view: View) -> dict[str, Pane]:
-    """The panels of a page by their names, whole."""
+    """Returns the panels of a page by name, without thinning."""
     return {"sequence": sequences(view), "window": pane_of(windows(view, None)), "queue": occupancy(view),
             "delay": delays(view), "rate": speeds(view)}
 
 
-def journeys(view: View, blocks: Blocks) -> dict[str, int]:
-    """The columns of packets, and of their visits, which stand by packet; `starts` has where each packet's begin.
+def labels_of_acks(view: View) -> set[str]:
+    """Returns the labels of the pipes that carry only acknowledgements."""
+    return {label for label, _ in labelled(view)} - {label for label, _ in labelled(without_acks(view))}
 
-    Moments are told from one that comes before (an end and an arrival from the making, a finish and an exit from the
-    arrival), which keeps columns narrow; -1 is what isn't known."""
+
+def is_of_ack(one: Series, pipes: set[str]) -> bool:
+    """Returns true if a series is of acknowledgements, which the page draws on request: of their sender, or of a pipe in `pipes`."""
+    return one.label.endswith(" acks") or one.label.split(": ")[-1] == "acknowledgement dropped" or any(one.label.endswith(pipe) for pipe in pipes)
+
+
+def journeys(view: View, blocks: Blocks) -> dict[str, int]:
+    """Returns the columns of packets, and of their visits, sorted by packet; `starts` has the first visit of each.
+
+    Times are relative to an earlier one (an end and an arrival to the creation, a finish and an exit to the arrival), which keeps
+    columns narrow; -1 means unknown."""
     table, visits = view.packets, view.visits
     pipes = np.unique(visits.pipe)
     columns: dict[str, Any] = {
@@ -173,11 +183,11 @@ def _since(before: Ints, moments: Ints) -> Ints:
 
 
 def drawn(view: View) -> Drawn:
-    """An experiment for a page."""
-    blocks = Blocks()
+    """Returns an experiment for a page."""
+    blocks, acks = Blocks(), labels_of_acks(view)
     panels = [{"what": what, "title": pane.title, "quantity": pane.quantity, "unit": pane.unit, "words": "" if pane.shown else pane.words,
                "segment": pane.segment,
-               "series": [{"label": one.label, "form": one.form, "under": one.under, "x": blocks.add(one.moments), "y": blocks.add(one.values),
+               "series": [{"label": one.label, "form": one.form, "under": one.under, "ack": is_of_ack(one, acks), "x": blocks.add(one.moments), "y": blocks.add(one.values),
                            "packets": -1 if packets is None else blocks.add(packets)} for one, packets in pane.shown]}
               for what, pane in panes_of(view).items()]
     until = max(view.ended.moment if view.ended.is_short() else view.last, 1)
@@ -191,7 +201,7 @@ def drawn(view: View) -> Drawn:
 
 
 def about(view: View) -> str:
-    """What an experiment is, in a line: its counters, how it ended, seed and settings."""
+    """Returns a line about an experiment: its counters, how it ended, seed and settings."""
     counters = view.counters
     said = [f"{counters.made} packets made", f"{counters.delivered} delivered",
             *(f"{count} dropped ({cause})" for cause, count in counters.drops.items() if count),
@@ -201,7 +211,7 @@ def about(view: View) -> str:
 
 
 def page(title: str, experiments: Iterable[Drawn], plotly: Optional[str]) -> Iterable[str]:
-    """The page, part by part; with plotly's script within where it is given, else it is beside the page."""
+    """Yields the page in parts; plotly's script is included if given, else next to the page."""
     style, shared, own = ((_HERE / f"page.{kind}").read_text(encoding="utf-8") for kind in ("css", "shared.js", "js"))
     script = shared + own
     yield (f'<!DOCTYPE html>\n<html lang="en">\n<meta charset="utf-8">\n<title>{html.escape(title)}</title>\n'
@@ -217,12 +227,12 @@ def page(title: str, experiments: Iterable[Drawn], plotly: Optional[str]) -> Ite
 
 
 def _within(text: str) -> str:
-    """A text that ends no element: `</` stands as `<\\/`, the same in a string of a script."""
+    """Returns a text that cannot end an element: `</` becomes `<\\/`, which is the same in a string of a script."""
     return text.replace("</", "<\\/")
 
 
 def write(path: str, title: str, experiments: Iterable[Drawn], plotly: str, single: bool) -> Sequence[str]:
-    """Writes a page, and plotly's script beside it unless it is single; gives what was written. `OSError` as it comes."""
+    """Writes a page, and plotly's script next to it unless it is single; returns the files written. Raises `OSError`."""
     written = [path]
     with whole_file(path) as file:
         for part in page(title, experiments, plotly if single else None):
@@ -240,6 +250,7 @@ _BODY = """<form id="tools" aria-label="what is drawn">
 <label>beside <select id="beside"></select></label>
 <label>flow <select id="flow"></select></label>
 <label>windows in <select id="unit"><option>bytes</option><option>segments</option></select></label>
+<label><input id="acks" type="checkbox"> acknowledgements</label>
 <span role="group" aria-label="time in sight">
 <button type="button" id="in" title="key +">zoom in</button>
 <button type="button" id="out" title="key -">zoom out</button>

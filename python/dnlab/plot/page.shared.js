@@ -1,5 +1,4 @@
-// What the page of `dnlab-view` and the playground have in common: how series look without colour, which points are drawn,
-// and windows of time.
+// What the page of `dnlab-view` and the playground have in common: how series look without colour, and which points are drawn.
 "use strict";
 // So many stretches of time keep their first, least, greatest and last value: points cost more than lines.
 const STRETCHES = {steps: 400, points: 100, marks: 100};
@@ -40,17 +39,3 @@ function inSight(x, y, form, begin, end) {
 }
 
 const time = (moment) => moment < 0 ? "?" : (moment / 1e6).toFixed(6).replace(/\.?0+$/, "") + " ms";
-
-// What came in windows of one of 1, 2, 5, 10 .. ns, of which some fifty lie between two moments: `x` are moments in order, `y`
-// what had come by then, `ended` the last moment.
-function windowed(x, y, begin, end, ended) {
-  let every = 10 ** Math.floor(Math.log10(Math.max((end - begin) / 50, 1)));
-  every *= [1, 2, 5, 10].find((factor) => factor * every >= (end - begin) / 50) || 10;
-  const before = (moment) => { const place = lower(x, moment); return place ? y[place - 1] : 0; };
-  const windows = [];
-  for (let k = Math.floor(begin / every); k * every < Math.min(end, ended); k++) {
-    const to = Math.min((k + 1) * every, ended);
-    windows.push({from: k * every, to, came: before((k + 1) * every < ended ? to : to + 1) - before(k * every)});
-  }
-  return {every, windows};
-}

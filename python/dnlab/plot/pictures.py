@@ -1,4 +1,4 @@
-"""Draws panels over time with matplotlib, a column for each experiment, to be read in black and white too."""
+"""Draws panels over time with matplotlib, a column for each experiment, readable in black and white."""
 import re
 from dataclasses import replace
 from typing import Any, Iterable, Mapping, NamedTuple, Sequence
@@ -18,9 +18,9 @@ from dnlab.plot.design import LINES, MARKERS, Design, add_legend, subplots
 Unit = tuple[int, str]
 UNITS: tuple[Unit, ...] = ((10**9, "s"), (10**6, "ms"), (10**3, "us"), (1, "ns"))
 _BYTES: tuple[Unit, ...] = ((10**9, "GB"), (10**6, "MB"), (10**3, "kB"), (1, "bytes"))
-# Shares and boxes are of ns or bit/s, and drawn as ms or Mbit/s.
+# Shares and boxes have ns or bit/s, and are drawn in ms or Mbit/s.
 _MILLION = 10**6
-# So few points of each sender are joined by thin lines; more than the second number are small.
+# Up to this many points of a sender are joined by thin lines; above the second number, points are small.
 _JOINED, _SMALL = 10, 100
 _OF_FLOW = re.compile(r"(.*: )?(cwnd|ssthresh|effective|loss|timeout) ([0-9]+)")
 _KINDS = {"effective": "effective window"}
@@ -28,14 +28,14 @@ _GREY = "#555555"
 
 
 class Look(NamedTuple):
-    """How everything of one sender or pipe looks."""
+    """The look of everything that belongs to a sender or pipe."""
     colour: str
     dash: Any
     marker: str
 
 
 def owner_of(label: str) -> str:
-    """The sender or pipe that a series is of, which has one colour in all panels.
+    """Returns the sender or pipe of a series, which has one colour in all panels.
 
     >>> owner_of("loss 1"), owner_of("deep: cwnd 2"), owner_of("limit of pipe 1"), owner_of("train 9")
     ('flow 1', 'deep: flow 2', 'pipe 1', 'train 9')
@@ -45,7 +45,7 @@ def owner_of(label: str) -> str:
 
 
 def kind_of(label: str) -> str:
-    """What a series of a flow's window is; '' for others.
+    """Returns the part of a flow's window that a series shows; '' for others.
 
     >>> kind_of("ssthresh 1"), kind_of("train 9")
     ('ssthresh', '')
@@ -55,8 +55,8 @@ def kind_of(label: str) -> str:
 
 
 def looks_of(panels: Iterable[Panel], colours: Mapping[str, str] = {}) -> dict[str, Look]:
-    """A look for each sender and pipe of the panels, in the order in which they are drawn; beyond nine, other lines and markers
-    go with the colours. Colours are given if they are those of a larger picture."""
+    """Returns a look for each sender and pipe of the panels, in drawing order; after nine, other lines and markers are combined with the
+    colours. Colours are given if they are those of a larger picture."""
     owners = list(dict.fromkeys(owner_of(one.label) for panel in panels for one in panel.series))
     cycle = matplotlib.rcParams["axes.prop_cycle"].by_key()["color"]
     looks = {}
@@ -68,19 +68,19 @@ def looks_of(panels: Iterable[Panel], colours: Mapping[str, str] = {}) -> dict[s
 
 
 def time_unit(panels: Sequence[Panel]) -> Unit:
-    """The greatest unit of which the panels' moments have two or more."""
+    """Returns the largest unit in which the panels' times reach two."""
     last = max((int(one.moments[-1]) for panel in panels if not panel.across for one in panel.series
                 if len(one.moments)), default=0)
     return next((unit for unit in UNITS if last >= 2 * unit[0]), UNITS[-1])
 
 
 def is_sparse(series: Sequence[Series]) -> bool:
-    """Whether points are so few that a thin line may join them."""
+    """Returns whether points are so few that a thin line may join them."""
     return all(len(one.moments) <= _JOINED for one in series if one.form == "points")
 
 
 def style_of(one: Series, look: Look, is_joined: bool = False) -> dict[str, Any]:
-    """matplotlib's words for a series."""
+    """Returns matplotlib's arguments for a series."""
     kind, words = kind_of(one.label), {"color": look.colour, "linestyle": look.dash}
     if one.form == "marks":
         return {**words, "linestyle": "none", "marker": "v" if kind == "timeout" else "x", "markersize": 6, "zorder": 4}
@@ -96,7 +96,7 @@ def style_of(one: Series, look: Look, is_joined: bool = False) -> dict[str, Any]
 
 
 def draw_series(axes: Any, one: Series, style: Mapping[str, Any], scale: int, is_clipped: bool) -> None:
-    """One series on the axes; a distribution begins at 0."""
+    """Draws a series; a distribution starts at 0."""
     moments, values = np.asarray(one.moments) / scale, np.asarray(one.values)
     if one.form == "share":
         moments, values = np.append(moments[:1], moments), np.append(0.0, values)
@@ -104,7 +104,7 @@ def draw_series(axes: Any, one: Series, style: Mapping[str, Any], scale: int, is
 
 
 def draw_panel(axes: Any, panel: Panel, unit: Unit, looks: Mapping[str, Look] = {}, labels: names.Labels = {}) -> None:
-    """A panel with its axes in words; one without series has its words."""
+    """Draws a panel with its axis labels; one without series shows its words."""
     axes.set_ylabel(names.quantity(panel.quantity or panel.title, panel.unit))
     if not panel.series:
         axes.text(0.5, 0.5, panel.words, ha="center", va="center", transform=axes.transAxes)
@@ -125,7 +125,7 @@ def draw_panel(axes: Any, panel: Panel, unit: Unit, looks: Mapping[str, Look] = 
 
 
 def draw_boxes(axes: Any, boxes: Sequence[Series], labels: names.Labels) -> None:
-    """A box for each: its quartiles and median, lines from the 5th to the 95th percentile, the minimum and the maximum."""
+    """Draws a box for each: its quartiles and median, whiskers from the 5th to the 95th percentile, the minimum and the maximum."""
     shapes = []
     for one in boxes:
         least, low, first, median, third, high, greatest = (float(value) / _MILLION for value in one.moments)
@@ -138,7 +138,7 @@ def draw_boxes(axes: Any, boxes: Sequence[Series], labels: names.Labels) -> None
 
 
 def text_of(label: str, labels: names.Labels) -> str:
-    """A label with a user's texts for the experiment, the sender or the pipe in it.
+    """Returns a label with the user's texts for the experiment, the sender or the pipe in it.
 
     >>> text_of("deep: train 9", {"train 9": "the call"}), text_of("limit of pipe 1", {"pipe 1": "uplink"})
     ('deep: the call', 'limit of uplink')
@@ -152,8 +152,8 @@ def text_of(label: str, labels: names.Labels) -> str:
 
 
 def entries_of(panels: Sequence[Panel], looks: Mapping[str, Look], labels: names.Labels) -> tuple[str, dict[str, Any]]:
-    """What the legend of a row of panels says: its title, and handles by their texts. Several flows have a line each, and
-    what goes with their windows has one entry in grey. What all lines have in common is the title."""
+    """Returns the legend of a row of panels: its title, and handles by their texts. Several flows have a line each, and the parts of their
+    windows share entries in grey. What all lines have in common is the title."""
     series = [one for panel in panels for one in panel.series if one.form != "box"]
     owners = list(dict.fromkeys(owner_of(one.label) for one in series if one.form != "level"))
     windows = {owner_of(one.label) for one in series if kind_of(one.label)}
@@ -173,7 +173,7 @@ def entries_of(panels: Sequence[Panel], looks: Mapping[str, Look], labels: names
 
 
 def in_units(panels: Sequence[Panel]) -> list[Panel]:
-    """A row of panels with values in one unit that suits them: windows in segments, bytes in kB, MB or GB."""
+    """Returns a row of panels with values in one suitable unit: windows in segments, bytes in kB, MB or GB."""
     drawn = [panel for panel in panels if panel.series]
     if not drawn or drawn[0].unit != "bytes":
         return list(panels)
@@ -190,7 +190,7 @@ def _scaled(panel: Panel, size: int, unit: str) -> Panel:
 
 
 def frame(row: Sequence[Any], panels: Sequence[Panel]) -> None:
-    """One range of values for a row of panels, so that columns compare."""
+    """Sets one range of values for a row of panels, so that columns can be compared."""
     drawn = [panel for panel in panels if panel.series]
     if not drawn:
         row[0].yaxis.set_major_locator(NullLocator())
@@ -203,14 +203,14 @@ def frame(row: Sequence[Any], panels: Sequence[Panel]) -> None:
 
 def figure_of(views: Sequence[View], what: Sequence[str], effective: bool = False, acks: bool = False,
               design: Design = Design()) -> Figure:
-    """A figure with a column for each experiment and a row for each panel."""
+    """Returns a figure with a column for each experiment and a row for each panel."""
     return figure_of_panels([view.name for view in views],
                             [[panel_of(view, one, effective=effective, acks=acks) for one in what] for view in views], design=design)
 
 
 def figure_of_panels(experiments: Sequence[str], columns: Sequence[Sequence[Panel]], span: Span = Span(),
                      design: Design = Design()) -> Figure:
-    """A figure of columns of panels with their experiments' names above. Time goes over the span, if one is given."""
+    """Returns a figure of columns of panels with their experiments' names above. The time axis covers the span, if given."""
     with matplotlib.rc_context(design.rc()):
         rows = [in_units(row) for row in zip(*columns)]
         colours = {owner: look.colour for owner, look in looks_of(panel for row in rows for panel in row).items()}
@@ -237,7 +237,7 @@ def figure_of_panels(experiments: Sequence[str], columns: Sequence[Sequence[Pane
 
 
 def _head(figure: Figure, grid: Any, experiments: Sequence[str], panels: Sequence[Panel], design: Design) -> None:
-    """What the picture shows: panels' titles, and the experiments' names above their columns."""
+    """Adds the titles of panels, and the experiments' names above their columns."""
     if len(experiments) > 1:
         for axes, name in zip(grid[0], experiments):
             axes.set_title(name)
@@ -254,7 +254,7 @@ def _head(figure: Figure, grid: Any, experiments: Sequence[str], panels: Sequenc
 
 
 def share_time(axes_of_time: Sequence[Any], unit: Unit, span: Span = Span()) -> None:
-    """One span of time, which ends with the data, for all panels of a column that go along it, named below the last."""
+    """Sets one time range, which ends with the data, for all panels of a column with a time axis; the last one has the label."""
     ends = [float(line.get_xdata()[-1]) for axes in axes_of_time for line in axes.get_lines() if len(line.get_xdata())]
     if ends:
         last = max(ends) if span.end is None else span.end / unit[0]

@@ -1,1 +1,1 @@
-"""Processes that this one begins, how they end, and how far they are. It knows no reports."""
+"""Subprocesses: how they start and end, and the progress of long work. Independent of reports."""

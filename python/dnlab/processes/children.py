@@ -1,4 +1,4 @@
-"""Processes that this one begins: each has a group of its own, and ends with this one, even where that is killed."""
+"""Subprocesses with a process group of their own. They end with this process, even if it is killed."""
 import ctypes
 import os
 import resource
@@ -10,37 +10,37 @@ from contextlib import contextmanager, suppress
 from functools import partial
 from typing import IO, Any, Callable, Iterator, NamedTuple, Optional, Sequence
 
-from dnlab.errors import Failed
+from dnlab.errors import ProgramError
 from dnlab.processes import ending
 
 _PR_SET_PDEATHSIG = 1
-# Whether a process has a group of its own; a worker's have the worker's, which ends with it.
+# Whether a subprocess gets a process group of its own. Those of a worker are in the worker's group, and end with it.
 GROUPED = True
-# How many bytes a program may say that isn't asked for a report.
+# The maximum output of a program that does not write a report, in bytes.
 MOST_SAID = 1 << 26
 _LIBC = ctypes.CDLL(None) if sys.platform == "linux" else None
 
 
-class Killed(Failed):
-    """A program was ended by a signal, so that it gave no status of its own."""
+class Killed(ProgramError):
+    """A program was ended by a signal, so it has no exit status."""
 
     def __reduce__(self) -> tuple[type, tuple[int, str]]:
         return Killed, (self.status, self.said)
 
 
 class Done(NamedTuple):
-    """How a program ended: its status (below 0 the number of the signal that ended it), and what it wrote."""
+    """The result of a program: its status (if negative, the number of the signal that ended it), and its output."""
     status: int
     out: bytes
     errors: bytes
 
     def said(self) -> str:
-        """What it said on standard error."""
+        """Returns its standard error as text."""
         return self.errors.decode(errors="replace").strip()
 
 
 def _bounded(parent: int, number: int, most: Optional[int]) -> None:
-    """In a process that begins: it ends with its parent, and where it writes more into a file than `most` bytes."""
+    """Makes a new process end with its parent, and when it writes more than `most` bytes to a file. Runs in that process."""
     die_with(parent, number)
     if most is not None:
         _, hard = resource.getrlimit(resource.RLIMIT_FSIZE)
@@ -48,7 +48,7 @@ def _bounded(parent: int, number: int, most: Optional[int]) -> None:
 
 
 def die_with(parent: int, number: int = signal.SIGKILL) -> None:
-    """Has this process get a signal when its parent ends; where that has ended by now, this one ends at once."""
+    """Makes this process receive a signal when its parent ends. Exits at once if the parent has already ended."""
     if _LIBC is not None:
         _LIBC.prctl(_PR_SET_PDEATHSIG, int(number), 0, 0, 0)
     if os.getppid() != parent:
@@ -56,7 +56,7 @@ def die_with(parent: int, number: int = signal.SIGKILL) -> None:
 
 
 def signal_of(status: int) -> Optional[str]:
-    """The name of the signal that ended a program, also as a shell's status tells it; None where none did.
+    """Returns the name of the signal that ended a program, also for a shell's status; None if no signal did.
 
     >>> signal_of(-9), signal_of(143), signal_of(3)
     ('SIGKILL', 'SIGTERM', None)
@@ -66,7 +66,7 @@ def signal_of(status: int) -> Optional[str]:
 
 
 def end(process: "subprocess.Popen[bytes]") -> None:
-    """Ends a process at once, and its group. As long as nobody has waited for it, its number is nobody else's."""
+    """Kills a process and its group. Until it is waited for, no other process can get its number."""
     if process.returncode is None:
         with suppress(ProcessLookupError, PermissionError):
             (os.killpg if GROUPED else os.kill)(process.pid, signal.SIGKILL)
@@ -76,7 +76,7 @@ def end(process: "subprocess.Popen[bytes]") -> None:
 @contextmanager
 def child(words: Sequence[str], how_to_end: Callable[["subprocess.Popen[bytes]"], None] = end,
           **how: Any) -> Iterator["subprocess.Popen[bytes]"]:
-    """A process, as subprocess.Popen has it; where the block is left it is ended, and its group with it."""
+    """Starts a process like subprocess.Popen, and kills it and its group at the end of the block."""
     with ending.held():
         process = begin(words, **how)
         chore = partial(how_to_end, process)
@@ -90,25 +90,29 @@ def child(words: Sequence[str], how_to_end: Callable[["subprocess.Popen[bytes]"]
 
 
 def begin(words: Sequence[str], death: int = signal.SIGKILL, most: Optional[int] = None, **how: Any) -> "subprocess.Popen[bytes]":
-    """The same without a block: who begins it ends it. It gets the signal `death` where this process is killed, and SIGXFSZ where it
-    writes more than `most` bytes into a file. `Failed` where there is no such program."""
+    """Starts a process like `child`, but the caller must end it.
+
+    It receives the signal `death` if this process is killed, and SIGXFSZ if it writes more than `most` bytes to a file. Raises
+    `ProgramError` if there is no such program."""
     try:
         return subprocess.Popen(words, process_group=0 if GROUPED else None,
                                 preexec_fn=partial(_bounded, os.getpid(), death, most), **how)
     except OSError as fault:
-        raise Failed(3, f"{words[0]}: {fault.strerror}") from None
+        raise ProgramError(3, f"{words[0]}: {fault.strerror}") from None
 
 
 def wait(process: "subprocess.Popen[bytes]") -> int:
-    """Waits for a process, ends what it has left in its group, and gives its status."""
+    """Waits for a process, kills what is left of its group, and returns its status."""
     os.waitid(os.P_PID, process.pid, os.WEXITED | os.WNOWAIT)
     end(process)
     return process.returncode
 
 
 def run(words: Sequence[str], text: bytes = b"", out: Optional[IO[bytes]] = None, most: int = MOST_SAID) -> Done:
-    """Runs a program on a text to its end; what it writes goes to `out`, where it is given. `Killed` where a signal
-    ended it, as it does behind `most` bytes of output. Texts go by files: nobody waits for a pipe that nobody reads."""
+    """Runs a program with `text` as its standard input, and returns its result.
+
+    The output goes to `out`, if given. Raises `Killed` if a signal ended the program, as happens after `most` bytes of output.
+    Input and output are files, so that nothing can block on a full pipe."""
     with tempfile.TemporaryFile() as given, tempfile.TemporaryFile() as errors, tempfile.TemporaryFile() as own:
         given.write(text)
         given.flush()
@@ -126,10 +130,10 @@ def run(words: Sequence[str], text: bytes = b"", out: Optional[IO[bytes]] = None
 
 
 def told(ended_by: str) -> str:
-    """What is said of a process that a signal has ended.
+    """Returns a description of an end by a signal.
 
     >>> told("SIGKILL")
-    'ended by SIGKILL (for want of memory?)'
+    'ended by SIGKILL (out of memory?)'
     """
-    why = {"SIGKILL": " (for want of memory?)", "SIGXFSZ": " (it wrote more than its text can give)"}.get(ended_by, "")
+    why = {"SIGKILL": " (out of memory?)", "SIGXFSZ": " (it wrote more than its scenario can produce)"}.get(ended_by, "")
     return f"ended by {ended_by}{why}"

@@ -1,4 +1,4 @@
-"""Processes that do jobs for this one and end with it. Jobs and answers go by files, so that no pipe is ever full."""
+"""A pool of worker processes that end with this one. Jobs and results are files, so no pipe is ever full."""
 import os
 import pickle
 import select
@@ -10,7 +10,7 @@ from functools import partial
 from pathlib import Path
 from typing import Any, Callable, Generic, NamedTuple, Optional, TypeVar
 
-from dnlab.errors import Failed
+from dnlab.errors import ProgramError
 from dnlab.processes import children, ending
 from dnlab.processes.children import Killed, signal_of, told
 from dnlab.processes.rooms import Room
@@ -20,13 +20,13 @@ _WORKER = str(Path(__file__).with_name("worker.py"))
 
 
 class Outcome(NamedTuple, Generic[T]):
-    """A job that is done: by what it was given, what it gave, and the exception that it raised, where it did."""
+    """A finished job: its token, its result, and the exception that it raised, or None."""
     token: T
     value: Any
     fault: Optional[Exception]
 
     def get(self) -> Any:
-        """What it gave; raises what it raised."""
+        """Returns the result, or raises the job's exception."""
         if self.fault is not None:
             raise self.fault
         return self.value
@@ -44,7 +44,7 @@ class _Worker:
         try:
             self.process.stdin.write(b"%d\n" % number)
         except BrokenPipeError:
-            pass  # It has ended, which is seen where its answer is waited for.
+            pass  # The worker has ended; `next` finds out.
 
     def file(self) -> int:
         assert self.process.stdout is not None
@@ -58,9 +58,9 @@ class _Worker:
 
 
 class Crew(Generic[T]):
-    """So many processes at most, which are begun when there is something to do. Leave it by `close`, or as a block.
+    """A pool of at most `workers` processes, which are started on demand. Call `close`, or use it as a block.
 
-    A process that has ended by itself is told as `Killed`; then the crew is of no more use."""
+    If a worker ends by itself, `next` raises `Killed` or `ProgramError`; the pool cannot be used any more."""
 
     def __init__(self, workers: int) -> None:
         self.workers = workers
@@ -80,18 +80,18 @@ class Crew(Generic[T]):
         self.close()
 
     def __len__(self) -> int:
-        """How many jobs were given and haven't come back."""
+        """Returns how many jobs are not finished."""
         return len(self._tokens)
 
     def give(self, token: T, function: Callable[..., Any], *args: Any) -> None:
-        """Gives a job: a function that another process finds by its name, and its arguments."""
+        """Submits a job: a function that another process can import by name, and its arguments."""
         self._count += 1
         self._tokens[self._count] = token
         self._waiting.append((self._count, pickle.dumps((function, args))))
         self._hand_out()
 
     def _hand_out(self) -> None:
-        """Gives what waits to those that have nothing to do."""
+        """Sends waiting jobs to idle workers."""
         idle = [worker for worker in self._all if worker.number is None]
         while self._waiting and (idle or len(self._all) < self.workers):
             if not idle:
@@ -103,7 +103,7 @@ class Crew(Generic[T]):
             idle.pop().begin(number)
 
     def next(self, seconds: Optional[float] = None) -> Outcome[T]:
-        """Waits for a job to be done, whichever is first; `TimeoutError` after so many seconds."""
+        """Waits for the first job that finishes. Raises `TimeoutError` after `seconds`."""
         busy = {worker.file(): worker for worker in self._all if worker.number is not None}
         ready, _, _ = select.select(list(busy), [], [], seconds)
         if not ready:
@@ -123,17 +123,17 @@ class Crew(Generic[T]):
         children.wait(worker.process)
         ended_by = signal_of(worker.process.returncode)
         if ended_by is None:
-            raise Failed(3, f"a process of its own ended with status {worker.process.returncode}")
-        raise Killed(3, f"a process of its own was {told(ended_by)}")
+            raise ProgramError(3, f"a worker process ended with status {worker.process.returncode}")
+        raise Killed(3, f"a worker process was {told(ended_by)}")
 
     def close(self) -> None:
-        """Ends all of them at once, whatever they do."""
+        """Kills all workers at once."""
         self._left()
         self._room.close()
 
 
 def _end_all(workers: list[_Worker], owner: int) -> None:
-    if os.getpid() == owner:  # and not a copy of the process that a fork made
+    if os.getpid() == owner:  # A forked copy of this process must not end them.
         while workers:
             workers.pop().end()
 

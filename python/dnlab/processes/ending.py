@@ -1,8 +1,8 @@
-"""How a call ends when it is told to: what it began is ended, what is half is removed, and one line says why.
+"""Handles SIGINT, SIGTERM and SIGHUP: subprocesses are ended, incomplete files are removed, and one line reports the reason.
 
-A tool calls `watch` once. At SIGINT, SIGTERM or SIGHUP the chores are done, the last one first; then the line is
-written, and the process ends by the same signal, so that who waits for it learns which. Nothing is raised: an exception
-at any place could be swallowed there. In a notebook nobody calls `watch`, and blocks are left as Python leaves them.
+A tool calls `watch` once. On a signal the chores run, the last one first; then the line is written, and the process ends with
+the same signal, so that its parent sees which. No exception is raised, because code at any place could swallow it. In a
+notebook nobody calls `watch`, and Python's own behaviour is unchanged.
 """
 import os
 import signal
@@ -16,12 +16,12 @@ Chore = Callable[[], None]
 
 
 class _Watch:
-    """What this process does when it is told to end."""
+    """The state of the signal handler."""
 
     def __init__(self) -> None:
         self.tool = ""
         self.chores: list[Chore] = []
-        # So many blocks want no signal before they are left; the one that came meanwhile.
+        # The number of open blocks that delay signals, and the signal that arrived meanwhile.
         self.held = 0
         self.came: Optional[int] = None
         self.told: Callable[[], str] = lambda: "nothing was written"
@@ -50,7 +50,7 @@ _WATCH = _Watch()
 
 
 def watch(tool: str) -> None:
-    """From here on this process ends by its chores; a signal that was ignored before (nohup) stays so."""
+    """Installs the handler. Signals that were ignored before (nohup) stay ignored."""
     _WATCH.tool = tool
     if threading.current_thread() is not threading.main_thread():
         return
@@ -61,24 +61,24 @@ def watch(tool: str) -> None:
 
 
 def tells(said: Callable[[], str]) -> None:
-    """What the line says behind the signal's name."""
+    """Sets the text that follows the signal's name in the line."""
     _WATCH.told = said
 
 
 def add(chore: Chore) -> None:
-    """Has this done at the end by a signal, before what was added earlier."""
+    """Adds a chore, which runs before those that were added earlier."""
     _WATCH.chores.append(chore)
 
 
 def remove(chore: Chore) -> None:
-    """It was done, or needn't be."""
+    """Removes a chore that was done or is no longer needed."""
     with suppress(ValueError):
         _WATCH.chores.remove(chore)
 
 
 @contextmanager
 def held() -> Iterator[None]:
-    """A signal that comes within this block is taken at its end: what belongs together is done whole or not at all."""
+    """Delays signals until the end of the block, so that what belongs together is done completely or not at all."""
     _WATCH.held += 1
     try:
         yield

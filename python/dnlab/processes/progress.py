@@ -1,4 +1,4 @@
-"""How far long work is, on standard error: a bar of tqdm on a terminal, elsewhere whole lines that a log can keep."""
+"""Progress of long work on standard error: a tqdm bar on a terminal, whole lines for a log elsewhere."""
 import shutil
 import sys
 import time
@@ -10,18 +10,19 @@ from dnlab.programs import called
 try:
     from tqdm import tqdm
 except ModuleNotFoundError:
-    # It is for comfort: without it the work goes on in silence.
+    # tqdm is optional: without it, no progress is shown.
     tqdm = None
 
-# How often it is said, in seconds: on a terminal, and in a log.
+# Seconds between updates: on a terminal, and in a log.
 _SEEN, _LOGGED = 0.5, 30.0
 _REST = "{n_fmt} of {total_fmt} {unit}, ETA {remaining}"
 
 
 class Progress:
-    """Says how many of `total` are done, `done` of them before this call; without a total only how many. A line is written
-    each half a minute; on a terminal it is one line with a bar, written anew twice a second and removed at the end of the
-    block, or by a signal."""
+    """Shows how many of `total` are done, of which `done` before this call; without a total, only how many.
+
+    A log gets a line every half minute. A terminal has one line with a bar, updated twice a second and removed at the end of the
+    block, or on a signal."""
 
     def __init__(self, tool: str, total: Optional[int] = None, done: int = 0, unit: str = "experiments") -> None:
         self.tool, self.total, self.unit = called(tool), total, unit
@@ -43,7 +44,7 @@ class Progress:
         ending.remove(self.close)
 
     def step(self, count: int = 1) -> None:
-        """So many more are done."""
+        """Counts `count` more as done."""
         self.done += count
         if self._bar is not None:
             self._bar.update(count)
@@ -52,12 +53,12 @@ class Progress:
             print(self.told(self.last), file=sys.stderr, flush=True)
 
     def told(self, now: float) -> str:
-        """The line of a log at a moment (s, of `time.monotonic`)."""
+        """Returns the line for a log at a time (s, of `time.monotonic`)."""
         return str(tqdm.format_meter(self.done, self.total, now - self.begin, initial=self.before, prefix=self.tool,
                                      unit=self.unit, bar_format=_form(self.total)))
 
     def close(self) -> None:
-        """Takes the bar away."""
+        """Removes the bar."""
         if self._bar is not None:
             self._bar.close()
 
@@ -68,5 +69,5 @@ def _form(total: Optional[int], bar: str = "") -> str:
 
 if tqdm is not None:
     class _Bar(tqdm):  # type: ignore[misc]  # tqdm has no types here
-        """A bar without tqdm's thread, since signals and children are this process's own."""
+        """A bar without tqdm's thread, because this process handles signals and children itself."""
         monitor_interval = 0

@@ -1,4 +1,4 @@
-"""Private folders for what a call keeps while it lasts; those of calls that were killed are removed by the next."""
+"""Private temporary folders. Those of calls that were killed are removed by the next call."""
 import errno
 import fcntl
 import os
@@ -14,14 +14,14 @@ from typing import IO, Callable, Optional, Union
 from dnlab.processes import ending
 
 PREFIX = "dnlab-room."
-# Its owner holds a lock on this file of the folder, which ends with the process, however that ends.
+# The owner holds a lock on this file of the folder until its process ends, however it ends.
 OWNER = "owner"
-# Jobs of another machine that belong to a folder: a file with the words that end them.
+# Jobs of another machine that belong to a folder: a file with the command that ends them.
 CANCEL = "cancel"
 
 
 def lock(path: Path, flags: int) -> Optional[IO[bytes]]:
-    """Opens a file and locks it; None where another process has it, or it isn't there by now."""
+    """Opens and locks a file. Returns None if another process has locked it, or if it has been removed."""
     try:
         file = os.fdopen(os.open(path, flags | os.O_RDWR | os.O_NOFOLLOW | os.O_CLOEXEC, 0o666), "r+b", buffering=0)
     except (FileNotFoundError, NotADirectoryError):
@@ -29,12 +29,12 @@ def lock(path: Path, flags: int) -> Optional[IO[bytes]]:
     try:
         fcntl.flock(file, fcntl.LOCK_EX | fcntl.LOCK_NB)
     except OSError as fault:
-        # Some file systems of networks have no locks: what is new there is used, and what is old stays.
+        # Some network file systems have no locks: a new folder is used then, and an old one stays.
         if flags & os.O_CREAT and fault.errno not in (errno.EAGAIN, errno.EACCES):
             return file
         file.close()
         return None
-    # It may have been removed between the two.
+    # The file may have been removed between opening and locking.
     with suppress(FileNotFoundError):
         if os.path.samestat(os.stat(path, follow_symlinks=False), os.fstat(file.fileno())):
             return file
@@ -43,7 +43,7 @@ def lock(path: Path, flags: int) -> Optional[IO[bytes]]:
 
 
 def remove_leftovers(folder: Path) -> None:
-    """Removes the folders in this one whose owner has ended. Those of other users, and links, stay."""
+    """Removes folders in `folder` whose owner has ended. Folders of other users, and links, stay."""
     with suppress(OSError), os.scandir(folder) as entries:
         for entry in [one for one in entries if one.name.startswith(PREFIX)]:
             with suppress(OSError):
@@ -54,7 +54,7 @@ def remove_leftovers(folder: Path) -> None:
 
 def _remove_leftover(path: Path) -> None:
     if not (path / OWNER).exists():
-        # Just made, or ended just then: an empty one is removed, and its owner makes another.
+        # Just created, or its owner has just ended: if empty it is removed, and its owner creates another.
         path.rmdir()
         return
     held = lock(path / OWNER, 0)
@@ -76,7 +76,7 @@ def cancel(path: Path) -> None:
 
 
 class Room:
-    """A folder of this call's own, `path`, in `folder` (the one for temporary files where none is given)."""
+    """A private folder, `path`, in `folder` (by default the one for temporary files)."""
 
     def __init__(self, folder: Union[str, Path, None] = None) -> None:
         within = Path(tempfile.gettempdir() if folder is None else folder).absolute()
@@ -101,7 +101,7 @@ class Room:
 
 
 def _leave(path: Path, held: IO[bytes], owner: int) -> None:
-    if os.getpid() == owner:  # and not a copy of the process that a fork made
+    if os.getpid() == owner:  # A forked copy of this process must not remove the folder.
         cancel(path)
         shutil.rmtree(path, ignore_errors=True)
         held.close()

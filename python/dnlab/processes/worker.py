@@ -1,9 +1,9 @@
-"""A process that works for another (`crew`): reads the number of a job, does it, and says that it is done.
+"""A worker process of `crew`: reads the number of a job, runs it, and reports that it is done.
 
     python3 worker.py PARENT FOLDER
 
-Jobs are files of FOLDER, `N.job`, and so are answers, `N.answer`: a function with what it is given, and what it gives or
-the exception that it raised, both pickled. Numbers come on standard input, a line each, and go to standard output."""
+Jobs are files of FOLDER, `N.job`, with a pickled function and its arguments; results are `N.answer`, with the pickled value or
+exception. Numbers arrive on standard input, one per line, and are written to standard output when the job is done."""
 import os
 import pickle
 import signal
@@ -14,11 +14,11 @@ from typing import Any
 
 
 def answer(job: Path) -> tuple[bool, Any]:
-    """What a job gives, or the exception that it raised."""
+    """Returns whether a job succeeded, and its result or exception."""
     try:
         function, args = pickle.loads(job.read_bytes())
         return True, function(*args)
-    except Exception as fault:  # Whatever it is, the one that gave the job is told.
+    except Exception as fault:  # Any exception is passed to the caller.
         fault.add_note("".join(traceback.format_exception(fault)))
         return False, fault
 
@@ -28,12 +28,12 @@ def spelled(found: tuple[bool, Any]) -> bytes:
         made = pickle.dumps(found)
         pickle.loads(made)
         return made
-    except Exception as fault:  # An exception may refuse to be made anew.
+    except Exception as fault:  # Some exceptions can be pickled but not unpickled.
         return pickle.dumps((False, RuntimeError(f"{found[1]!r} ({fault})")))
 
 
 def end(*_: object) -> None:
-    """The one that began this process has ended: so does this one, with all that it began."""
+    """Ends this process and all its subprocesses, because its parent has ended."""
     os.killpg(0, signal.SIGKILL)
 
 
@@ -46,7 +46,7 @@ def main() -> None:
     children.die_with(int(sys.argv[1]), signal.SIGTERM)
     children.GROUPED = False
     folder = Path(sys.argv[2])
-    # What a function prints isn't an answer.
+    # What a function prints is not part of a result.
     out = os.dup(1)
     os.dup2(2, 1)
     for line in sys.stdin:
@@ -59,7 +59,7 @@ def main() -> None:
         try:
             os.write(out, b"%d\n" % number)
         except BrokenPipeError:
-            # It has ended in between, and the signal for that is on its way.
+            # The parent has ended meanwhile, and its signal is on the way.
             end()
 
 

@@ -1,5 +1,5 @@
-"""Closed-loop senders in a session: transfers that wait for one another, requests and answers, users of a web, and any number
-of short flows, each by NewReno (RFC 6582), Reno (RFC 5681) or CUBIC (RFC 9438).
+"""Closed-loop senders in a session: transfers that wait for one another, requests and answers, web users, and any number of short
+flows, each with NewReno (RFC 6582), Reno (RFC 5681) or CUBIC (RFC 9438).
 
     import dnlab
     from dnlab.senders import Cubic, Network
@@ -12,11 +12,11 @@ of short flows, each by NewReno (RFC 6582), Reno (RFC 5681) or CUBIC (RFC 9438).
         link.command("add 200 pipe 2 ip from 10.0.1.0/24 to 10.0.0.0/24")
         network = Network(link)
         first = network.flow(500_000, Cubic)
-        first.then(lambda: network.flow(500_000))      # begins when the first has finished
+        first.then(lambda: network.flow(500_000))      # starts when the first has finished
         network.run()
         print(network.table())                         # a row for each flow
 
-It needs Python alone; `table` needs pandas.
+Needs only Python; `table` needs pandas.
 """
 from dnlab.senders.flows import Flow
 from dnlab.senders.network import Network

@@ -1,7 +1,7 @@
-"""One transfer over a link: a sender with a window and a timer, and a receiver that acknowledges what it has in order.
+"""A transfer over a link: a sender with a window and a timer, and a receiver that acknowledges what it has in order.
 
-It does as docs/explanation/reno.md has it of the link's own flows: no handshake, each segment acknowledged at once, a segment of
-SMSS bytes and 40 of headers. With `Reno` it is that flow; a window may ask for NewReno's recovery (RFC 6582).
+It behaves like the link's own flows (docs/explanation/reno.md): no handshake, each segment acknowledged at once, segments of
+SMSS bytes and 40 of headers. With `Reno` it equals such a flow; a window can select NewReno's recovery (RFC 6582).
 """
 from typing import Any, Callable, NamedTuple, Optional, Protocol
 
@@ -10,47 +10,46 @@ from dnlab.senders.windows import Window
 from dnlab.session.events import Address
 
 HEADER = 40
-# Section 3.2 of RFC 5681: so many duplicates mean a loss.
+# RFC 5681, section 3.2: this many duplicates mean a loss.
 DUPLICATES = 3
 
 
 class Sends(Protocol):
-    """What a flow wants of its network."""
+    """The interface that a flow requires of its network."""
 
     @property
     def now(self) -> int:
-        """The moment, ns."""
+        """Returns the time, ns."""
 
     def carry(self, source: Address, target: Address, size: int, payload: Any) -> None:
-        """A packet goes out."""
+        """Sends a packet."""
 
     def wake(self, moment: int, flow: "Flow") -> None:
-        """The flow is called at a moment (ns)."""
+        """Schedules a call of the flow at a time (ns)."""
 
     def finished(self, flow: "Flow") -> None:
-        """All that a flow sends was acknowledged."""
+        """Reports that everything that a flow sends was acknowledged."""
 
 
 class Segment(NamedTuple):
-    """What a packet of data carries: the flow's bytes from `first` on and before `after`."""
+    """The content of a data packet: the flow's bytes from `first` to before `after`."""
     flow: "Flow"
     first: int
     after: int
 
 
 class Ack(NamedTuple):
-    """What an acknowledgement carries: the first byte that is missing."""
+    """The content of an acknowledgement: the first missing byte."""
     flow: "Flow"
     upto: int
 
 
 class Flow:
-    """A transfer of some bytes; moments are ns, None before they come.
+    """A transfer; times are ns, None until they happen.
 
-    begun         when it began, `arrived` when its last missing byte came, `done` when the sender knew
+    begun         when it started, `arrived` when its last missing byte arrived, `done` when the sender knew
     sent          segments sent, `retransmissions` those of them that were sent before, `timeouts`
-    history       with `record`: (moment, cwnd, ssthresh) at the begin and whenever they change, bytes
-    """
+    history       with `record`: (moment, cwnd, ssthresh) at the start and at each change, bytes"""
 
     def __init__(self, network: Sends, number: int, source: Address, target: Address, size: int, window: Window, smss: int,
                  limit: Optional[int] = None, timeout: Optional[Timeout] = None, record: bool = False) -> None:
@@ -63,13 +62,13 @@ class Flow:
         self.sent = self.retransmissions = self.timeouts = 0
         self.history: Optional[list[tuple[int, int, int]]] = [] if record else None
         self._una = self._next = self._max = self._duplicates = 0
-        # Bytes that fast recovery adds to the window (or takes from it); where it ends, None outside of it.
+        # Bytes that fast recovery adds to the window (or subtracts); its end, None outside of it.
         self._inflated, self._recover = 0, None  # type: int, Optional[int]
         self._backed_off = False
-        # When the timer expires, and for when the network was asked to call: a later timer lets that call pass by.
+        # When the timer expires, and the time of the call that was scheduled: with a later timer, that call does nothing.
         self._due: Optional[int] = None
         self._called_at: Optional[int] = None
-        # What a sample waits for: the byte behind a segment, and when that was sent.
+        # The sample that is running: the end of a segment, and when that was sent.
         self._timed: Optional[tuple[int, int]] = None
         self._expected, self._early = 0, {}  # type: int, dict[int, int]
         self._then: list[Callable[[], Any]] = []
@@ -77,16 +76,16 @@ class Flow:
 
     @property
     def received_bytes(self) -> int:
-        """How many bytes have arrived, each once, in order or not."""
+        """Returns how many bytes have arrived, each once, in order or not."""
         return self._expected + sum(after - first for first, after in self._early.items())
 
     def begin(self) -> None:
-        """It sends its first segments."""
+        """Sends the first segments."""
         self._note()
         self._fill()
 
     def then(self, call: Callable[[], Any]) -> "Flow":
-        """The call is made when the sender knows that all has arrived; at once if it does already."""
+        """Calls when the sender knows that everything has arrived, or at once if it already does."""
         if self.done is None:
             self._then.append(call)
         else:
@@ -94,14 +93,14 @@ class Flow:
         return self
 
     def on_arrival(self, call: Callable[[], Any]) -> "Flow":
-        """The call is made when the last missing byte has come to the receiver."""
+        """Calls when the last missing byte has reached the receiver."""
         if self.arrived is None:
             self._on_arrival.append(call)
         else:
             call()
         return self
 
-    # The sender.
+    # Sender.
 
     def _note(self) -> None:
         if self.history is not None:
@@ -133,7 +132,7 @@ class Flow:
             self._set_timer()
 
     def _resend(self) -> None:
-        """The first segment that isn't acknowledged goes out again. What was sent twice gives no sample (RFC 6298, 3)."""
+        """Sends the first unacknowledged segment again. Segments that were sent twice give no RTT sample (RFC 6298, section 3)."""
         self._timed = None
         after = min(self._una + self.smss, self.size)
         self._send(self._una, after)
@@ -149,7 +148,7 @@ class Flow:
             self.network.wake(moment, self)
 
     def acknowledged(self, upto: int) -> None:
-        """An acknowledgement came."""
+        """Handles an acknowledgement."""
         if self.done is not None:
             return
         if upto > self._una:
@@ -159,7 +158,7 @@ class Flow:
         self._note()
 
     def _new(self, upto: int) -> None:
-        """New data was acknowledged."""
+        """Handles an acknowledgement of new data."""
         count, now = upto - self._una, self.network.now
         if self._timed is not None and upto >= self._timed[0]:
             self.timeout.measured(now - self._timed[1])
@@ -168,7 +167,7 @@ class Flow:
         if self._recover is None:
             self.window.acknowledged(count, now, self.timeout.smoothed)
         elif is_partial:
-            # RFC 6582, section 3.2, step 3: deflate by what was acknowledged, and a segment more; one stays at least.
+            # RFC 6582, section 3.2, step 3: deflate by the amount acknowledged, and add one segment; at least one remains.
             deflated = self._inflated - count + (self.smss if count >= self.smss else 0)
             self._inflated = max(deflated, self.smss - self.window.cwnd)
         else:
@@ -203,7 +202,7 @@ class Flow:
         self._then.clear()
 
     def woken(self) -> None:
-        """Looks at the timer; it was set anew since the network was asked to call, or it expires."""
+        """Handles a call of the network: the timer expires, or was set to a later time since."""
         if self._called_at is not None and self._called_at <= self.network.now:
             self._called_at = None
         if self._due is None or self.done is not None:
@@ -220,10 +219,10 @@ class Flow:
         self._note()
         self._fill()
 
-    # The receiver.
+    # Receiver.
 
     def received(self, segment: Segment) -> None:
-        """A segment came: it is acknowledged at once with the first byte that is missing."""
+        """Handles a segment: acknowledges it at once with the first missing byte."""
         if segment.first == self._expected:
             self._expected = segment.after
             while self._expected in self._early:

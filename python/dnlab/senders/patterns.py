@@ -1,4 +1,4 @@
-"""Who begins flows and when: one after another, requests with answers, users of a web, and arrivals by chance."""
+"""Patterns of flows: one after another, requests with answers, web users, and random arrivals."""
 from typing import Any, Callable, Iterable, Optional, Sequence, Union
 
 from dnlab.chance import Chance
@@ -7,12 +7,12 @@ from dnlab.senders.network import CLIENT, SERVER, Network
 from dnlab.senders.windows import Reno, Window
 
 Make = Callable[[int], Window]
-# A number of bytes or of ns, or what draws one.
+# A number of bytes or ns, or a function that draws one.
 Drawn = Union[int, Callable[[Chance], int]]
 
 
 def drawn(value: Drawn, chance: Chance) -> int:
-    """A number, or what is drawn by chance; at least 1.
+    """Returns a number, or what the function draws; at least 1.
 
     >>> drawn(5, Chance(1)), drawn(lambda chance: chance.whole(7, 7), Chance(1))
     (5, 7)
@@ -21,10 +21,9 @@ def drawn(value: Drawn, chance: Chance) -> int:
 
 
 class Chain:
-    """Flows one after another: each begins when the one before has finished, that is when its sender knows, `gap` ns later.
+    """Flows one after another: each starts `gap` ns after the one before has finished, which is when its sender knows.
 
-    flows  those that have begun, in order
-    """
+    flows  those that have started, in order"""
 
     def __init__(self, network: Network, sizes: Iterable[int], window: Make = Reno, gap: int = 0, **more: Any) -> None:
         self.network, self.window, self.gap, self.more = network, window, gap, more
@@ -40,11 +39,10 @@ class Chain:
 
 
 class Requests:
-    """A client asks a server again and again: a request goes out, its answer begins `work` ns after it has arrived, and the
-    next request `think` ns after the answer has arrived.
+    """A client that sends requests to a server repeatedly: the answer starts `work` ns after the request has arrived, and the next
+    request `think` ns after the answer has arrived.
 
-    times  of each answer that has arrived, how long it took from the begin of its request, ns
-    """
+    times  for each answer that has arrived, the time since the start of its request, ns"""
 
     def __init__(self, network: Network, count: int, request: Drawn, answer: Drawn, seed: object = 0, window: Make = Reno,
                  work: int = 0, think: Drawn = 1, client: str = CLIENT, server: str = SERVER, begin: int = 0,
@@ -78,11 +76,10 @@ class Requests:
 
 
 class Web:
-    """Users who each ask for a page, look at it and ask for the next, as `Requests`: each has a chance of his own, so that
+    """Users who request a page, read it and request the next, each as `Requests`. Every user has an independent random stream, so
     settings are compared under the same requests.
 
-    users  of each his `Requests`
-    """
+    users  the `Requests` of each user"""
 
     def __init__(self, network: Network, users: int, page: Drawn, think: int, until: int, seed: object = 0,
                  request: Drawn = 300, window: Make = Reno, count: int = 10**9, **more: Any) -> None:
@@ -94,15 +91,14 @@ class Web:
                 client=f"10.0.0.{1 + user % 250}", begin=first, until=until, **more))
 
     def times(self) -> list[int]:
-        """How long each page took from its request to its last byte, ns, user by user."""
+        """Returns the time of each page from its request to its last byte, ns, user by user."""
         return [time for user in self.users for time in user.times]
 
 
 class Arrivals:
-    """Flows that come by chance, `mean` ns apart (a Poisson process), each as soon as it is due, whatever the others do.
+    """Flows that arrive at random, `mean` ns apart (a Poisson process). Each starts when it is due, whatever the others do.
 
-    flows  those that have begun, in order
-    """
+    flows  those that have started, in order"""
 
     def __init__(self, network: Network, count: int, mean: int, size: Drawn, seed: object = 0,
                  window: Union[Make, Sequence[Make]] = Reno, begin: int = 0, **more: Any) -> None:
@@ -115,7 +111,7 @@ class Arrivals:
             network.at(begin + self.chance.exponential(mean), self._begin)
 
     def _begin(self) -> None:
-        """The next flow begins, and the one after it is due. The windows are taken in turn."""
+        """Starts the next flow, and schedules the one after it. The windows are used in turn."""
         self._left -= 1
         make = self._windows[len(self.flows) % len(self._windows)]
         if self._left:

@@ -1,24 +1,23 @@
-"""How long an acknowledgement may take (RFC 6298), in whole nanoseconds."""
+"""The retransmission time (RFC 6298), in whole nanoseconds."""
 from dataclasses import dataclass
 
 SECOND = 10**9
-# Section 2.4 and 2.5: at least a second, and a limit of 60 s.
+# Sections 2.4 and 2.5: at least 1 s, at most 60 s.
 LEAST, MOST = SECOND, 60 * SECOND
 
 
 @dataclass
 class Timeout:
-    """The retransmission time `value`, ns; `least` is its lower limit, 1 s by the RFC (Linux has 200 ms).
+    """The retransmission time `value`, ns; `least` is its minimum, 1 s in the RFC (Linux has 200 ms).
 
-    `smoothed` and `varied` are SRTT and RTTVAR, 0 before the first measurement.
-    """
+    `smoothed` and `varied` are SRTT and RTTVAR, 0 before the first measurement."""
     least: int = LEAST
     smoothed: int = 0
     varied: int = 0
     value: int = SECOND
 
     def measured(self, rtt: int) -> None:
-        """A round trip took so long (sections 2.2 and 2.3), ns.
+        """Updates the retransmission time for a measured round trip, ns (sections 2.2 and 2.3).
 
         >>> timeout = Timeout(least=0)
         >>> timeout.measured(100); timeout.smoothed, timeout.varied, timeout.value
@@ -34,5 +33,5 @@ class Timeout:
         self.value = min(max(self.smoothed + max(1, 4 * self.varied), self.least), MOST)
 
     def passed(self) -> None:
-        """It passed without an acknowledgement, and doubles (section 5.5)."""
+        """Doubles the retransmission time, which passed without an acknowledgement (section 5.5)."""
         self.value = min(2 * self.value, MOST)

@@ -1,40 +1,41 @@
-"""Congestion windows in bytes: Reno (RFC 5681) and CUBIC (RFC 9438), each without a packet in sight.
+"""Congestion windows in bytes: Reno (RFC 5681) and CUBIC (RFC 9438), independent of packets.
 
-What a flow adds for duplicates during fast recovery is the flow's (`dnlab.senders.flows`): a window is what it will be then.
+What a flow adds for duplicates during fast recovery belongs to the flow (`dnlab.senders.flows`); a window is the value after it.
 """
 from typing import Protocol
 
 from dnlab.senders import cubic
 
 _SECOND = 10**9
-# No threshold is known at first (RFC 5681, section 3.1: it "SHOULD be set arbitrarily high").
+# The initial threshold (RFC 5681, section 3.1: it "SHOULD be set arbitrarily high").
 HIGH = 2**62
 
 
 class Window(Protocol):
-    """What a flow wants of a window. `cwnd` and `ssthresh` are bytes, moments ns; `is_newreno` says whether a flow stays in
-    fast recovery until all that was sent before the loss is acknowledged (RFC 6582), or leaves it at the first
-    acknowledgement of new data (RFC 5681)."""
+    """The interface that a flow requires of a window.
+
+    `cwnd` and `ssthresh` are bytes, times ns. `is_newreno` says whether a flow stays in fast recovery until everything sent before
+    the loss is acknowledged (RFC 6582), or leaves it at the first acknowledgement of new data (RFC 5681)."""
     cwnd: int
     ssthresh: int
     is_newreno: bool
 
     def __init__(self, smss: int) -> None:
-        """A window for segments of so many bytes."""
+        """Creates a window for segments of this many bytes."""
 
     def acknowledged(self, count: int, now: int, rtt: int) -> None:
-        """So many new bytes were acknowledged, outside of recovery; `rtt` is the smoothed round trip, ns, 0 before it is
-        known."""
+        """Updates the window: `count` new bytes were acknowledged, outside of recovery. `rtt` is the smoothed round trip, ns, 0
+        if unknown."""
 
     def lost(self, flight: int, now: int) -> None:
-        """Three duplicates came, and so many bytes are in flight."""
+        """Updates the window for three duplicates, with `flight` bytes in flight."""
 
     def timed_out(self, flight: int, now: int, is_again: bool) -> None:
-        """The timer expired; `is_again` if it did before for the same byte."""
+        """Updates the window for a timeout; `is_again` if the timer has expired before for the same byte."""
 
 
 class Reno:
-    """The window of RFC 5681, as docs/explanation/reno.md has it.
+    """The window of RFC 5681, as in docs/explanation/reno.md.
 
     >>> window = Reno(1000)
     >>> window.cwnd                                  # 3.1: 4 segments of up to 1095 bytes
@@ -54,27 +55,27 @@ class Reno:
         self.ssthresh = HIGH
 
     def acknowledged(self, count: int, now: int, rtt: int) -> None:
-        """Slow start below the threshold, congestion avoidance from it on (section 3.1)."""
+        """Grows by slow start below the threshold, else by congestion avoidance (section 3.1)."""
         if self.cwnd < self.ssthresh:
             self.cwnd += min(count, self.smss)
         else:
             self.cwnd += max(1, self.smss * self.smss // self.cwnd)
 
     def lost(self, flight: int, now: int) -> None:
-        """Section 3.2, steps 2 and 6."""
+        """Halves the window (section 3.2, steps 2 and 6)."""
         self.ssthresh = max(flight // 2, 2 * self.smss)
         self.cwnd = self.ssthresh
 
     def timed_out(self, flight: int, now: int, is_again: bool) -> None:
-        """Section 3.1: the threshold is held if the same segment was sent again before."""
+        """Falls back to one segment (section 3.1). The threshold stays if the same segment was sent again before."""
         if not is_again:
             self.ssthresh = max(flight // 2, 2 * self.smss)
         self.cwnd = self.smss
 
 
 class NewReno(Reno):
-    """Reno's window with the recovery of RFC 6582: it lasts until all that was sent before the loss is acknowledged, so that several losses
-    of one window need no timeout. Hosts do it so; take it where the network's behaviour is what you study.
+    """Reno's window with the recovery of RFC 6582, which lasts until everything sent before the loss is acknowledged, so that several
+    losses in one window need no timeout. Hosts do this; use it if the network's behaviour is what you study.
 
     >>> NewReno(1000).cwnd, NewReno.is_newreno
     (4000, True)
@@ -83,7 +84,7 @@ class NewReno(Reno):
 
 
 class Cubic:
-    """The window of RFC 9438, by `dnlab.senders.cubic`, with 10 segments at first (RFC 6928) and NewReno's recovery.
+    """The window of RFC 9438, by `dnlab.senders.cubic`, with an initial window of 10 segments (RFC 6928) and NewReno's recovery.
 
     >>> window = Cubic(1000)
     >>> window.acknowledged(1000, 0, 0); window.cwnd
@@ -103,18 +104,18 @@ class Cubic:
         self.ssthresh = HIGH if self.own.ssthresh == float("inf") else round(self.own.ssthresh * self.smss)
 
     def acknowledged(self, count: int, now: int, rtt: int) -> None:
-        """Each segment that was acknowledged counts as one; a part of one does too."""
+        """Counts each acknowledged segment as one; a part of one counts too."""
         for _ in range(max(1, count // self.smss)):
             self.own.acknowledged(now / _SECOND, rtt / _SECOND)
         self._take()
 
     def lost(self, flight: int, now: int) -> None:
-        """Section 4.6 and 4.7."""
+        """Reduces the window (sections 4.6 and 4.7)."""
         self.own.lost(flight / self.smss)
         self._take()
 
     def timed_out(self, flight: int, now: int, is_again: bool) -> None:
-        """Section 4.8; a further one for the same byte leaves threshold and plateau as they are."""
+        """Falls back to one segment (section 4.8); a further timeout for the same byte leaves threshold and plateau unchanged."""
         if is_again:
             self.own.cwnd = 1.0
         else:

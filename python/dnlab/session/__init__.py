@@ -1,1 +1,1 @@
-"""Sessions: experiments that a program of its own drives."""
+"""Sessions: experiments that your own program drives."""

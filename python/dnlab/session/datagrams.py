@@ -1,4 +1,4 @@
-"""Datagrams of asyncio over a link: payloads stay in Python, sizes go over."""
+"""Asyncio datagrams over a link: payloads stay in Python, and the link carries their sizes."""
 import asyncio
 import contextvars
 import errno
@@ -10,21 +10,21 @@ from typing import Any, Iterator, Optional
 from dnlab.session.events import LEAST_SIZE, MOST_SIZE, Address, Event
 from dnlab.session.links import Link
 
-# What IPv4 and UDP put before a datagram (bytes).
+# Size of the IPv4 and UDP headers of a datagram, in bytes.
 HEADERS = 28
-# The first port that is given to an endpoint without one, and the last.
+# The first and the last port for endpoints without one.
 _FREE, _LAST = 49152, 65535
 _HERE: contextvars.ContextVar[str] = contextvars.ContextVar("dnlab.sim.host")
 
 
 def fault_of(number: int) -> OSError:
-    """The error of an operating system."""
+    """Returns the `OSError` of an error number."""
     return OSError(number, os.strerror(number))
 
 
 @contextmanager
 def host(address: str) -> Iterator[None]:
-    """The code within the block, and the tasks and endpoints that it makes, run at this IPv4 address of the link."""
+    """Runs the code in the block, and the tasks and endpoints that it creates, at this IPv4 address of the link."""
     token = _HERE.set(str(ipaddress.IPv4Address(address)))
     try:
         yield
@@ -33,7 +33,7 @@ def host(address: str) -> Iterator[None]:
 
 
 def here() -> str:
-    """The address at which the code runs; `OSError` where none was said."""
+    """Returns the address at which the code runs. Raises `OSError` if none is set."""
     found = _HERE.get("")
     if not found:
         raise OSError(errno.EADDRNOTAVAIL, "at which address of the link does this run? Say it by `with dnlab.sim.host(ADDRESS):`"
@@ -42,7 +42,7 @@ def here() -> str:
 
 
 class Endpoint(asyncio.DatagramTransport):
-    """A bound address, as asyncio's transport for datagrams."""
+    """A bound address, as an asyncio transport for datagrams."""
 
     def __init__(self, network: "Network", loop: asyncio.AbstractEventLoop, local: Address, remote: Optional[Address]) -> None:
         super().__init__({"sockname": local, "peername": remote, "socket": None})
@@ -63,7 +63,7 @@ class Endpoint(asyncio.DatagramTransport):
         self._protocol = protocol
 
     def sendto(self, data: Any, addr: Optional[Any] = None) -> None:
-        """Sends a datagram. As with asyncio's own, what can't be sent is told to the protocol's `error_received`."""
+        """Sends a datagram. Errors are passed to the protocol's `error_received`, as in asyncio's own transport."""
         if self.remote is not None and addr not in (None, self.remote):
             raise ValueError(f"Invalid address: must be None or {self.remote}")
         target = addr if self.remote is None else self.remote
@@ -77,7 +77,7 @@ class Endpoint(asyncio.DatagramTransport):
             self._call("error_received", fault)
 
     def receive(self, data: bytes, source: Address) -> None:
-        """A datagram came."""
+        """Passes a delivered datagram to the protocol."""
         if self.remote in (None, source) and not self._is_closing:
             self._call("datagram_received", data, source)
 
@@ -89,7 +89,7 @@ class Endpoint(asyncio.DatagramTransport):
         return self._is_closing
 
     def get_write_buffer_size(self) -> int:
-        """Nothing waits in an endpoint."""
+        """Returns 0: an endpoint buffers nothing."""
         return 0
 
     def close(self) -> None:
@@ -111,7 +111,7 @@ class Network:
         self._free: dict[str, int] = {}
 
     def bind(self, loop: asyncio.AbstractEventLoop, local: Address, remote: Optional[Address]) -> Endpoint:
-        """An endpoint at an address; port 0 is one that is free. `OSError` as an operating system has it."""
+        """Returns a new endpoint at an address; for port 0, at a free port. Raises `OSError` as an operating system does."""
         if not local[1]:
             local = (local[0], self._free_port(local[0]))
         if local in self._endpoints:
@@ -131,7 +131,7 @@ class Network:
         self._endpoints.pop(endpoint.local, None)
 
     def send(self, source: Address, target: Address, data: bytes) -> None:
-        """A datagram comes to the link; `OSError` where it is too big, or where the experiment is over."""
+        """Sends a datagram over the link. Raises `OSError` if it is too big, or if the experiment has ended."""
         size = len(data) + HEADERS
         if size > MOST_SIZE:
             raise fault_of(errno.EMSGSIZE)
@@ -140,11 +140,11 @@ class Network:
         try:
             ipaddress.IPv4Address(target[0])
         except ValueError:
-            raise OSError(errno.EAFNOSUPPORT, f"{target[0]} is no IPv4 address") from None
+            raise OSError(errno.EAFNOSUPPORT, f"{target[0]} is not an IPv4 address") from None
         self.link.send(source, target, max(size, LEAST_SIZE), data)
 
     def deliver(self, event: Event) -> None:
-        """What came of a packet: a host hears of deliveries alone."""
+        """Passes a delivery to its endpoint. Drops are ignored, since hosts don't learn of them."""
         if event.packet is not None and not event.cause:
             endpoint = self._endpoints.get(event.packet.target)
             if endpoint is not None:

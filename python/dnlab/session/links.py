@@ -1,31 +1,29 @@
-"""One experiment of a session: packets go in at moments that a program chooses, and it is told what became of them."""
+"""An experiment of a session: send packets at chosen times, and learn when each is delivered or dropped."""
 import io
 from pathlib import Path
 from typing import IO, Any, Optional, Protocol, Union
 
 from dnlab.io.outputs import whole_file
-from dnlab.session.events import LATEST, LEAST_SIZE, MOST_SIZE, Address, Event, Over, Packet, header_of
+from dnlab.session.events import LATEST, LEAST_SIZE, MOST_SIZE, Address, Event, ExperimentEndedError, Packet, header_of
 
 
 class Speaks(Protocol):
-    """What a link wants of its session."""
+    """The interface that a link requires of its session."""
 
     def post(self, link: "Link", line: str, packet: Optional[Packet] = None) -> None:
-        """A line goes out with the next exchange."""
+        """Queues a line for the next exchange."""
 
     def exchange(self) -> None:
-        """What was posted goes out, and is answered."""
+        """Sends the queued lines, and handles the replies."""
 
 
 class Link:
-    """An experiment of a session. Time stands still but for `until`, `until_mine`, `until_any`, `end` and what is done at a
-    later moment.
+    """An experiment of a session. Time advances only in `until`, `until_mine`, `until_any` and `end`, and for actions at a later time.
 
-    now       the least moment (ns) at which something can be done
+    now       the earliest time (ns) at which something can be done
     is_over   whether it has ended
-    counters  once it has: made, delivered, held, and the drops by cause
-    listings  the lines of `show` and `pipe show`
-    """
+    counters  after the end: made, delivered, held, and the drops by cause
+    listings  the lines of `show` and `pipe show`"""
 
     def __init__(self, session: Speaks, name: str, show: str, transcript: Optional[IO[bytes]],
                  report: Optional[IO[bytes]]) -> None:
@@ -38,26 +36,28 @@ class Link:
         self._report: IO[bytes] = report if report is not None else io.BytesIO()
         self._events: list[Event] = []
         self._flying: dict[int, Packet] = {}
-        # What was told of packets of which it isn't said yet whether they are the program's own.
+        # Report lines about packets of which it is not yet known whether they are the program's own.
         self._early: dict[int, Event] = {}
         self._wants_all = False
-        # When the next event is due, and whether answers say it.
+        # When the next event is due, and whether replies have this time.
         self._next: Optional[int] = None
         self._adds_next = False
 
-    # What is done.
+    # Actions.
 
     def command(self, words: str, at: Optional[int] = None) -> None:
-        """A command in the words of a scenario, without its moment: now, or at a later moment (ns). `NotTaken` and
-        `CommandRefused` say what is wrong with it."""
+        """Executes a command in scenario syntax, without its time: now, or at a later time (ns). Raises `LineRejectedError` or
+        `CommandRefusedError`."""
         self._move(at)
         self._session.post(self, f"@{self.now} {words}")
         self._session.exchange()
 
     def send(self, source: Address, target: Address, size: int, payload: Any = None, protocol: str = "udp",
              at: Optional[int] = None) -> Packet:
-        """A packet of 40 to 1500 bytes, headers included, comes to the link, now or at a later moment (ns). `ValueError`
-        if that can't be. It goes out with the next call that asks something, so many cost one round trip."""
+        """Sends a packet of 40 to 1500 bytes, headers included, now or at a later time (ns).
+
+        It is sent with the next call that needs a reply, so many packets cost one round trip. Raises `ValueError` if the packet is
+        invalid."""
         if not LEAST_SIZE <= size <= MOST_SIZE:
             raise ValueError(f"a packet has {LEAST_SIZE} to {MOST_SIZE} bytes, not {size}")
         header = header_of(protocol, source, target)
@@ -67,22 +67,24 @@ class Link:
         return packet
 
     def until(self, moment: int) -> list[Event]:
-        """Time goes to `moment` (ns). The deliveries and drops of the program's own packets since the last call."""
+        """Advances time to `moment` (ns). Returns the deliveries and drops of the program's own packets since the last call."""
         return self._pass(f"#> until @{self._later(moment)}")
 
     def until_mine(self, moment: int = LATEST, hold: int = 1) -> list[Event]:
-        """Time goes to `moment` (ns), but no further than `hold` ns after the first delivery or drop of a packet that the
-        program sent: so that is where it can react. The events since the last call. For a packet that is dropped as it
-        is sent time doesn't stop; it comes with the next events."""
+        """Advances time to `moment` (ns), but at most to `hold` ns after the first delivery or drop of a packet that the program sent, so
+        that it can react. Returns the events since the last call.
+
+        Time doesn't stop for a packet that is dropped when it is sent; it is among the next events."""
         self._later(moment)
         if self._events:
-            # They were told by a command at a later moment: time stands still until the program knows.
+            # A command at a later time produced events: time stands still until the program has seen them.
             return self._taken()
-        # (a packet takes 1 ns at least, so what was just sent and the request can go out together)
+        # (a packet takes at least 1 ns, so packets and the request can be sent together)
         return self._pass(f"#> until @{moment} first{'' if hold == 1 else f' {hold}'}")
 
     def until_any(self, moment: int = LATEST, hold: int = 1) -> list[Event]:
-        """The same for the first delivery or drop of any packet; events of others come too (but not by show='mine')."""
+        """Like `until_mine`, for the first delivery or drop of any packet. Also returns events of other packets, unless
+        show='mine'."""
         self._later(moment)
         self._session.exchange()
         if self._events:
@@ -94,8 +96,10 @@ class Link:
             self._wants_all = False
 
     def next_due(self) -> Optional[int]:
-        """When the next event of the link is due (ns); None if nothing is. After the first call the answers to other lines
-        say it too, so a call after `until` costs no round trip, and one after `send` costs that of the packets."""
+        """Returns when the next event of the link is due (ns), or None.
+
+        After the first call, other replies include this time, so a call after `until` costs no round trip, and one after `send` only
+        that of the packets."""
         self._check()
         if not self._adds_next:
             self._session.post(self, "#> next on")
@@ -104,31 +108,31 @@ class Link:
         return self._next
 
     def end(self, at: Optional[int] = None) -> list[Event]:
-        """The experiment ends, now or at a later moment (ns). One whose steps are spent needs its end too, as a scenario
-        has it. The events since the last call."""
+        """Ends the experiment, now or at a later time (ns), and returns the events since the last call. An experiment whose steps are spent
+        also needs an end, as in a scenario."""
         if at is not None:
             self.now = max(at, self.now) if self.is_over else self._later(at)
         self._session.post(self, f"@{self.now} end")
         self._session.exchange()
         return self._taken()
 
-    # What is kept.
+    # Results.
 
     def transcript(self) -> str:
-        """The scenario of what was done: `dnlab alone` writes the same report of it, once it has its end."""
+        """Returns the scenario of everything that was done. `dnlab alone` writes the same report for it, once it has its end."""
         self._session.exchange()
         return _kept(self._transcript, "transcript").decode()
 
     def report(self) -> bytes:
-        """The report so far; once the experiment has ended the whole."""
+        """Returns the report so far, which is complete once the experiment has ended."""
         if self._show == "mine":
-            raise ValueError("only what concerns the program's own packets was told (show='mine'): "
+            raise ValueError("the report has only lines about the program's own packets (show='mine'): "
                              "`dnlab alone` writes the report of transcript()")
         self._session.exchange()
         return _kept(self._report, "report")
 
     def save(self, scenario: Union[str, Path], report: Union[str, Path, None] = None) -> None:
-        """Writes the transcript, and the report if it has a name: what tools/summary, tools/view and the others read."""
+        """Writes the transcript, and the report if it has a name, for tools/summary, tools/view and the others."""
         with whole_file(scenario) as file:
             file.write(self.transcript().encode())
         if report is not None:
@@ -136,10 +140,10 @@ class Link:
             with whole_file(report) as file:
                 file.write(told)
 
-    # What is told: for the session alone.
+    # Callbacks of the session.
 
     def answered(self, line: str, words: list[bytes], packet: Optional[Packet]) -> None:
-        """A line was taken, and this was answered."""
+        """Handles the reply to a line that was accepted."""
         kind = words[1]
         if kind == b"now":
             self.now = int(words[2])
@@ -155,7 +159,7 @@ class Link:
             self._transcript.write(line.encode() + b"\n")
 
     def told(self, line: bytes) -> None:
-        """A line of the report."""
+        """Handles a line of the report."""
         self._report.write(line + b"\n")
         words = line.split(b" ")
         if len(words) > 3 and words[1] in (b"deliver", b"drop"):
@@ -175,7 +179,7 @@ class Link:
         if packet is not None or self._wants_all:
             self._events.append(event)
         elif load == [b"plain"]:
-            # Of a packet that was dropped or delivered as it came: its record stands before the answer that says its number.
+            # For a packet that was dropped or delivered on arrival: its record precedes the reply with its number.
             self._early[number] = event
 
     def _name(self, packet: Packet) -> None:
@@ -185,16 +189,16 @@ class Link:
         else:
             self._events.append(event._replace(packet=packet))
 
-    # Steps of what is done.
+    # Parts of actions.
 
     def _check(self) -> None:
         if self.is_over:
-            raise Over(self.name, self.now)
+            raise ExperimentEndedError(self.name, self.now)
 
     def _later(self, moment: int) -> int:
         self._check()
         if not self.now <= moment <= LATEST:
-            raise ValueError(f"{moment} ns: the moments from here on are {self.now} to {LATEST} ns")
+            raise ValueError(f"{moment} ns: the time must be from {self.now} (now) to {LATEST} ns")
         return moment
 
     def _move(self, at: Optional[int]) -> None:
@@ -213,5 +217,5 @@ class Link:
 
 def _kept(file: IO[bytes], what: str) -> bytes:
     if not isinstance(file, io.BytesIO):
-        raise ValueError(f"the {what} goes to a file that was given, and isn't kept")
+        raise ValueError(f"the {what} is written to the given file, and not kept")
     return file.getvalue()

@@ -1,4 +1,4 @@
-"""Packets sent through a link: by a session of the program (`dnlab live`), of any length, or written as `inject` lines."""
+"""Sends packets through a link: in a session of the program (`dnlab live`), of any length, or written as `inject` lines."""
 import csv
 import io
 import os
@@ -9,28 +9,28 @@ from typing import BinaryIO, Callable, Iterable, Iterator, NamedTuple, Optional
 
 import dpkt
 
-from dnlab.errors import Failed, Faulty, Lacking
+from dnlab.errors import InputError, ProgramError, ResourceError
 from dnlab.io.arrivals import ETHERNET, RAW, Arrival
 from dnlab.io.scenario_parts import MOST_BYTES
 from dnlab.processes import ending
 
-# A session answers at once: who writes more than a pipe holds before reading would wait for ever.
+# A session replies at once, so a writer that fills the pipe without reading would block forever.
 _MOST_OUT = 16_000
 _SECOND = 10**9
-# What libpcap takes for no limit: a reader cuts frames to the length that the file's header names.
+# libpcap's "no limit": readers cut frames to the length in the file's header.
 _SNAPLEN = 65535
 Command = tuple[int, str]
 
 
 class Fate(NamedTuple):
-    """What became of a packet: it left the link at a moment, ns, or was dropped there for a cause ('' where it left)."""
+    """The outcome of a packet: it left the link at a time (ns; `cause` is ''), or was dropped there."""
     arrival: Arrival
     moment: int
     cause: str
 
 
 class Session:
-    """A running `dnlab live` with one experiment, whose packets are told of as they leave."""
+    """A running `dnlab live` with one experiment, which reports packets as they leave."""
 
     def __init__(self, program: str, head: str, tell: Callable[[Fate], None]) -> None:
         self._tell = tell
@@ -39,7 +39,7 @@ class Session:
         self._out: list[str] = []
         self._size = 0
         self._rest = b""
-        # What was asked and isn't answered: a packet, or the line.
+        # Requests without a reply: a packet, or the line.
         self._asked: deque[tuple[str, Optional[Arrival]]] = deque()
         self._under_way: dict[int, Arrival] = {}
         self._early: dict[int, tuple[int, str]] = {}
@@ -49,7 +49,7 @@ class Session:
         self.post("#> show mine")
 
     def post(self, line: str, arrival: Optional[Arrival] = None) -> None:
-        """Says a line; answers are taken when enough was said."""
+        """Queues a line, and reads replies once enough lines are queued."""
         self._out.append(line)
         self._asked.append((line, arrival))
         self._size += len(line) + 1
@@ -57,7 +57,7 @@ class Session:
             self.exchange()
 
     def exchange(self) -> None:
-        """Says all that was posted, and takes the answers."""
+        """Sends all queued lines, and reads the replies."""
         assert self._going.stdin is not None and self._going.stdout is not None
         data = "".join(f"{line}\n" for line in self._out).encode()
         self._out.clear()
@@ -80,8 +80,8 @@ class Session:
         said = self._going.stderr.read().decode(errors="replace").strip()
         status = self._going.wait()
         if "subcommand" in said:
-            return Lacking("this program has no `live`: it takes a later one, or --inject for `dnlab alone`")
-        return Failed(status, said[:300])
+            return ResourceError("this program has no `live`: use a later version, or --inject for `dnlab alone`")
+        return ProgramError(status, said[:300])
 
     def _take(self, words: list[str]) -> None:
         if words[0] == "#<":
@@ -90,7 +90,7 @@ class Session:
             number, moment, cause = int(words[2]), int(words[0]), words[4] if words[1] == "drop" else ""
             arrival = self._under_way.pop(number, None)
             if arrival is None:
-                # Dropped as it came: its number is said behind that.
+                # Dropped on arrival: its number follows in the reply.
                 self._early[number] = moment, cause
             else:
                 self._tell(Fate(arrival, moment, cause))
@@ -104,9 +104,9 @@ class Session:
             else:
                 self._tell(Fate(arrival, *early))
         elif words[1] == "fault":
-            raise Faulty(f"the link refuses `{line}`: {words[2]}")
+            raise InputError(f"the link refuses `{line}`: {words[2]}")
         elif words[1] == "refused":
-            raise Faulty(f"the link refuses `{line}`: code {words[2]} (docs/reference/faults.md)")
+            raise InputError(f"the link refuses `{line}`: code {words[2]} (docs/reference/faults.md)")
         elif words[1] == "next":
             self.next = None if words[2] == "none" else int(words[2])
         elif words[1] == "over":
@@ -114,7 +114,7 @@ class Session:
         self._early.clear()
 
     def drained(self, moment: int, most: int) -> int:
-        """Lets time pass until nothing is under way, or for `most` ns; gives the moment to which it came."""
+        """Advances time until nothing is in flight, or by `most` ns. Returns the time (ns)."""
         last = moment + most
         while self._under_way and self.over is None and moment < last:
             moment = min(last, moment + _SECOND)
@@ -123,7 +123,7 @@ class Session:
         return moment
 
     def held(self) -> int:
-        """How many packets are under way."""
+        """Returns how many packets are in flight."""
         return len(self._under_way)
 
     def close(self) -> None:
@@ -137,7 +137,7 @@ class Session:
 
 
 def commands_of(arrivals: Iterable[Arrival], link: Iterable[Command], begin: int) -> Iterator[tuple[int, str, Optional[Arrival]]]:
-    """The commands of the link and the packets by their moments, ns behind `begin`; a link's come first of their moment."""
+    """Yields the commands of the link and the packets by time, ns after `begin`; commands precede packets of the same time."""
     waiting = deque(sorted(link, key=lambda one: one[0]))
     for one in arrivals:
         moment = one.moment - begin
@@ -150,8 +150,8 @@ def commands_of(arrivals: Iterable[Arrival], link: Iterable[Command], begin: int
 
 def replay(program: str, head: str, link: Iterable[Command], arrivals: Iterable[Arrival], begin: int, tail: int,
            tell: Callable[[Fate], None]) -> int:
-    """Sends packets through a link; `tell` is called of each as it leaves or is dropped, by moments behind `begin`. Gives how many
-    are still under way `tail` ns behind the last."""
+    """Sends packets through a link, and calls `tell` with each as it leaves or is dropped (ns after `begin`). Returns how many are
+    still in flight `tail` ns after the last."""
     session = Session(program, head, tell)
     try:
         moment = 0
@@ -162,7 +162,7 @@ def replay(program: str, head: str, link: Iterable[Command], arrivals: Iterable[
         session.exchange()
         session.drained(moment, tail)
         if session.over is not None:
-            raise Faulty(f"the experiment's 10000000 steps were spent at {session.over} ns, after some 3 million packets: cut the capture in"
+            raise InputError(f"the experiment's 10000000 steps were spent at {session.over} ns, after about 3 million packets: cut the capture into"
                          " parts (editcap -A .. -B ..)")
         return session.held()
     finally:
@@ -170,21 +170,21 @@ def replay(program: str, head: str, link: Iterable[Command], arrivals: Iterable[
 
 
 def text_of(head: str, link: Iterable[Command], arrivals: Iterable[Arrival], begin: int, tail: int) -> str:
-    """A scenario whose packets are `inject` lines; `Faulty` where it would be longer than a scenario may be."""
+    """Returns a scenario whose packets are `inject` lines. Raises `InputError` if it would be longer than a scenario may be."""
     out = io.StringIO()
     out.write(head + "\n")
     moment = 0
     for moment, words, _ in commands_of(arrivals, link, begin):
         out.write(f"@{moment} {words}\n")
         if out.tell() > MOST_BYTES - 100:
-            raise Faulty(f"the scenario would have more than {MOST_BYTES} bytes: replay it through the link in place of --inject, which has no"
+            raise InputError(f"the scenario would have more than {MOST_BYTES} bytes: replay it through the link instead of --inject, which has no"
                          " such limit")
     out.write(f"@{moment + tail} end\n")
     return out.getvalue()
 
 
 class Capture:
-    """Writes what leaves as a capture of nanoseconds, each packet as it came but for its moment, `begin` ns behind 1970."""
+    """Writes the packets that leave as a nanosecond capture, unchanged except for their time, ns after 1970."""
 
     def __init__(self, file: BinaryIO, link: int, begin: int) -> None:
         self._file, self._begin = file, begin
@@ -205,7 +205,7 @@ class Capture:
 
 
 def made_up(arrival: Arrival) -> bytes:
-    """The headers of a packet of which a table has addresses and size alone."""
+    """Returns made-up headers for a packet of which only addresses and size are known."""
     length = max(arrival.size, 28 if arrival.protocol == "udp" else 40)
     ends = {"sport": arrival.source_port, "dport": arrival.target_port}
     inner = dpkt.udp.UDP(ulen=length - 20, **ends) if arrival.protocol == "udp" else dpkt.tcp.TCP(flags=dpkt.tcp.TH_ACK, **ends)
@@ -216,7 +216,7 @@ def made_up(arrival: Arrival) -> bytes:
 
 
 class Table:
-    """Writes what became of each packet as CSV: moments are ns behind the first arrival, `left` is empty of what was dropped."""
+    """Writes the outcome of each packet as CSV: times are ns after the first arrival, `left` is empty for drops."""
 
     def __init__(self, file: BinaryIO, begin: int) -> None:
         self._begin = begin
@@ -231,12 +231,12 @@ class Table:
                              "" if fate.cause else fate.moment, fate.cause or "delivered"))
 
     def close(self) -> None:
-        """Leaves the file open, which isn't its own."""
+        """Leaves the file open, because it belongs to the caller."""
         self._text.detach()
 
 
 def tally_of(counts: "Counter[str]", held: int) -> str:
-    """What is said of all packets.
+    """Returns a summary of all packets.
 
     >>> tally_of(Counter({"": 5, "full": 2}), 0)
     '7 packets: 5 left the link, 2 were dropped (full 2)'
@@ -244,9 +244,9 @@ def tally_of(counts: "Counter[str]", held: int) -> str:
     dropped = {cause: count for cause, count in sorted(counts.items()) if cause}
     said = f"{sum(counts.values()) + held} packets: {counts['']} left the link, {sum(dropped.values())} were dropped"
     said += f" ({', '.join(f'{cause} {count}' for cause, count in dropped.items())})" if dropped else ""
-    return said + (f", {held} were still under way" if held else "")
+    return said + (f", {held} were still in flight" if held else "")
 
 
 def common_link(links: Iterable[int]) -> int:
-    """The link of what is written: Ethernet where all have it, else raw IP."""
+    """Returns the link type of the output: Ethernet if all inputs have it, else raw IP."""
     return ETHERNET if set(links) == {ETHERNET} else RAW

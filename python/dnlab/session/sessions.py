@@ -1,4 +1,4 @@
-"""Sessions with `dnlab live`: a program of one's own reacts to what a link does.
+"""Sessions with `dnlab live`: your own program reacts to what a link does.
 
     import dnlab
 
@@ -7,12 +7,12 @@
         link.command("pipe 1 config bw 10Mbit/s delay 20 queue 100 codel")
         link.command("add 100 pipe 1 ip from any to any")
         link.send(("10.0.0.1", 1000), ("10.0.1.1", 2000), 1500, payload="hello")
-        for event in link.until_mine(10**9):     # to the first delivery or drop, 10^9 ns at the latest
+        for event in link.until_mine(10**9):     # to the first delivery or drop, but at most to 10^9 ns
             print(event.moment, event.packet.payload, event.cause)
         link.end(2 * 10**9)
-        link.save("scenario.txt", "report.txt")  # `dnlab alone` writes the same report of the scenario
+        link.save("scenario.txt", "report.txt")  # `dnlab alone` writes the same report for the scenario
 
-It needs Python alone. `dnlab.hosts` has callbacks and generators, `dnlab.sim` an event loop for asyncio.
+Needs only Python. `dnlab.hosts` has callbacks and generators, `dnlab.sim` an event loop for asyncio.
 """
 from collections import deque
 from types import TracebackType
@@ -20,16 +20,16 @@ from typing import IO, Literal, Optional
 
 from dnlab.io.scenario_parts import STEPS
 from dnlab.programs import program
-from dnlab.session.events import CommandRefused, NotTaken, Packet
+from dnlab.session.events import CommandRefusedError, LineRejectedError, Packet
 from dnlab.session.links import Link
 from dnlab.session.talks import Here, Spoken, Talk
 
-# Bytes that are gathered before they are sent though nothing is asked.
+# Bytes to collect before they are sent although no reply is needed.
 _MOST_GATHERED = 1 << 15
 
 
 class Session:
-    """A running program with experiments, each a `Link`, or the same in this process. It ends with its block, also by an exception."""
+    """A running program, or library, with experiments, each a `Link`. It ends with its block, also by an exception."""
 
     def __init__(self, dnlab: Optional[str] = None, engine: str = "process") -> None:
         self._talk = _spoken(dnlab, engine)
@@ -39,30 +39,30 @@ class Session:
         self._links: list[Link] = []
         self._current: Optional[Link] = None
         self._trouble: Optional[Exception] = None
-        # How often it was waited for an answer.
+        # The number of waits for a reply.
         self.round_trips = 0
 
     def experiment(self, name: str, seed: int = 0, budget: int = 1000, steps: int = STEPS,
                    show: Literal["all", "mine"] = "all", transcript: Optional[IO[bytes]] = None,
                    report: Optional[IO[bytes]] = None) -> Link:
-        """Begins an experiment.
+        """Starts an experiment.
 
-        name        1 to 32 of a to z, 0 to 9, - and _; no two in a session are the same
-        seed        of its chances, 0 to 2^64 - 1
-        budget      how many packets there can be at once, 1 to 65535
-        steps       after how many steps it is over, 1 to 10^7
-        show        whether all of its report comes, or only what concerns packets that are sent (which is quicker)
-        transcript  a file for the transcript, and one for the report, if they aren't to be kept in memory
+        name        1 to 32 of a to z, 0 to 9, - and _; unique in the session
+        seed        of its random numbers, 0 to 2^64 - 1
+        budget      the maximum number of packets at a time, 1 to 65535
+        steps       the number of steps after which it ends, 1 to 10^7
+        show        whether its whole report is read, or only lines about packets that are sent (which is faster)
+        transcript  a file for the transcript, instead of memory
+        report      a file for the report, instead of memory
 
-        `NotTaken` says what is wrong with it.
-        """
+        Raises `LineRejectedError` if an argument is invalid."""
         link = Link(self, name, show, transcript, report)
         self._links.append(link)
         self._current = link
         try:
             self.post(link, f"experiment {name} seed {seed} budget {budget} steps {steps}")
             self.exchange()
-        except NotTaken:
+        except LineRejectedError:
             self._links.remove(link)
             self._current = None
             raise
@@ -71,15 +71,16 @@ class Session:
         return link
 
     def transcript(self) -> str:
-        """The scenario of all experiments, in the order in which they began."""
+        """Returns the scenario of all experiments, in the order in which they started."""
         return "".join(link.transcript() for link in self._links)
 
     def report(self) -> bytes:
-        """The report so far of all experiments; once all have ended what `dnlab alone` writes of the transcript."""
+        """Returns the report of all experiments so far; once all have ended, the report that `dnlab alone` writes for the
+        transcript."""
         return b"".join(link.report() for link in self._links)
 
     def post(self, link: Link, line: str, packet: Optional[Packet] = None) -> None:
-        """A line for an experiment goes out with the next exchange."""
+        """Queues a line of an experiment for the next exchange."""
         if self._current is not link:
             self._lines.append(f"#> use {link.name}\n")
             self._asked.append((link, "#> use", None))
@@ -91,7 +92,7 @@ class Session:
             self.exchange()
 
     def exchange(self) -> None:
-        """What was posted goes out, and is answered. Raises what the first line did that was faulty or refused."""
+        """Sends the queued lines and handles the replies. Raises the first fault or refusal."""
         if not self._asked:
             return
         data = "".join(self._lines).encode(errors="replace")
@@ -104,7 +105,7 @@ class Session:
             raise trouble
 
     def _take(self, line: bytes) -> bool:
-        """Takes a line that was said; whether more is to come."""
+        """Handles a line from the program. Returns whether more lines are expected."""
         if line[:1] != b"#":
             self._asked[0][0].told(line)
         elif line[:3] == b"#< ":
@@ -115,21 +116,21 @@ class Session:
         link, line, packet = self._asked.popleft()
         if words[1] == b"fault":
             cause = words[2].decode()
-            self._trouble = self._trouble or NotTaken(cause, line, self._explained(line))
+            self._trouble = self._trouble or LineRejectedError(cause, line, self._explained(line))
             return
         link.answered(line, words, packet)
         if words[1] == b"refused":
-            self._trouble = self._trouble or CommandRefused(int(words[2]), line)
+            self._trouble = self._trouble or CommandRefusedError(int(words[2]), line)
 
     def _explained(self, line: str) -> str:
-        """What `check --explain` says of a line, without the line itself; '' where it finds no fault in it alone."""
+        """Returns the explanation of `check --explain` for a line, without the line itself; '' if the line alone has no fault."""
         before = "" if line.startswith("experiment") else "experiment x seed 0 budget 1\n"
         text = f"{before}{line}\n@{10**15} end\n".encode(errors="replace")
         said = self._talk.explained(text).split("\n\n")[0].splitlines()[1:]
         return "".join(f"\n{it}" for it in said if not it.startswith("line "))
 
     def close(self) -> None:
-        """Ends the program, once what was posted is answered. An experiment without its `end` is cut off there."""
+        """Ends the program after the replies to all queued lines. An experiment without its `end` is cut off there."""
         if not self._talk.has_ended:
             try:
                 self.exchange()
@@ -148,10 +149,10 @@ class Session:
 
 
 def _spoken(dnlab: Optional[str], engine: str) -> Spoken:
-    """Whom a session speaks to."""
+    """Returns the transport of a session."""
     if engine == "library":
         if dnlab is not None:
-            raise ValueError('engine="library" takes no program: leave it out, or take engine="process"')
+            raise ValueError('engine="library" takes no program: leave it out, or use engine="process"')
         return Here()
     if engine != "process":
         raise ValueError(f'the engine is "process" or "library", not {engine!r}')
@@ -159,11 +160,10 @@ def _spoken(dnlab: Optional[str], engine: str) -> Spoken:
 
 
 def live(dnlab: Optional[str] = None, engine: str = "process") -> Session:
-    """Begins a session.
+    """Starts a session. Use it as a block: `with dnlab.live() as session: link = session.experiment("mine", seed=1)`.
 
-    dnlab    the program; else see `dnlab.programs.program`
+    dnlab    the program; by default that of `dnlab.programs.program`
     engine   "process" starts the program; "library" calls libdnlab in this process, and takes no program
 
-    `Failed` where there is none. To be used as a block: `with dnlab.live() as session: link = session.experiment("mine", seed=1)`.
-    """
+    Raises `ProgramError` if there is no program or library."""
     return Session(dnlab, engine)

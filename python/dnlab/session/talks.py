@@ -1,5 +1,4 @@
-"""A program `dnlab live` that runs, spoken to by lines, and a session in this process that is spoken to alike. Neither side of the program
-ever waits for a pipe that the other doesn't empty."""
+"""The transports of sessions: a running `dnlab live`, or libdnlab in this process. Neither side ever blocks on a full pipe."""
 import os
 import select
 import subprocess
@@ -9,26 +8,26 @@ from functools import partial
 from typing import Callable, Optional, Protocol
 
 from dnlab import library
-from dnlab.errors import Failed
+from dnlab.errors import ProgramError
 from dnlab.processes import children, ending
 
-# Bytes that are read at a time.
+# Bytes per read.
 _CHUNK = 1 << 16
-_TORN = "the session was interrupted while it waited for an answer: begin a new one"
+_TORN = "the session was interrupted while it waited for a reply: start a new one"
 
 
 class Spoken(Protocol):
-    """What a session is spoken to by."""
+    """The interface of a session's transport."""
 
     @property
     def has_ended(self) -> bool:
-        """Whether it has ended."""
+        """Returns whether it has ended."""
 
     def exchange(self, data: bytes, take: Callable[[bytes], bool]) -> None:
-        """Sends whole lines, and gives `take` each line that is said, without its line feed, until that answers False."""
+        """Sends whole lines, and passes each line of the reply, without its line feed, to `take` until that returns False."""
 
     def explained(self, text: bytes) -> str:
-        """What `check --explain` says of a text."""
+        """Returns the explanation of `check --explain` for a text."""
 
     def close(self) -> None:
         """Ends it. An experiment without its `end` is cut off there."""
@@ -38,7 +37,7 @@ class Spoken(Protocol):
 
 
 class Here:
-    """A session in this process, by libdnlab."""
+    """A session in this process, through libdnlab."""
 
     def __init__(self) -> None:
         self._talk = library.Talk()
@@ -46,13 +45,13 @@ class Here:
 
     @property
     def has_ended(self) -> bool:
-        """Whether it is closed."""
+        """Returns whether it is closed."""
         return self._talk.has_ended
 
     def exchange(self, data: bytes, take: Callable[[bytes], bool]) -> None:
-        """Takes whole lines, and gives `take` each line that is said. `Failed` where memory is refused."""
+        """Sends whole lines, and passes each line of the reply to `take`. Raises `ProgramError` if memory runs out."""
         if self._is_torn and not self.has_ended:
-            raise Failed(0, _TORN)
+            raise ProgramError(0, _TORN)
         self._is_torn = True
         for line in data.split(b"\n")[:-1]:
             for said in self._talk.take(line).splitlines():
@@ -60,7 +59,7 @@ class Here:
         self._is_torn = False
 
     def explained(self, text: bytes) -> str:
-        """What `check --explain` says of a text."""
+        """Returns the explanation of `check --explain` for a text."""
         try:
             library.check(text)
         except library.FaultIn as fault:
@@ -73,14 +72,14 @@ class Here:
             self._talk.close()
 
     def kill(self) -> None:
-        """Ends it, whatever it says."""
-        with suppress(Failed):
+        """Ends it, and ignores its errors."""
+        with suppress(ProgramError):
             self._talk.close()
 
 
 class Talk:
-    """The program, from its start to `close`. It has a process group of its own, so that Ctrl-C comes to the caller alone,
-    and it ends with the thread that began it."""
+    """The running program. It has a process group of its own, so that Ctrl-C reaches only the caller, and ends with the thread that
+    started it."""
 
     def __init__(self, called: str) -> None:
         self._called = called
@@ -97,18 +96,18 @@ class Talk:
         self._poll.register(self._in, select.POLLOUT)
         self._poll.register(self._out, select.POLLIN)
         self._rest = b""
-        self._failed: Optional[Failed] = None
-        # Whether an exchange was left before its last answer: what is read next would belong to it.
+        self._failed: Optional[ProgramError] = None
+        # Whether an exchange was interrupted before its last line, which a later read would then return.
         self._is_torn = False
 
     @property
     def has_ended(self) -> bool:
-        """Whether the program has ended."""
+        """Returns whether the program has ended."""
         return self._process.returncode is not None
 
     def exchange(self, data: bytes, take: Callable[[bytes], bool]) -> None:
-        """Sends whole lines, and gives `take` each line that is said (without its line feed) until that answers False.
-        `Failed` where the program has ended, with its status and what it said."""
+        """Sends whole lines, and passes each line of the reply (without its line feed) to `take` until that returns False. Raises
+        `ProgramError` with the program's status and standard error if it has ended."""
         self._check()
         self._is_torn = True
         left = memoryview(data)
@@ -123,19 +122,19 @@ class Talk:
         if self._failed is not None:
             raise self._failed
         if self.has_ended:
-            raise Failed(0, "the session is closed")
+            raise ProgramError(0, "the session is closed")
         if self._is_torn:
-            raise Failed(0, _TORN)
+            raise ProgramError(0, _TORN)
 
     def _write(self, data: memoryview) -> memoryview:
-        """Writes what there is room for, or waits until something can be read; what is left."""
+        """Writes as much as the pipe accepts, or waits until something can be read. Returns what is left."""
         try:
             return data[os.write(self._in, data):]
         except BlockingIOError:
             self._poll.poll()
             return data
         except BrokenPipeError:
-            # It has ended; what it said before is read yet.
+            # The program has ended; its last output is still read.
             return memoryview(b"")
 
     def _take(self, take: Callable[[bytes], bool]) -> bool:
@@ -147,14 +146,14 @@ class Talk:
         return all([take(line) for line in lines])
 
     def _lost(self) -> None:
-        """The program has ended though nobody told it to: raises `Failed`."""
+        """Raises `ProgramError`, because the program ended unexpectedly."""
         status = children.wait(self._process)
         said = self._said()
         by = children.signal_of(status)
         if by:
             self._failed = children.Killed(3, f"the session's program was {children.told(by)}")
         else:
-            self._failed = Failed(status, f"the session's program ended{': ' + said if said else ''}")
+            self._failed = ProgramError(status, f"the session's program ended{': ' + said if said else ''}")
         self._release()
         raise self._failed
 
@@ -170,8 +169,8 @@ class Talk:
         ending.remove(self._chore)
 
     def close(self) -> None:
-        """Ends the program and waits for it. An experiment without its `end` is cut off there. `Failed` where the program
-        ends by itself with another fault."""
+        """Ends the program and waits for it. An experiment without its `end` is cut off there. Raises `ProgramError` if the program ends
+        with another fault."""
         if self.has_ended:
             return
         if self._is_torn:
@@ -185,13 +184,13 @@ class Talk:
         said = self._said()
         self._release()
         if status not in (0, 1):
-            raise Failed(status, said)
+            raise ProgramError(status, said)
 
     def explained(self, text: bytes) -> str:
-        """What `check --explain` says of a text; '' where the program can't be asked."""
+        """Returns the explanation of `check --explain` for a text, or '' if the program can't be run."""
         try:
             return children.run([self._called, "check", "--explain"], text).said()
-        except (Failed, OSError):
+        except (ProgramError, OSError):
             return ""
 
     def kill(self) -> None:

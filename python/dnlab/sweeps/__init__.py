@@ -1,4 +1,4 @@
-"""Runs of the program: one text, parts of it, a template with settings and seeds."""
+"""Runs of the program: one scenario, parts of one, or a template with settings and seeds."""
 from typing import TYPE_CHECKING, Any
 
 if TYPE_CHECKING:
@@ -8,7 +8,7 @@ __all__ = ["Sweep", "sweep"]
 
 
 def __getattr__(name: str) -> Any:
-    """Loads what is asked for, since `dnlab.sweeps.runs` needs no Jinja2."""
+    """Imports a name on first use, because `dnlab.sweeps.runs` works without Jinja2."""
     if name not in __all__:
         raise AttributeError(f"module 'dnlab.sweeps' has no attribute {name!r}")
     from dnlab.sweeps import sweeping

@@ -1,8 +1,8 @@
-"""Experiments that wait to be run: which are run as one text, and what comes of them."""
+"""Groups waiting experiments into scenarios to run together, and handles their results."""
 from typing import Iterator, NamedTuple, Optional, Sequence
 
 from dnlab.analysis.asking import Found
-from dnlab.errors import Failed
+from dnlab.errors import ProgramError
 from dnlab.io.splitting import lines_in
 from dnlab.io.scenario_words import BadWord, Words, experiment
 from dnlab.processes import children
@@ -10,13 +10,13 @@ from dnlab.processes.children import Killed
 from dnlab.processes.crew import Outcome
 from dnlab.sweeps.grids import Case
 
-# What a process runs at once: the program keeps all reports of a text until its end, so their steps are bounded too.
+# Limits for a single run: the program keeps all reports of a scenario until its end, so the steps are limited too.
 _MOST_TOGETHER = 4
 _MOST_STEPS = 3 * 10**6
 
 
 class Waiting(NamedTuple):
-    """An experiment that must be run: what it is kept by, and its budget of steps."""
+    """An experiment to run: its case, its text, its key in the cache, and its steps."""
     case: Case
     key: str
     steps: int
@@ -26,7 +26,7 @@ Answered = tuple[list[Waiting], list[Found]]
 
 
 def together(waiting: Sequence[Waiting], workers: int) -> Iterator[list[Waiting]]:
-    """Experiments that are run as one text, in order."""
+    """Yields groups of experiments to run as one scenario, in order."""
     most = max(1, min(_MOST_TOGETHER, len(waiting) // (4 * workers)))
     batch: list[Waiting] = []
     for one in waiting:
@@ -39,7 +39,7 @@ def together(waiting: Sequence[Waiting], workers: int) -> Iterator[list[Waiting]
 
 
 def steps_of(text: str) -> int:
-    """The steps that a text's experiment may take."""
+    """Returns the step budget of a scenario's experiment."""
     _, heading, _ = next(lines_in(text.encode()))
     try:
         return experiment(Words(heading.decode("ascii", "replace").split()))[3]
@@ -48,27 +48,27 @@ def steps_of(text: str) -> int:
 
 
 def judged(program: str, text: bytes) -> Optional[str]:
-    """What the program says of a faulty text, None where it has no fault."""
+    """Returns the program's explanation of a faulty scenario, or None if it has no fault."""
     done = children.run([program, "check", "--explain"], text)
     if done.status == 0:
         return None
     if done.status != 1:
-        raise Failed(done.status, done.said() or f"{program} check ended with status {done.status}")
+        raise ProgramError(done.status, done.said() or f"{program} check ended with status {done.status}")
     return done.said()
 
 
 def answer_of(outcome: Outcome[tuple[Waiting, ...]]) -> list[Found]:
-    """What experiments answer; a program that a signal ended is told with the first of them."""
+    """Returns the results of experiments. Raises `ProgramError` with the first of them if a signal ended the program."""
     if isinstance(outcome.fault, Killed):
         first, *others = outcome.token
-        more = f" or one of {len(others)} behind it" if others else ""
+        more = f" or one of the {len(others)} after it" if others else ""
         raise Killed(3, f"{first.case.told()}{more}: {outcome.fault.said}")
     found: list[Found] = outcome.get()
     return found
 
 
-def raise_first(failures: Sequence[Failed]) -> None:
-    """Raises the first of some failures, with how many there are."""
+def raise_first(failures: Sequence[ProgramError]) -> None:
+    """Raises the first of some failures, with the number of the others."""
     if failures:
-        more = f" (and {len(failures) - 1} experiments more)" if len(failures) > 1 else ""
-        raise Failed(failures[0].status, failures[0].said + more)
+        more = f" (and {len(failures) - 1} more experiments)" if len(failures) > 1 else ""
+        raise ProgramError(failures[0].status, failures[0].said + more)

@@ -1,4 +1,4 @@
-"""What neighbouring cells of a sweep tell: that something else is the limit, or that deterministic flows lock."""
+"""Hints from neighbouring cells of a sweep: something else is the limit, or deterministic flows lock."""
 import itertools
 from typing import Any, Iterator, Mapping, Optional, Sequence
 
@@ -8,7 +8,7 @@ _JUMP, _ALIKE = 1.4, 3
 
 
 def told_of(rows: Sequence[Row], settings: Sequence[str]) -> list[str]:
-    """Returns what is to be said of a table's rows, one of each kind at most; `mean` is None where it isn't known.
+    """Returns the hints for a table's rows, at most one of each kind; `mean` is None if unknown.
 
     >>> rows = [{"queue": queue, "sender": "flow 1", "stat": "goodput", "mean": 4.73, "half": 0.1} for queue in (25, 50, 100)]
     >>> told_of(rows, ["queue"])
@@ -23,7 +23,7 @@ def told_of(rows: Sequence[Row], settings: Sequence[str]) -> list[str]:
 
 
 class Line:
-    """The cells along one setting, all else being equal, by its values in order."""
+    """The cells along one setting, with all others equal, by its values in order."""
 
     def __init__(self, name: str, rows: Sequence[Row]) -> None:
         self.name, self.rows = name, rows
@@ -47,7 +47,7 @@ def _lines(rows: Sequence[Row], settings: Sequence[str], name: str) -> Iterator[
 def _identical(line: Line) -> Optional[str]:
     for mean, alike in itertools.groupby(line.rows, lambda row: float(row["mean"])):
         same = list(alike)
-        # A mean of 0 or 1 in many cells isn't a limit that was reached.
+        # A mean of 0 or 1 in many cells is not a limit that was reached.
         if len(same) >= _ALIKE and mean not in (0, 1):
             first, last = same[0][line.name], same[-1][line.name]
             return f"{line.what()} is identical for {line.name} {first:g} to {last:g}: something else is the limit"

@@ -1,4 +1,4 @@
-"""Runs the experiments of a sweep on other machines: by ssh or as an array of Slurm, as `spread` does, or by Dask."""
+"""Runs the experiments of a sweep on other machines: with ssh or as a Slurm array, like `spread`, or with Dask."""
 import time
 from contextlib import ExitStack
 from math import ceil
@@ -6,7 +6,7 @@ from pathlib import Path
 from typing import TYPE_CHECKING, Any, Iterator, Optional, Sequence
 
 from dnlab.analysis.spans import Span
-from dnlab.errors import Failed, Faulty
+from dnlab.errors import InputError, ProgramError
 from dnlab.io.splitting import experiments_in, groups, shares
 from dnlab.processes.children import Killed
 from dnlab.processes.crew import Crew
@@ -21,18 +21,18 @@ if TYPE_CHECKING:
     from dnlab.sweeps.batches import Answered, Waiting
     from dnlab.sweeps.sweeping import Sweep
 
-# What a part should take on another machine, in seconds. By ssh it is one text, all of whose reports the program keeps
-# until its end; Slurm and Dask run several texts one after another.
+# The target time of a part on another machine, in seconds. With ssh it is one scenario, all of whose reports the program keeps
+# until its end; Slurm and Dask run several scenarios one after another.
 _PART = 60.0
 _PART_BY_SSH = 10.0
-# How long some experiments are tried here to know how many that are.
+# How long to run experiments on this machine to estimate that.
 _TRIAL = 5.0
-# Where there are fewer experiments, each is a part.
+# With fewer experiments, each is a part.
 _FEW = 16
 
 
 def answers(sweep: "Sweep", waiting: Sequence["Waiting"], program: str) -> Iterator["Answered"]:
-    """What experiments answer, as it comes. What was tried here to know how long it takes is an answer too."""
+    """Yields results as they arrive, including those of the experiments that were run on this machine to estimate the time."""
     if not waiting:
         return
     parts, tried = sweep.parts or len(waiting), 0
@@ -53,7 +53,7 @@ def answers(sweep: "Sweep", waiting: Sequence["Waiting"], program: str) -> Itera
 
 
 def group_of(tried: int, took: float, workers: int, wanted: float = _PART) -> int:
-    """How many experiments take as long as is wanted (s), where so many took so many seconds by so many processes.
+    """Returns how many experiments take `wanted` seconds, if `tried` of them took `took` seconds with `workers` processes.
 
     >>> group_of(16, 0.4, 4), group_of(2, 5.0, 4), group_of(0, 5.0, 4)
     (600, 12, 1)
@@ -62,7 +62,7 @@ def group_of(tried: int, took: float, workers: int, wanted: float = _PART) -> in
 
 
 def batches_of(waiting: Sequence["Waiting"], count: int) -> list[list[list["Waiting"]]]:
-    """Experiments in so many parts, each of several texts."""
+    """Returns experiments in `count` parts, each of several scenarios."""
     from dnlab.sweeps.batches import together
 
     batches = list(together(waiting, ceil(count / 4)))
@@ -71,7 +71,7 @@ def batches_of(waiting: Sequence["Waiting"], count: int) -> list[list[list["Wait
 
 
 def tried_here(sweep: "Sweep", sample: Sequence["Waiting"], program: str) -> Iterator["Answered"]:
-    """Runs experiments here, one by one, for some seconds; those that fail are left to the others."""
+    """Runs experiments on this machine, one by one, for some seconds; those that fail are left for the other machines."""
     begun = time.monotonic()
     with Crew["Waiting"](sweep.workers) as crew:
         for one in sample:
@@ -88,18 +88,18 @@ def tried_here(sweep: "Sweep", sample: Sequence["Waiting"], program: str) -> Ite
 
 
 def read_part(report: str, texts: Sequence[str], asks: Sequence["Ask"], span: Span) -> list["Found"]:
-    """What the experiments of a part answer, for another process."""
+    """Returns the results of a part. Runs in another process."""
     return read_answers(Path(report).read_bytes(), texts, asks, span)
 
 
 def by_spread(sweep: "Sweep", waiting: Sequence["Waiting"], program: str, count: int) -> Iterator["Answered"]:
-    """By the engines of `spread`; each part is read here as soon as it is done."""
+    """Runs experiments with the engines of `spread`, and reads each part on this machine as soon as it is done."""
     how = How(count, ssh=None if sweep.on == "slurm" else str(sweep.on), slurm=sweep.on == "slurm", program=sweep.there)
     fault = how.fault()
     if fault is not None:
-        raise Faulty(f"--on {sweep.on}: {fault}")
+        raise InputError(f"--on {sweep.on}: {fault}")
     with ExitStack() as stack:
-        # Nodes of Slurm see the folder of the call, and not this machine's own for temporary files.
+        # Slurm's nodes can read the current folder, but not this machine's temporary folder.
         room = stack.enter_context(Room("." if sweep.on == "slurm" else None))
         crew = stack.enter_context(Crew[int](sweep.workers))
         by_name = {one.case.name: one for one in waiting}
@@ -125,36 +125,36 @@ def by_spread(sweep: "Sweep", waiting: Sequence["Waiting"], program: str, count:
                 is_going, stop = False, stopped
             yield from _read(crew, jobs, by_name, None if not is_going else 0.0)
         if stop is not None:
-            raise Failed(stop.status, str(stop).strip())
+            raise ProgramError(stop.status, str(stop).strip())
 
 
 def _read(crew: Crew[int], jobs: Sequence[Job], by_name: dict[str, "Waiting"],
           seconds: Optional[float]) -> Iterator["Answered"]:
-    """What the parts answer that have been read by now; without a time all that are there."""
+    """Yields the results of parts that have been read by now; without a time, of all that are ready."""
     while len(crew):
         try:
             outcome = crew.next(seconds)
         except TimeoutError:
             return
         names = jobs[outcome.token - 1].names
-        if isinstance(outcome.fault, Failed):
-            raise type(outcome.fault)(outcome.fault.status, f"{by_name[names[0]].case.told()} or one behind it:"
+        if isinstance(outcome.fault, ProgramError):
+            raise type(outcome.fault)(outcome.fault.status, f"{by_name[names[0]].case.told()} or one after it:"
                                                             f" {outcome.fault.said}")
         yield [by_name[name] for name in names], outcome.get()
 
 
 def by_dask(sweep: "Sweep", waiting: Sequence["Waiting"], program: str, count: int) -> Iterator["Answered"]:
-    """By the workers of a Dask scheduler, which have this package and the program; they run and read."""
+    """Runs and reads experiments on the workers of a Dask scheduler, which need this package and the program."""
     try:
         import distributed
     except ModuleNotFoundError:
-        raise Failed(3, "distributed is missing (Debian: apt-get install python3-distributed)") from None
+        raise ProgramError(3, "distributed is missing (Debian: apt-get install python3-distributed)") from None
     dask: Any = distributed
     address = str(sweep.on).removeprefix(DASK)
     try:
         client = dask.Client(address, timeout=10)
     except (OSError, ValueError) as fault:
-        raise Faulty(f"--on dask {address}: there is no scheduler: {str(fault) or type(fault).__name__}") from None
+        raise InputError(f"--on dask {address}: there is no scheduler: {str(fault) or type(fault).__name__}") from None
     with client:
         futures = {}
         for part in batches_of(waiting, count):
@@ -165,7 +165,7 @@ def by_dask(sweep: "Sweep", waiting: Sequence["Waiting"], program: str, count: i
             batch = futures.pop(future)
             if future.status != "finished":
                 raised = future.exception()
-                said = raised.said if isinstance(raised, Failed) else f"{type(raised).__name__}: {raised}"
-                more = f" or one of {len(batch) - 1} behind it" if len(batch) > 1 else ""
-                raise Failed(3, f"{batch[0].case.told()}{more}: {said}")
+                said = raised.said if isinstance(raised, ProgramError) else f"{type(raised).__name__}: {raised}"
+                more = f" or one of the {len(batch) - 1} after it" if len(batch) > 1 else ""
+                raise ProgramError(3, f"{batch[0].case.told()}{more}: {said}")
             yield batch, future.result()

@@ -1,4 +1,4 @@
-"""The engines of `spread`: processes of this machine, GNU parallel by ssh, and Slurm; and how parts become a report."""
+"""The engines of `spread`: processes on this machine, GNU parallel with ssh, and Slurm; and the joining of reports."""
 import getpass
 import os
 import re
@@ -11,7 +11,7 @@ from functools import partial
 from pathlib import Path
 from typing import IO, Iterable, Iterator, Optional, Sequence
 
-from dnlab.errors import Failed, cause_of
+from dnlab.errors import ProgramError, cause_of
 from dnlab.io.outputs import whole_file
 from dnlab.io.report_bound import most_report
 from dnlab.io.splitting import groups
@@ -21,9 +21,8 @@ from dnlab.processes.crew import Crew
 from dnlab.processes.rooms import CANCEL, cancel
 from dnlab.sweeps.jobs import How, Job, Stop
 
-# What each task of the Slurm array does: the parts of its line of `tasks`, one after another. It writes under a name of
-# its own and renames, so that a part has a whole report or none, even where an array that was given up still runs
-# beside a later one.
+# A task of the Slurm array runs the parts in its line of `tasks`, one after another. It writes each report under a name of its
+# own and renames it, so that a part has a complete report or none, even if an earlier, abandoned array still runs.
 TASK = """#!/bin/sh
 ulimit -f {blocks}
 worst=0
@@ -37,14 +36,14 @@ for part in $(sed -n "${{SLURM_ARRAY_TASK_ID}}p" tasks); do
 done
 exit $worst
 """
-# What Slurm has where nobody configures it: an array's numbers are below.
+# Slurm's default for the largest number in an array, exclusive.
 _MAX_ARRAY_SIZE = 1001
-# How long this machine waits before it looks again what others have done, in seconds.
+# Seconds between checks for finished parts.
 _LOOK = 0.5
 
 
 def version_of(program: str) -> bytes:
-    """What a program answers to --version; empty where it has no answer."""
+    """Returns the output of a program's --version, or nothing if it fails."""
     try:
         return children.run([program, "--version"]).out
     except Killed:
@@ -52,12 +51,12 @@ def version_of(program: str) -> bytes:
 
 
 def _most(parts: Sequence[Job]) -> int:
-    """How many bytes the longest report of some parts has at most."""
+    """Returns the maximum length of a report of the parts, in bytes."""
     return max((most_report(part.text) for part in parts), default=0)
 
 
 def laid_down(how: How, program: str, parts: Sequence[Job], folder: Path) -> None:
-    """Writes the parts' texts, or finds those of the run before; another scenario's are refused."""
+    """Writes the texts of the parts, or checks those of the previous run. Raises `Stop` if they belong to another scenario."""
     mark = version_of(program) + f"{len(parts)} parts\n".encode()
     if how.resume:
         try:
@@ -66,7 +65,7 @@ def laid_down(how: How, program: str, parts: Sequence[Job], folder: Path) -> Non
         except OSError as error:
             raise Stop(2, f"spread: --resume: {error.filename}: {error.strerror}\n") from error
         if not same:
-            raise Stop(2, f"spread: --resume: {folder} is of another scenario, number of parts or program\n")
+            raise Stop(2, f"spread: --resume: {folder} belongs to another scenario, number of parts or program\n")
         cancel(folder)
         _leave(folder)
         return
@@ -74,21 +73,21 @@ def laid_down(how: How, program: str, parts: Sequence[Job], folder: Path) -> Non
         try:
             folder.mkdir()
         except FileExistsError as error:
-            raise Stop(2, f"spread: {folder} is there: --resume goes on with it, or remove it\n") from error
+            raise Stop(2, f"spread: {folder} exists: continue it with --resume, or remove it\n") from error
     for part in parts:
         part.file("txt").write_bytes(part.text)
-    # last, so that a folder with a mark has all texts
+    # Written last, so that a folder with a mark has all texts.
     (folder / "mark").write_bytes(mark)
 
 
 def _leave(folder: Path) -> None:
-    """Removes what a run that was ended has half written."""
+    """Removes incomplete files of a run that was interrupted."""
     for path in [*folder.glob("*.half"), *folder.glob("*.out.*"), *folder.glob("out.*")]:
         path.unlink(missing_ok=True)
 
 
 def _alone(program: str, job: Job) -> None:
-    """Runs a part, for another process."""
+    """Runs a part. Runs in another process."""
     with open(job.file("half"), "wb") as out:
         try:
             text = job.file("txt").read_bytes()
@@ -104,12 +103,12 @@ def _alone(program: str, job: Job) -> None:
 
 
 def here(how: How, program: str, waiting: Sequence[Job], folder: Path) -> Iterator[None]:
-    """Runs parts by processes of this machine, so many at once."""
+    """Runs parts in processes of this machine, `jobs` at a time."""
     from dnlab.analysis.work import cores
 
     with Crew[int](how.jobs or cores()) as crew:
         for part in waiting:
-            # Another process needs neither the text nor the names.
+            # The other process needs neither the text nor the names.
             crew.give(part.number, _alone, program, Job(folder, part.number, [], b""))
         while len(crew):
             crew.next().get()
@@ -117,7 +116,7 @@ def here(how: How, program: str, waiting: Sequence[Job], folder: Path) -> Iterat
 
 
 def _waited(engine: "subprocess.Popen[bytes]") -> Iterator[None]:
-    """Looks again and again until an engine has ended."""
+    """Yields repeatedly until an engine has ended."""
     while True:
         try:
             engine.wait(_LOOK)
@@ -128,7 +127,7 @@ def _waited(engine: "subprocess.Popen[bytes]") -> Iterator[None]:
 
 
 def _end_parallel(engine: "subprocess.Popen[bytes]") -> None:
-    """parallel lets its jobs end at the first signal and ends them at the second."""
+    """Ends parallel: at the first signal it waits for its jobs, at the second it ends them."""
     for _ in range(2):
         if engine.returncode is None:
             engine.send_signal(signal.SIGTERM)
@@ -156,7 +155,7 @@ def by_parallel(how: How, program: str, waiting: Sequence[Job], folder: Path) ->
 
 
 def gathered(folder: Path) -> None:
-    """Takes what parallel's log says: a part is done only where its job ended with status 0 and no signal."""
+    """Reads parallel's log: a part is done only if its job ended with status 0 and without a signal."""
     log, order = folder / "joblog", folder / "order"
     if not log.is_file() or not order.is_file():
         return
@@ -173,17 +172,17 @@ def gathered(folder: Path) -> None:
 
 
 def most_tasks() -> int:
-    """How many tasks an array of Slurm may have here, with numbers from 1."""
+    """Returns the maximum number of tasks in a Slurm array on this machine."""
     try:
         said = children.run(["scontrol", "show", "config"]).out.decode(errors="replace")
-    except Failed:
+    except ProgramError:
         said = ""
     found = re.search(r"^MaxArraySize\s*=\s*([0-9]+)", said, re.MULTILINE)
     return max(int(found[1]) if found else _MAX_ARRAY_SIZE, 2) - 1
 
 
 def by_slurm(how: How, program: str, waiting: Sequence[Job], folder: Path) -> Iterator[None]:
-    """Runs parts as one array, of as many tasks as Slurm takes; where this run is ended the array is cancelled."""
+    """Runs parts as one array with as many tasks as Slurm allows; the array is cancelled if this run is interrupted."""
     ends = groups([max(len(part.text), 1) for part in waiting], min(how.parts, most_tasks()))
     tasks = [waiting[begin:end] for begin, end in zip([0, *ends], ends)]
     (folder / "task").write_text(TASK.format(program=shlex.quote(how.program or program), blocks=_most(waiting) // 512 + 1))
@@ -206,8 +205,8 @@ def by_slurm(how: How, program: str, waiting: Sequence[Job], folder: Path) -> It
 
 
 def going(how: How, program: str, parts: Sequence[Job], folder: Path) -> Iterator[list[Job]]:
-    """Runs the parts that aren't done; gives again and again those that are done now. Where some have failed they are
-    named by `Stop`, after the others."""
+    """Runs the parts that aren't done, and yields those that are done now, repeatedly. Raises `Stop` at the end with the parts that
+    failed."""
     laid_down(how, program, parts, folder)
     gathered(folder)
     waiting = {part.number: part for part in parts if not part.is_done()}
@@ -235,14 +234,14 @@ def going(how: How, program: str, parts: Sequence[Job], folder: Path) -> Iterato
 
 
 def failure(how: How, parts: Sequence[Job], failed: Sequence[Job], folder: Path) -> Stop:
-    """What is said of parts that have failed."""
+    """Returns the error for failed parts."""
     said = [f"spread: part {part.number} of {len(parts)} failed (experiments {part.names[0]} to "
             f"{part.names[-1]}): {part.why()}" for part in failed]
     log = folder / "engine.err"
     said += ["spread: " + line for line in log.read_text(errors="replace").splitlines()[-3:]] if log.is_file() else []
     if how.work is not None:
         said.append(f"spread: {len(parts) - len(failed)} parts are kept in {folder}; "
-                    "the same words with --resume run the others")
+                    "the same command with --resume runs the others")
     return Stop(3, "\n".join(said) + "\n")
 
 
@@ -254,7 +253,7 @@ def _join(parts: Iterable[Job], report: IO[bytes]) -> None:
 
 
 def put_together(out: Optional[str], parts: Sequence[Job]) -> None:
-    """Writes the report: to its file, which takes its name when it is whole, or to standard output."""
+    """Writes the report: to its file, completely or not at all, or to standard output."""
     try:
         if out is None:
             with open(1, "wb", closefd=False) as report:

@@ -1,4 +1,4 @@
-"""What sweeps have found, kept in a file (SQLite), so that a run that was broken off goes on and nothing is run twice."""
+"""The cache of results of sweeps (SQLite), so that an interrupted sweep continues and nothing runs twice."""
 import hashlib
 import json
 import re
@@ -11,21 +11,21 @@ from typing import Any, Optional, Sequence, Union
 from dnlab.analysis.asking import Found
 from dnlab.analysis.notes import Note
 from dnlab.analysis.stats import Ask
-from dnlab.errors import Failed, Faulty, Lacking
+from dnlab.errors import InputError, ProgramError, ResourceError
 from dnlab.processes import children
 
 _MADE = "CREATE TABLE IF NOT EXISTS answers (key TEXT PRIMARY KEY, found TEXT NOT NULL, checksum TEXT NOT NULL)"
-# Of a script so many files are looked at that it names, scripts that these name among them.
+# The maximum number of files that are read for a script, including scripts that it names.
 _MOST_FILES = 64
 
 
 def checksum(text: str, program: str) -> str:
-    """What an experiment is kept by: its text, and what `program_checksum` has of program and package."""
+    """Returns the key of an experiment: a checksum of its text, and of `program_checksum`."""
     return hashlib.sha256(f"{program}\n{text}".encode()).hexdigest()
 
 
 def files_of(program: Path) -> list[Path]:
-    """A program's file; of a script also the programs that words of it name: by their path, beside it, or on the PATH."""
+    """Returns a program's file, and for a script also the programs that it names: by path, next to it, or on the PATH."""
     found: dict[Path, None] = {}
     waiting = [program.resolve()]
     while waiting and len(found) < _MOST_FILES:
@@ -52,14 +52,14 @@ def _is_program(path: Path) -> bool:
 
 
 def program_checksum(program: str) -> str:
-    """The checksum of all that an answer hangs on besides its text: what the program says of itself (its commit and
-    proof), the bytes of its file and of those that it starts where it is a script, and this package's sources."""
+    """Returns a checksum of everything besides the text that a result depends on: the program's version output (with its commit and
+    proof), the bytes of its file and, for a script, of those that it starts, and this package's sources."""
     own = hashlib.sha256()
     for path in files_of(Path(program)):
         own.update(hashlib.sha256(path.read_bytes()).digest())
     done = children.run([program, "--version"])
     if done.status:
-        raise Failed(3, f"{program} --version ended with status {done.status}: {done.said()}")
+        raise ProgramError(3, f"{program} --version ended with status {done.status}: {done.said()}")
     own.update(done.out)
     own.update(_package_checksum())
     return own.hexdigest()
@@ -75,14 +75,14 @@ def _package_checksum() -> bytes:
 
 
 def _seal(key: str, found: str) -> str:
-    """The checksum of an answer itself, with its key: another's doesn't pass for it."""
+    """Returns a checksum of a result with its key, so that another one's result is not accepted."""
     return hashlib.sha256(f"{key}\n{found}".encode()).hexdigest()
 
 
 class Kept:
-    """Answers by checksum, in a file, or, where none is named, for as long as this lasts.
+    """Results by key, in a file or, without a name, in memory.
 
-    `damaged` is how many kept answers didn't fit their checksums; these are taken as not known."""
+    `damaged` counts results whose checksum was wrong; they are treated as unknown."""
 
     def __init__(self, path: Union[str, Path, None]) -> None:
         self.path = path
@@ -99,11 +99,11 @@ class Kept:
         return len(self._damaged)
 
     def open(self) -> sqlite3.Connection:
-        """Opens the file, and makes it where it isn't there."""
+        """Opens the file, creating it if necessary."""
         if self._base is None:
             try:
                 base = sqlite3.connect(":memory:" if self.path is None else self.path, timeout=60)
-                # What isn't text any more is a damaged answer, and not a fault of the file.
+                # Bytes that are not text are a damaged result, not an error of the file.
                 base.text_factory = bytes
                 base.execute(_MADE)
                 self._base = base
@@ -111,18 +111,18 @@ class Kept:
                 raise self._refused(fault) from None
         return self._base
 
-    def _refused(self, fault: sqlite3.Error) -> Faulty:
+    def _refused(self, fault: sqlite3.Error) -> InputError:
         is_room = str(getattr(fault, "sqlite_errorname", "")).startswith(("SQLITE_FULL", "SQLITE_IOERR", "SQLITE_READONLY"))
-        return (Lacking if is_room else Faulty)(f"{self.path}: what was found can't be kept there: {fault} (--kept names another file)")
+        return (ResourceError if is_room else InputError)(f"{self.path}: results can't be stored there: {fault} (choose another file with --kept)")
 
     def close(self) -> None:
-        """Leaves the file; what isn't whole in it is undone."""
+        """Closes the file; incomplete transactions are rolled back."""
         if self._base is not None:
             self._base.close()
             self._base = None
 
     def get(self, key: str, asks: Sequence[Ask]) -> Optional[Found]:
-        """What is known of an experiment; None where something that is asked isn't."""
+        """Returns the result of an experiment, or None if a requested statistic is missing."""
         known = self._known(key)
         if known is None or any(stat not in known["values"].get(ask.of, {}) for ask in asks for stat in ask.stats):
             return None
@@ -130,7 +130,7 @@ class Kept:
         return Found(values, [Note(*note) for note in known["notes"]])
 
     def put(self, found: Sequence[tuple[str, Found]]) -> None:
-        """Keeps answers, beside what was known of their experiments."""
+        """Stores results, together with earlier statistics of the same experiments."""
         base = self.open()
         try:
             with base:
@@ -159,6 +159,6 @@ class Kept:
                 found: dict[str, Any] = json.loads(text)
                 return found
         except (AttributeError, ValueError):
-            pass  # It isn't text, or no JSON.
+            pass  # It is not text, or not JSON.
         self._damaged.add(key)
         return None

@@ -1,22 +1,22 @@
-"""Makes the texts of experiments in a process of its own: one that calculates without end, or wants too much memory, is
-ended, and what began it goes on."""
+"""Renders the texts of experiments in a process of its own. If a template computes without end, or needs too much memory, only that
+process is ended."""
 import resource
 import signal
 from functools import lru_cache
 from pathlib import Path
 from typing import Any, Mapping, NoReturn, Optional, Union
 
-from dnlab.errors import Faulty
+from dnlab.errors import InputError
 from dnlab.processes.children import Killed
 from dnlab.processes.crew import Crew
 from dnlab.sweeps.templates import Template, TooLong
 
-# The processor time that one text may take, in seconds, and the memory that is wanted for it, in bytes.
+# The limits for a text: processor time in seconds, and memory in bytes.
 MOST_SECONDS = 10.0
 MOST_MEMORY = 2**29
-# Texts that are needed again are kept up to so many bytes; further ones are made again.
+# Texts that are needed again are cached up to this many bytes; further ones are rendered again.
 MOST_KEPT = 2**28
-# How much longer is waited for a process that doesn't heed its signal, or gets no processor.
+# How much longer to wait for a process that ignores its signal, or gets no processor time.
 _PATIENCE = 6.0
 
 
@@ -30,9 +30,10 @@ def _template(source: Union[str, Path]) -> Template:
 
 
 def made(source: Union[str, Path], name: str, seed: int, settings: Mapping[str, Any], seconds: float) -> str:
-    """Makes the text of an experiment in this process, whose main thread calls; `Faulty` has the line where the time is over."""
+    """Renders the text of an experiment in this process; call it in the main thread. Raises `InputError` with the line at which the time
+    is over."""
     def stop(*_: object) -> NoReturn:
-        raise TooLong(f"its text takes more than {seconds:.0f} s to make")
+        raise TooLong(f"rendering it takes more than {seconds:.0f} s")
 
     signal.signal(signal.SIGPROF, stop)
     signal.setitimer(signal.ITIMER_PROF, seconds)
@@ -43,7 +44,7 @@ def made(source: Union[str, Path], name: str, seed: int, settings: Mapping[str, 
 
 
 class Maker:
-    """Makes texts of a template, by a process that is begun when the first is wanted."""
+    """Renders texts of a template in a process that is started on demand."""
 
     def __init__(self, template: Template) -> None:
         self._template = template
@@ -55,7 +56,7 @@ class Maker:
         return Maker, (self._template,)
 
     def made(self, name: str, seed: int, settings: Mapping[str, Any], told: str) -> str:
-        """The text of an experiment; `Faulty`, with what is told of it, where it takes too long or too much memory."""
+        """Returns the text of an experiment. Raises `InputError`, with `told`, if it takes too long or too much memory."""
         key = name, seed, *map(str, settings.items())
         if key in self._kept:
             return self._kept[key]
@@ -67,12 +68,12 @@ class Maker:
             outcome = self._crew.next(_PATIENCE * MOST_SECONDS)
         except TimeoutError:
             self.close()
-            raise Faulty(f"{self._template.name}: {told}: its text takes more than {MOST_SECONDS:.0f} s to make") from None
+            raise InputError(f"{self._template.name}: {told}: rendering it takes more than {MOST_SECONDS:.0f} s") from None
         except Killed as killed:
             self.close()
-            raise Killed(3, f"{told}: its text wasn't made: {killed.said}") from None
-        if isinstance(outcome.fault, Faulty) and str(outcome.fault).endswith(": MemoryError: MemoryError"):
-            raise Faulty(f"{str(outcome.fault).removesuffix(': MemoryError: MemoryError')}: a text may want {MOST_MEMORY} bytes at most")
+            raise Killed(3, f"{told}: it could not be rendered: {killed.said}") from None
+        if isinstance(outcome.fault, InputError) and str(outcome.fault).endswith(": MemoryError: MemoryError"):
+            raise InputError(f"{str(outcome.fault).removesuffix(': MemoryError: MemoryError')}: a text may use at most {MOST_MEMORY} bytes of memory")
         text: str = outcome.get()
         if len(text) <= self._left:
             self._kept[key] = text
@@ -80,7 +81,7 @@ class Maker:
         return text
 
     def close(self) -> None:
-        """Ends the process; another is begun where it is wanted."""
+        """Ends the process; another one is started on demand."""
         if self._crew is not None:
             self._crew.close()
             self._crew = None

@@ -11,7 +11,7 @@ from dnlab.analysis.naming import sources_of, with_names
 from dnlab.analysis.spans import Span
 from dnlab.analysis.stats import USUAL, Ask
 from dnlab.analysis.view import View
-from dnlab.errors import Failed, Faulty, Refused
+from dnlab.errors import InputError, ParseError, ProgramError
 from dnlab.io import report, scenario
 from dnlab.io.scenario_parts import Plan
 from dnlab.processes import children
@@ -23,23 +23,22 @@ from dnlab.sweeps.grids import Case
 from dnlab.sweeps.sweeping import Sweep
 
 TRANSCRIPT, REPORT, SUMMARY = "transcript.txt", "report.txt", "summary.json"
-# So many steps that no two runs share a job.
+# A step count so large that no two runs share a job.
 _STEPS = 10**7
 _PACKAGE = Path(__file__).resolve().parents[2]
 
 
 class Kind(NamedTuple):
-    """What the texts of a sweep are: command lines, or hosts files with names relative to `folder`."""
+    """The kind of texts in a sweep: command lines, or hosts files with names relative to `folder`."""
     is_command: bool
     folder: str
 
 
 class ProgramSweep(Sweep):
-    """As `Sweep`, of programs. Their answers are not cached, since what the programs do may change.
+    """A `Sweep` of programs. Results are not cached, because what the programs do may change.
 
     source      a command line as a template (`is_command`), which is run in an empty folder and leaves
-                transcript.txt and report.txt there; or the path of a hosts file as a template
-    """
+                transcript.txt and report.txt there; or the path of a hosts file as a template"""
 
     def __init__(self, source: str, grid: Mapping[str, Sequence[Any]], seeds: Iterable[int] = (1,),
                  asks: Sequence[Ask] = (), is_command: bool = False, workers: Optional[int] = None,
@@ -53,24 +52,24 @@ class ProgramSweep(Sweep):
         return self._maker.made(case.name, case.seed, case.settings, case.told())
 
     def prepare(self) -> list[Waiting]:
-        """Returns all cases that were not run; the first hosts file of each setting is checked."""
+        """Returns all cases that were not run, after checking the first hosts file of each setting."""
         waiting = [Waiting(case, case.name, _STEPS) for case in self.cases if case.name not in self.found]
         first = {tuple(map(str, one.case.settings.values())): one.case for one in reversed(waiting)}
         for case in first.values() if not self.kind.is_command else ():
             done = _hosts(["-", "--check"], self.text(case), self.kind.folder, program_of(self._named))
             if done.status == 2:
-                raise Faulty(f"{case.told()}: {done.said().removeprefix('hosts: ')}")
+                raise InputError(f"{case.told()}: {done.said().removeprefix('hosts: ')}")
             if done.status:
-                raise Failed(done.status, f"{case.told()}: {done.said()}")
+                raise ProgramError(done.status, f"{case.told()}: {done.said()}")
         return waiting
 
     def give(self, crew: "Crew[tuple[Waiting, ...]]", batch: Sequence[Waiting], program: str) -> None:
-        """Has a process run a case."""
+        """Submits a case to a process."""
         texts = [self.text(one.case) for one in batch]
         crew.give(tuple(batch), ran, texts, self.kind, self.asks, program, self.span)
 
     def changeless(self) -> Optional[str]:
-        """Returns the warning if the texts of two seeds are equal, None otherwise."""
+        """Returns the warning if the texts of two seeds are equal, else None."""
         seeds = {case.seed: case for case in reversed(self.cases)}
         texts = {self.text(Case(case.name, seed, self.cases[0].settings))
                  for seed, case in list(seeds.items())[:2]}
@@ -79,8 +78,8 @@ class ProgramSweep(Sweep):
 
 
 def ran(texts: Sequence[str], kind: Kind, asks: Sequence[Ask], program: str, span: Span) -> list[Found]:
-    """Runs some programs, one after the other; returns what their reports answer, in order. `Failed` with
-    what a program said if its status is not 0."""
+    """Runs programs, one after the other, and returns the results of their reports in order. Raises `ProgramError` with a program's
+    message if its status is not 0."""
     found = []
     for text in texts:
         with Room() as room:
@@ -91,7 +90,7 @@ def ran(texts: Sequence[str], kind: Kind, asks: Sequence[Ask], program: str, spa
             else:
                 done = _hosts(["-", "--out", str(out), "--no-verify"], text, kind.folder, program)
             if done.status:
-                raise Failed(3, done.said() or f"the program ended with status {done.status}")
+                raise ProgramError(3, done.said() or f"the program ended with status {done.status}")
             found.append(answer(view_of(out), asks, span))
     return found
 
@@ -120,14 +119,14 @@ def view_of(folder: Path) -> View:
     try:
         plans = scenario.read((folder / name).read_bytes())
         if len(plans) != 1:
-            raise Failed(3, f"{name} has {len(plans)} experiments where one is expected")
+            raise ProgramError(3, f"{name} has {len(plans)} experiments where one is expected")
         plans = with_names(plans, _names(folder, next(iter(plans.values())))) or plans
         name = REPORT
         view = View(next(report.read(folder / name)), next(iter(plans.values())))
     except OSError as fault:
-        raise Failed(3, f"the program left no {name}: {fault.strerror}") from None
-    except (Refused, Faulty, StopIteration) as fault:
-        raise Failed(3, f"{name}: {str(fault) or 'it is empty'}") from None
+        raise ProgramError(3, f"the program left no {name}: {fault.strerror}") from None
+    except (ParseError, InputError, StopIteration) as fault:
+        raise ProgramError(3, f"{name}: {str(fault) or 'it is empty'}") from None
     view.folder = folder
     return view
 

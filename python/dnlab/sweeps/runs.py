@@ -1,4 +1,4 @@
-"""Runs the program `dnlab` on scenario texts, or the library in its place."""
+"""Runs the program `dnlab`, or the library, on scenarios."""
 import os
 from contextlib import suppress
 from pathlib import Path
@@ -7,14 +7,14 @@ from typing import BinaryIO, Iterator, Mapping, NamedTuple, Optional, Union
 from dnlab import library
 from dnlab.analysis.naming import with_names
 from dnlab.analysis.reports import Report
-from dnlab.errors import Failed, Refused
+from dnlab.errors import ParseError, ProgramError
 from dnlab.io.origin import Origin, origin_of, write_beside
 from dnlab.io.outputs import whole_file
 from dnlab.io.packed import unpacked
 from dnlab.io.pieces import pieces
 from dnlab.io.report_bound import most_report
 from dnlab.io.scenario import read
-from dnlab.io.scenario_parts import MOST_BYTES, MAX_EXPERIMENTS
+from dnlab.io.scenario_parts import MOST_BYTES, MOST_EXPERIMENTS
 from dnlab.io.splitting import experiments_in, texts_of
 from dnlab.processes import children
 from dnlab.processes.rooms import Room
@@ -24,29 +24,28 @@ from dnlab.programs import program
 def run(text: Union[str, bytes, Path], workers: int = 1, moves: Optional[int] = None,
         out: Union[str, Path, None] = None, dnlab: Optional[str] = None, engine: str = "process",
         names: Optional[Mapping[str, str]] = None) -> Report:
-    """Runs a scenario and gives its report, joined with it.
+    """Runs a scenario and returns its report, joined with it.
 
-    text     the scenario, or the path of its file (a str of one line is one), which may be packed by gzip; it may have more experiments and bytes
-             than the program takes at once, and is then run in several texts, one after the other. A str may lack its last line feed
-    workers  how many threads run its experiments, 1 to 16
+    text     the scenario, or the path of its file (a str of one line is a path), which may be gzip. It may have more experiments and bytes
+             than the program accepts at once, and is then run in several parts, one after the other. A str may lack its last line feed
+    workers  the number of threads that run its experiments, 1 to 16
     moves    after how many turns a thread offers an experiment to the others
-    out      the report's file; what made it is kept beside it, as OUT.json. Else it is a temporary one, which lives as
-             long as the report, and the report's `origin` has what made it
-    dnlab    the program; else see `dnlab.programs.program`
-    engine   "process" starts the program; "library" calls libdnlab in this process (`dnlab.library.library` says which), and
-             takes no workers, moves or program. Many short scenarios run quicker so; Ctrl-C waits until a text is done
-    names    of injected packets' sources, as in `dnlab.read`
+    out      the report's file; OUT.json, next to it, records what made it. By default a temporary file, which lives as long as the
+             report; the report's `origin` then has what made it
+    dnlab    the program; by default that of `dnlab.programs.program`
+    engine   "process" starts the program; "library" calls libdnlab in this process (see `dnlab.library.library`), and takes no
+             workers, moves or program. It is faster for many short scenarios; Ctrl-C waits until a part is done
+    names    names for sources of injected packets, as in `dnlab.read`
 
-    A scenario that the program refuses raises `Failed`, whose `said` has `line L: CAUSE` (L counts in `text`), and what
-    `--explain` says. So does a program that ends with status 0 and whose report lacks an experiment.
-    """
+    Raises `ProgramError` if the program refuses the scenario; its `said` has `line L: CAUSE` (L counts in `text`), and the output of
+    `--explain`. Also raises it if a program ends with status 0 but its report lacks an experiment."""
     if isinstance(text, str) and text and "\n" not in text and not text.startswith("experiment "):
         text = Path(text)
     runner = _runner(engine, workers, moves, dnlab)
     data = unpacked(text.read_bytes()) if isinstance(text, Path) else _typed(text) if isinstance(text, str) else text
     if names:
-        # Before anything is run; a faulty scenario is refused by the program.
-        with suppress(Refused):
+        # Checked before anything runs; the program refuses a faulty scenario.
+        with suppress(ParseError):
             with_names(read(data), names)
     room = Room()
     scenario = room.path / "scenario.txt"
@@ -64,23 +63,24 @@ def run(text: Union[str, bytes, Path], workers: int = 1, moves: Optional[int] = 
 
 
 def _typed(text: str) -> bytes:
-    """A text in Python's quotes, where the last line feed is easily left out; of a file its lack may mean that it was cut."""
+    """Returns the bytes of a Python string, whose last line feed is easily forgotten; in a file, a missing one may mean that it
+    was cut."""
     return (text if text.endswith("\n") or not text else text + "\n").encode()
 
 
 class _Program(NamedTuple):
-    """A program that is started for each text, with these words behind it."""
+    """A program that is started for each scenario, with these arguments."""
     path: str
     words: tuple[str, ...]
     version: Optional[str] = None
 
     def write(self, text: bytes, out: BinaryIO) -> tuple[int, str]:
-        """Writes the report of a text; gives the status and what was said."""
+        """Writes the report of a scenario; returns the exit status and the messages."""
         done = children.run([self.path, *self.words], text, out, most_report(text))
         return done.status, done.said()
 
     def explained(self, text: bytes) -> str:
-        """What is said of a faulty text by `--explain`, with the line of its fault; '' where nothing is."""
+        """Returns the explanation of `--explain` for a faulty scenario, with the line of its fault, or ''."""
         done = children.run([self.path, "check", "--explain"], text)
         return done.said() if done.status == 1 else ""
 
@@ -92,17 +92,17 @@ class _Library(NamedTuple):
     version: Optional[str]
 
     def write(self, text: bytes, out: BinaryIO) -> tuple[int, str]:
-        """As that of a program."""
+        """Writes the report of a scenario; returns the exit status and the messages."""
         try:
             out.write(library.alone(text))
-            # Its bytes are read by another descriptor.
+            # Another descriptor reads the bytes.
             out.flush()
-        except Failed as failed:
+        except ProgramError as failed:
             return failed.status, failed.said
         return 0, ""
 
     def explained(self, text: bytes) -> str:
-        """As that of a program."""
+        """Returns the explanation of `--explain` for a faulty scenario, or ''."""
         try:
             library.check(text)
         except library.FaultIn as fault:
@@ -114,10 +114,10 @@ _Runner = Union[_Program, _Library]
 
 
 def _runner(engine: str, workers: int, moves: Optional[int], dnlab: Optional[str]) -> _Runner:
-    """What runs the texts; `ValueError` where the words don't go together."""
+    """Returns the engine that runs the scenarios. Raises `ValueError` if the arguments don't go together."""
     if engine == "library":
         if workers > 1 or moves is not None or dnlab is not None:
-            raise ValueError('engine="library" takes no workers, moves or program: leave them out, or take engine="process"')
+            raise ValueError('engine="library" takes no workers, moves or program: leave them out, or use engine="process"')
         return _Library(library.library(), ("alone",), f"libdnlab {library.version()}")
     if engine != "process":
         raise ValueError(f'the engine is "process" or "library", not {engine!r}')
@@ -127,23 +127,23 @@ def _runner(engine: str, workers: int, moves: Optional[int], dnlab: Optional[str
 
 
 def _origin(data: bytes, report: BinaryIO, runner: _Runner) -> Origin:
-    """What is kept of a run. A program that says nothing of a text which is no scenario, or that doesn't report all of it,
+    """Returns the record of a run. Raises `ProgramError` if the program accepted an invalid scenario or did not report all of it: then it
     isn't dnlab, or was stopped."""
     try:
         plans = read(data)
         names = {piece.name for piece in pieces(report)}
-    except Refused as refused:
-        raise Failed(0, f"{runner.path} took what is no scenario, or wrote no report (is it dnlab?): {refused}") from None
+    except ParseError as refused:
+        raise ProgramError(0, f"{runner.path} accepted an invalid scenario, or wrote no report (is it dnlab?): {refused}") from None
     lost = [name for name in plans if name not in names]
     if lost:
-        raise Failed(0, f"{runner.path} wrote no report of experiment {lost[0]}, and {len(lost)} of {len(plans)} are lacking:"
+        raise ProgramError(0, f"{runner.path} wrote no report of experiment {lost[0]}, and {len(lost)} of {len(plans)} are missing:"
                      " is it dnlab?")
     return origin_of(plans, runner.path, [runner.path, *runner.words], runner.version)
 
 
 def _parts(data: bytes) -> Iterator[tuple[int, bytes]]:
-    """The texts that the program takes one at a time, with the number of lines before each."""
-    if len(data) <= MOST_BYTES and data.count(b"\nexperiment ") < MAX_EXPERIMENTS:
+    """Yields the parts that the program accepts one at a time, with the number of lines before each."""
+    if len(data) <= MOST_BYTES and data.count(b"\nexperiment ") < MOST_EXPERIMENTS:
         yield 0, data
         return
     for one in texts_of(experiments_in([data])):
@@ -158,4 +158,4 @@ def _run_one(runner: _Runner, text: bytes, before: int, out: BinaryIO) -> None:
             said = f"line {int(number) + before}:{cause}" if number.isdigit() else said
         elif status == 1:
             said = runner.explained(text) or said
-        raise Failed(status, said)
+        raise ProgramError(status, said)

@@ -1,4 +1,4 @@
-"""Sweeps: a template, a grid of settings and seeds; each experiment is made, run and read, and groups get intervals."""
+"""Sweeps: a template with a grid of settings and seeds. Each experiment is rendered, run and read, and groups get intervals."""
 import re
 import shlex
 from functools import cached_property
@@ -11,9 +11,9 @@ from dnlab.analysis.own import Own
 from dnlab.analysis.spans import Span, span_of
 from dnlab.analysis.stats import USUAL, Ask, merged, stats_given
 from dnlab.analysis.work import cores
-from dnlab.errors import Failed, Faulty
+from dnlab.errors import InputError, ProgramError
 from dnlab.io.scenario import read
-from dnlab.io.scenario_parts import MOST_BYTES, MAX_EXPERIMENTS, Plan
+from dnlab.io.scenario_parts import MOST_BYTES, MOST_EXPERIMENTS, Plan
 from dnlab.io.splitting import lines_in, names_of
 from dnlab.plot import names
 from dnlab.processes import ending
@@ -30,28 +30,27 @@ from dnlab.sweeps.swept import Swept
 from dnlab.sweeps.templates import Template
 from dnlab.sweeps.values import shown, why_taken
 
-# An experiment's name hangs on the order of --set, and its answers don't.
+# An experiment's name depends on the order of --set, but its results don't.
 _HEADING = re.compile(r"^( *experiment +)\S+", re.MULTILINE)
 _LOSS = re.compile(rb" plr +(?!0(\.0*)?( |$))", re.MULTILINE)
 
 
 class Sweep(Swept):
-    """The experiments of a template, `cases` in order; they are run when their rows or the table are asked for.
+    """The experiments of a template, `cases` in order; they run when their rows or the table are requested.
 
     template  the path of the template, or its text
-    grid      of each setting its values
-    seeds     each setting is run with each of them
-    asks      of whom and which figures; without any those of flows and trains
-    kept      the file in which answers are kept, by the checksums of text and program; else they last as long as this
-    workers   how many processes; all cores if it isn't given
-    on        other machines: `slurm`, `dask:ADDRESS` of a scheduler, or as `dnlab-spread --ssh` has them; `there` is the
-              program's path on them, `parts` in how many parts they are given, else each takes about a minute
-    dnlab     the program; else see `dnlab.programs.program`
-    anew      whether all are run, whatever is kept
-    allow     which of `refused` and `spent` don't stop it: an experiment with a command that was refused, or whose steps
-              were spent before its end, raises `Faulty` if it isn't allowed
-    span      the part of each experiment's time that is summed up, as without a warm-up
-    """
+    grid      the values of each setting
+    seeds     the seeds to run each setting with
+    asks      senders and their statistics; by default those of flows and trains
+    kept      the file that caches results, by the checksums of scenario and program; by default in memory
+    workers   the number of processes; by default all cores
+    on        other machines: `slurm`, `dask:ADDRESS` of a scheduler, or the form of `dnlab-spread --ssh`; `there` is the
+              program's path on them, `parts` the number of parts, by default of about a minute each
+    dnlab     the program; by default that of `dnlab.programs.program`
+    anew      whether to run all experiments again, whatever is cached
+    allow     which of `refused` and `spent` don't stop it: an experiment with a refused command, or whose steps are spent
+              before its end, raises `InputError` unless it is allowed
+    span      the time range of each experiment to measure, as without a warm-up"""
 
     def __init__(self, template: Union[str, Path], grid: Mapping[str, Sequence[Any]], seeds: Iterable[int] = (1,),
                  asks: Sequence[Ask] = (), kept: Union[str, Path, None] = None, workers: Optional[int] = None,
@@ -61,9 +60,9 @@ class Sweep(Swept):
         for name in grid:
             taken = why_taken(name)
             if taken is not None:
-                raise Faulty(taken)
+                raise InputError(taken)
             if name not in self.template.names:
-                raise Faulty(f"{self.template.name}: {name} is set, and there is no {{{{ {name} }}}} in it")
+                raise InputError(f"{self.template.name}: {name} is set, but there is no {{{{ {name} }}}} in it")
         self.settings = list(grid)
         self.cases = cases_of(grid, seeds)
         self.asks = merged(asks)
@@ -76,29 +75,29 @@ class Sweep(Swept):
         self.kept = Kept(kept)
         self.anew = anew
         self.found: dict[str, Found] = {}
-        # How many experiments were run, and not found among what was kept.
+        # The number of experiments that were run, not found in the cache.
         self.ran = 0
 
     def setting_labels(self) -> dict[str, str]:
         return names.of_template(self.template.text, self.settings)
 
     def text(self, case: Case) -> str:
-        """The text of an experiment; one that isn't just this experiment is refused."""
+        """Returns the text of an experiment. Raises `InputError` unless it has exactly this experiment."""
         text = self._maker.made(case.name, case.seed, case.settings, case.told())
         found = names_of(text.encode())
         if found != [case.name]:
             has = f"it has {', '.join(found)}" if found else "it has none"
-            raise Faulty(f"{self.template.name}: {case.told()}: its text must have this one experiment, and {has}: let it"
-                         " begin with `experiment {{ name }} seed {{ seed }} budget 1000`")
+            raise InputError(f"{self.template.name}: {case.told()}: its text must have exactly this experiment, but {has}: it must"
+                         " start with `experiment {{ name }} seed {{ seed }} budget 1000`")
         return text
 
-    def _faulty(self, case: Case, said: str) -> Faulty:
+    def _faulty(self, case: Case, said: str) -> InputError:
         words = [f"--set {shlex.quote(f'{name}={shown(value)}')}" for name, value in case.settings.items()]
         seen = " ".join([*words, f"--seeds {case.seed} --dry-run"])
-        return Faulty(f"{self.template.name}: {case.told()}: a fault in the text that was made ({seen} shows it)\n{said}")
+        return InputError(f"{self.template.name}: {case.told()}: a fault in the rendered scenario ({seen} shows it)\n{said}")
 
     def check_texts(self, cases: Sequence[tuple[Case, str]], program: str) -> None:
-        """Has the program judge some texts, of one experiment each; the first fault is raised as `--explain` has it."""
+        """Has the program check scenarios of one experiment each. Raises the first fault, as `--explain` shows it."""
         joined = "".join(text for _, text in cases).encode()
         if len(joined) <= MOST_BYTES and judged(program, joined) is None:
             return
@@ -108,7 +107,7 @@ class Sweep(Swept):
                 raise self._faulty(case, said)
 
     def _asked(self, program: str) -> None:
-        """Judges what is asked by the first texts of the settings, or chooses what is usual."""
+        """Checks the requested statistics against the first scenarios of the settings, or chooses the default ones."""
         plans: list[Plan] = []
         firsts = list({tuple(map(str, case.settings.values())): case for case in reversed(self.cases)}.values())[::-1]
         if not self.asks:
@@ -120,13 +119,13 @@ class Sweep(Swept):
             if self.asks:
                 try:
                     return check(self.asks, names_in(plans))
-                except Faulty:
+                except InputError:
                     if place + 1 == len(firsts):
                         raise
         self.asks = usual(names_in(plans))
 
     def prepare(self) -> list[Waiting]:
-        """Makes and judges all texts; takes what is kept, and gives what must be run."""
+        """Renders and checks all scenarios, takes cached results, and returns the experiments to run."""
         program = program_of(self._named)
         self._asked(program)
         own = program_checksum(program)
@@ -142,7 +141,7 @@ class Sweep(Swept):
             if found is not None:
                 self.found[case.name] = found
                 continue
-            if len(texts) == MAX_EXPERIMENTS or size + len(text) > MOST_BYTES:
+            if len(texts) == MOST_EXPERIMENTS or size + len(text) > MOST_BYTES:
                 self.check_texts(texts, program)
                 texts, size = [], 0
             texts.append((case, text))
@@ -152,7 +151,7 @@ class Sweep(Swept):
         return waiting
 
     def run(self) -> None:
-        """Runs what isn't known yet; each answer is kept as it comes."""
+        """Runs the experiments without a result, and stores each result as it arrives."""
         if len(self.found) == len(self.cases):
             return
         try:
@@ -177,7 +176,7 @@ class Sweep(Swept):
                     self._judge(one.case)
 
     def _keepable(self, found: Found) -> Found:
-        """What is kept: not what functions of one's own answered, since what they do may change."""
+        """Returns the part of a result to store: not those of your own functions, which may change."""
         own = {str(stat) for ask in self.asks for stat in ask.stats if isinstance(stat, Own)}
         return found if not own else found._replace(values={
             of: {stat: values for stat, values in stats.items() if stat not in own} for of, stats in found.values.items()})
@@ -190,15 +189,15 @@ class Sweep(Swept):
         return elsewhere.answers(self, waiting, program)
 
     def _judge(self, case: Case) -> None:
-        """Refuses an experiment that wasn't run as its text has it, unless that is allowed."""
+        """Raises `InputError` for an experiment that did not run as written, unless that is allowed."""
         for note in self.found[case.name].notes if case.name in self.found else []:
             if note.mark in STOPPING and note.mark not in self.allow:
-                raise Faulty(f"{self.template.name}: {case.told()}: {note.text} (--allow {note.mark} goes on)")
+                raise InputError(f"{self.template.name}: {case.told()}: {note.text} (--allow {note.mark} continues)")
 
     def here(self, waiting: Sequence[Waiting], program: str) -> Iterator[Answered]:
-        """Runs and reads by processes of this machine; what is done first comes first. If some fail the others are run,
-        and the first failure is raised at the end; one that a signal ended ends all."""
-        failures: list[Failed] = []
+        """Runs and reads experiments in processes of this machine, and yields results as they arrive. If some fail, the others are run, and
+        the first failure is raised at the end; one that a signal ended ends all."""
+        failures: list[ProgramError] = []
         with Crew[tuple[Waiting, ...]](min(self.workers, max(len(waiting), 1))) as crew:
             def begin(batch: Sequence[Waiting]) -> None:
                 self.give(crew, batch, program)
@@ -212,25 +211,25 @@ class Sweep(Swept):
         raise_first(failures)
 
     def give(self, crew: "Crew[tuple[Waiting, ...]]", batch: Sequence[Waiting], program: str) -> None:
-        """Has a process run some experiments and read their report."""
+        """Submits experiments to a process, which runs them and reads their report."""
         crew.give(tuple(batch), measured, [self.text(one.case) for one in batch], self.asks, program, self.span)
 
-    def _taken(self, crew: Crew[tuple[Waiting, ...]], begin: Any, failures: list[Failed]) -> Iterator[Answered]:
-        """What the next job gives. Experiments of a text that failed are begun anew one by one: so it is told which of
-        them it was, and where memory was short less is wanted at once."""
+    def _taken(self, crew: Crew[tuple[Waiting, ...]], begin: Any, failures: list[ProgramError]) -> Iterator[Answered]:
+        """Yields the results of the next job. The experiments of a failed scenario are run again one by one, which shows which of them failed,
+        and needs less memory at once."""
         outcome = crew.next()
         batch = list(outcome.token)
-        if not isinstance(outcome.fault, Failed) or isinstance(outcome.fault, Killed):
+        if not isinstance(outcome.fault, ProgramError) or isinstance(outcome.fault, Killed):
             yield batch, answer_of(outcome)
         elif len(batch) == 1:
-            failures.append(Failed(outcome.fault.status, f"{batch[0].case.told()}: {outcome.fault.said}"))
+            failures.append(ProgramError(outcome.fault.status, f"{batch[0].case.told()}: {outcome.fault.said}"))
         else:
             for one in batch:
                 begin([one])
 
     @cached_property
     def unseeded(self) -> frozenset[str]:
-        """The experiments of settings whose seeds change nothing: the texts are the same, and no pipe loses by a `plr`."""
+        """Returns the experiments of settings whose seeds change nothing: the scenarios are equal, and no pipe has a `plr`."""
         by_setting: dict[tuple[str, ...], list[Case]] = {}
         for case in self.cases:
             by_setting.setdefault(tuple(map(str, case.settings.values())), []).append(case)
@@ -242,14 +241,14 @@ class Sweep(Swept):
         return frozenset(found)
 
     def changeless(self) -> Optional[str]:
-        """The warning if seeds change nothing, so that their runs are one."""
+        """Returns the warning if seeds change nothing, so that their runs count as one."""
         if not self.unseeded:
             return None
         of = "" if len(self.unseeded) == len(self.cases) else f"of {len(self.unseeded)} experiments "
-        return f"{of}the seeds change nothing: the template draws nothing by rng, and no pipe loses by a plr; so n is 1"
+        return f"{of}the seeds change nothing: the template does not use rng, and no pipe has a plr; so n is 1"
 
     def notes(self) -> list[tuple[str, Note]]:
-        """What may be silently wrong in experiments that were run, with their names."""
+        """Returns the warnings of experiments that were run, with their names."""
         return [(case.name, note) for case in self.cases if case.name in self.found
                 for note in self.found[case.name].notes]
 
@@ -265,24 +264,23 @@ def sweep(template: Union[str, Path], *, seed: Union[int, Iterable[int]] = 1, of
           end: Optional[int] = None, **grid: Any) -> Sweep:
     """Runs a template with each setting and each seed: `dnlab.sweep("link.tmpl", queue=[10, 50], seed=range(30)).table()`.
 
-    template  the path of a template in Jinja2, or its text (a str of several lines)
-    seed      one or several; `settings` has settings that are called as a word here is
-    of, stat  whom and what to ask: `of="train 9", stat=["delay.p95", "lost"]`, or of={"train 9": ["delay.p95"], ..}
-    begin, end  only what happened from the moment `begin` on and before `end` (ns), so that a warm-up is left out
+    template  the path of a Jinja2 template, or its text (a str of several lines)
+    seed      one or several; `settings` has settings whose names are parameters here
+    of, stat  senders and statistics: `of="train 9", stat=["delay.p95", "lost"]`, or of={"train 9": ["delay.p95"], ..}
+    begin, end  ignore what happened before `begin` and from `end` on (ns), to leave out a warm-up
     kept, workers, on, dnlab, allow   see `Sweep`
 
-    A stat may be a function of one's own: it is given the run, a `dnlab.Experiment`, or the run and of whom it is asked, and
-    gives a number. What it answers isn't kept.
+    A setting is a value or a list of values. A statistic may be your own function: it takes the run, a `dnlab.Experiment`, and
+    optionally the sender's name, and returns a number. Its results are not cached.
 
-    A setting is a value or a list of them. Faults of the template, and of a text that was made of it, raise `Faulty`.
-    """
+    Raises `InputError` for faults in the template and in a scenario that was rendered from it."""
     every = {name: [value] if isinstance(value, (str, int, float)) else list(value)
              for name, value in {**settings, **grid}.items()}
     asked = of if isinstance(of, Mapping) else {} if of is None else {
         one: stat for one in ([of] if isinstance(of, str) else of)}
     if of is None and stat is not USUAL:
         if not all(callable(one) for one in (stat if isinstance(stat, (list, tuple)) else [stat])):
-            raise Faulty("stat without of: say of whom, as of='train 9' (a function alone is asked of the whole run)")
+            raise InputError("stat needs of, a sender, as of='train 9' (a function alone applies to the whole run)")
         asked = {"all": stat}
     asks = [Ask(one, stats_given(stats)) for one, stats in asked.items()]
     return Sweep(template, every, [seed] if isinstance(seed, int) else seed, asks, kept, workers, on, dnlab=dnlab,

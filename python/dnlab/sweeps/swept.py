@@ -1,4 +1,4 @@
-"""The tables and the picture of a sweep, by what its experiments answered."""
+"""The tables and the picture of a sweep."""
 import re
 from functools import cached_property
 from typing import Any, Optional, Sequence
@@ -15,7 +15,7 @@ from dnlab.sweeps.values import shown
 
 
 class Swept:
-    """The tables of a sweep, which runs when the first is asked for."""
+    """The tables of a sweep, which runs when the first one is requested."""
     cases: list[Case]
     asks: Sequence[Ask]
     settings: list[str]
@@ -23,16 +23,16 @@ class Swept:
 
     @cached_property
     def unseeded(self) -> frozenset[str]:
-        """The experiments whose seeds change nothing: several of a setting are one."""
+        """Returns the experiments whose seeds change nothing: several with one setting count as one."""
         return frozenset()
 
     def run(self) -> None:
-        """Has all experiments answer."""
+        """Runs all experiments."""
         raise NotImplementedError
 
     def rows(self) -> pd.DataFrame:
-        """A row for each experiment and each of whom was asked: its settings, seed, experiment, sender, a column for each
-        stat (times in ns, rates in bit/s, sizes in bytes; <NA> where it can't be told or wasn't asked), warnings."""
+        """Returns a row for each experiment and sender: its settings, seed, experiment, sender, a column for each statistic (times in ns, rates
+        in bit/s, sizes in bytes; <NA> if unknown or not requested), warnings."""
         self.run()
         stats = self.stats()
         is_text = {name: not all(isinstance(case.settings[name], (int, float)) for case in self.cases)
@@ -44,7 +44,7 @@ class Swept:
             found = self.found[case.name]
             own: dict[str, dict[str, Any]] = {}
             for ask in self.asks:
-                # Who sent nothing in this experiment has a row without figures, so that no setting is left out.
+                # A sender without packets in this experiment has a row without values, so that no setting is left out.
                 nobody = {} if re.search(r"[*?[]", ask.of) else {ask.of: None}
                 for stat in ask.stats:
                     for of, value in {**nobody, **found.values[ask.of][stat]}.items():
@@ -55,24 +55,26 @@ class Swept:
         return frames.of_rows(rows, [*self.settings, "seed", "experiment", "sender", *stats, "warnings"])
 
     def stats(self) -> list[str]:
-        """All stats that are asked, each once."""
+        """Returns all requested statistics, each once."""
         return list(dict.fromkeys(stat for ask in self.asks for stat in ask.stats))
 
     def long(self) -> pd.DataFrame:
-        """The same in long form: a row for each experiment, sender and stat, with its `unit` and `value`."""
+        """Returns `rows` in long form: a row for each experiment, sender and statistic, with its `unit` and `value`."""
         rows = self.rows()
         return over_seeds.long_of(rows, self.settings, self.stats())
 
     def compare(self, along: str, base: Any = None, level: float = 95, interval: Kind = "t") -> pd.DataFrame:
-        """The values of a setting beside one of them, seed by seed (see `dnlab.analysis.seeds.compared`)."""
+        """Compares the values of a setting with one of them, seed by seed (see `dnlab.analysis.seeds.compared`)."""
         rows = self.rows()
         return over_seeds.compared(rows, self.settings, self.stats(), along, base, level, interval)
 
     def table(self, level: float = 95, interval: Kind = "t", within: Optional[float] = None) -> pd.DataFrame:
-        """A row for each setting, sender and stat: over the seeds n (how many have a value), mean, low and high (the ends of
-        its interval, Student's t or the bootstrap), min and max, in `unit`; the interval's level and method; and the warnings
-        of its experiments (see `view.Note`). With `within`, a share of the mean as 0.05, `needed` is how many seeds have an
-        interval of at most so much to both sides (see `dnlab.analysis.seeds.needed`)."""
+        """Returns a row for each setting, sender and statistic.
+
+        Over the seeds it has n (how many have a value), mean, low and high (the ends of its confidence interval, Student's t or the
+        bootstrap), min and max, in `unit`; the interval's level and method; and the warnings of its experiments. With `within`, a share
+        of the mean such as 0.05, `needed` is the number of seeds for an interval of at most that share to both sides (see
+        `dnlab.analysis.seeds.needed`)."""
         rows = self.rows()
         found: list[dict[str, Any]] = []
         by = [*self.settings, "sender"]
@@ -91,16 +93,16 @@ class Swept:
                                       "max", "level", "method", "warnings", *(["needed"] if within is not None else [])])
 
     def _stats_of(self, of: str) -> list[str]:
-        """The stats that were asked of somebody, in the order in which they were."""
+        """Returns the statistics that were requested for a sender, in order."""
         return list(dict.fromkeys(stat for ask in self.asks if is_named(of, ask.of) for stat in ask.stats))
 
     def setting_labels(self) -> dict[str, str]:
-        """The settings in words with their units, as far as they are known."""
+        """Returns labels of the settings with their units, as far as known."""
         return {}
 
     def plot(self, level: float = 95, interval: Kind = "t", **look: Any) -> Any:
-        """A matplotlib figure: a panel for each sender and statistic, over the first setting that has several values. `along`,
-        `rows`, `columns`, `log`, `kind` and `labels`, and the design of the picture, are those of `dnlab.plot.looks.Look`."""
+        """Returns a matplotlib figure: a panel for each sender and statistic, over the first setting that has several values. `along`, `rows`,
+        `columns`, `log`, `kind` and `labels`, and the design of the picture, are those of `dnlab.plot.looks.Look`."""
         from dnlab.plot import curves, looks
 
         look["labels"] = {**self.setting_labels(), **look.get("labels", {})}

@@ -1,4 +1,4 @@
-"""Templates of scenarios, in Jinja2 (Debian: python3-jinja2): a text in which settings, the seed and chance stand open."""
+"""Templates of scenarios in Jinja2 (Debian: python3-jinja2), with placeholders for settings, the seed and random numbers."""
 import itertools
 import math
 import os
@@ -13,17 +13,17 @@ import jinja2.meta
 import jinja2.sandbox
 
 from dnlab.chance import Chance
-from dnlab.errors import Faulty
+from dnlab.errors import InputError
 from dnlab.io.scenario_parts import MOST_BYTES
 from dnlab.sweeps.traffic import Traffic
 from dnlab.sweeps.values import GIVEN, shown, why_taken
 
 _TEXT = "<template>"
-# A loop over more numbers would make a text that no program takes.
+# A loop over more numbers would make a text that no program accepts.
 _MOST_NUMBERS = 10**6
-# So many pieces of a text are joined before its length is looked at.
+# The length is checked each time this many pieces of a text are joined.
 _TOGETHER = 1000
-# So many bytes may a whole number have.
+# The maximum size of an integer, in bytes.
 _MOST_DIGITS = 1 << 10
 
 
@@ -33,31 +33,31 @@ def _shown(_: Any, value: Any) -> Any:
 
 
 def nanoseconds(unit: int) -> Callable[[Any], int]:
-    """The filter of a unit: so many of it in whole nanoseconds.
+    """Returns the filter of a unit, which converts to whole nanoseconds.
 
     >>> nanoseconds(10**6)("0.5")
     500000
     """
     def filtered(value: Any) -> int:
         text = str(shown(value))
-        # An exponent of many digits would be calculated for ever.
+        # A number with a huge exponent would take forever to compute.
         if len(text) > 64 or re.search(r"[eE][-+]?[0-9]{3}", text):
-            raise ValueError(f"{text[:64]!r} is no time")
+            raise ValueError(f"{text[:64]!r} is not a time")
         time = Fraction(text) * unit
         if time.denominator != 1:
-            raise ValueError(f"{value} is no whole number of nanoseconds")
+            raise ValueError(f"{value} is not a whole number of nanoseconds")
         return int(time)
 
     return filtered
 
 
 def _no_chance(*_: Any) -> NoReturn:
-    raise jinja2.TemplateRuntimeError("the filter `random` draws otherwise each time: write rng.choice(..), which hangs on"
+    raise jinja2.TemplateRuntimeError("the filter `random` gives another value each time: use rng.choice(..), which depends on"
                                       " the seed")
 
 
 class _Numbers:
-    """As Python's range: of any length where single numbers are taken, but only so long a one is gone through."""
+    """A range like Python's, of any length for access to single numbers, but limited in length for loops."""
 
     def __init__(self, *ends: int) -> None:
         self._range = range(*ends)
@@ -73,18 +73,18 @@ class _Numbers:
 
     def __iter__(self) -> Iterator[int]:
         if len(self._range) > _MOST_NUMBERS:
-            raise OverflowError(f"{self._range}: it has {len(self._range)} numbers, and a template goes through"
-                                f" {_MOST_NUMBERS} at most")
+            raise OverflowError(f"{self._range}: it has {len(self._range)} numbers, but a template may loop over"
+                                f" at most {_MOST_NUMBERS}")
         return iter(self._range)
 
 
 class _Sandbox(jinja2.sandbox.SandboxedEnvironment):
-    """Keeps a template from all but what is given to it, and from results that no scenario has room for."""
+    """Restricts a template to what it is given, and to results that fit into a scenario."""
 
     intercepted_binops = frozenset(("*", "**", "+", "%"))
 
     def call_binop(self, context: jinja2.runtime.Context, operator: str, left: Any, right: Any) -> Any:
-        """Calculates where the result, by its operands, has at most as many bytes as a scenario."""
+        """Computes an operation unless its result, judged by the operands, would have more bytes than a scenario."""
         size = most = MOST_BYTES
         if isinstance(left, int) and isinstance(right, int):
             bits = left.bit_length() * abs(right) if operator == "**" else left.bit_length() + right.bit_length()
@@ -101,17 +101,17 @@ class _Sandbox(jinja2.sandbox.SandboxedEnvironment):
 
 
 class TooLong(jinja2.TemplateRuntimeError):
-    """The time for a text is over; a signal raises it where the template is."""
+    """The time for a text is over; a signal handler raises it in the template."""
 
 
 class _Loader(jinja2.FileSystemLoader):
-    """Templates of a folder, but no hidden file and no link out of it; keeps which files were read, so that their lines
-    are known in a traceback."""
+    """Loads templates from a folder, but no hidden files and no links out of it; remembers which files were read, to find their lines in
+    tracebacks."""
 
     def __init__(self, folder: Path, own: str) -> None:
         super().__init__(folder)
         self.folder = os.path.realpath(folder)
-        # The template itself is read by whatever name it was given.
+        # The template itself is read by whatever name it has.
         self.own = own
         self.files: set[str] = {_TEXT}
 
@@ -119,7 +119,7 @@ class _Loader(jinja2.FileSystemLoader):
                    template: str) -> tuple[str, str, Callable[[], bool]]:
         if template != self.own:
             if any(part.startswith(".") and part not in (".", "..") for part in template.split("/")):
-                raise jinja2.TemplateRuntimeError(f"{template}: a hidden file isn't included")
+                raise jinja2.TemplateRuntimeError(f"{template}: a hidden file can't be included")
             real = os.path.realpath(os.path.join(self.folder, template))
             if not real.startswith(self.folder + os.sep):
                 raise jinja2.TemplateRuntimeError(f"{template}: it is outside the template's folder")
@@ -131,8 +131,8 @@ class _Loader(jinja2.FileSystemLoader):
 class Template:
     """A template: the path of its file, or its text (a str of more than one line).
 
-    Names that nobody sets are errors. It may include and import others of its folder. `Faulty` says the file, the line
-    and the cause."""
+    Undefined names are errors. It may include and import other templates of its folder. Raises `InputError` with the file, the line and
+    the cause."""
 
     def __init__(self, source: Union[str, Path]) -> None:
         is_text = isinstance(source, str) and "\n" in source
@@ -143,8 +143,8 @@ class Template:
         self._loader = _Loader(folder, "" if self.path is None else self.path.name)
         self._environment = _Sandbox(
             loader=self._loader, undefined=jinja2.StrictUndefined, keep_trailing_newline=True,
-            # Nothing is calculated before a text is made, which has its limits (`making`): so nothing is optimized, and
-            # what is printed takes the context, which isn't there before.
+            # Rendering has limits (`making`), compiling has none: so the compiler must not evaluate constants. It doesn't if
+            # output depends on the context.
             optimized=False, finalize=_shown)
         self._environment.filters.update(s=nanoseconds(10**9), ms=nanoseconds(10**6), us=nanoseconds(10**3),
                                          random=_no_chance)
@@ -156,20 +156,20 @@ class Template:
                               else self._environment.get_template(self.path.name))
             self.names = self._names(self.text, set())
         except jinja2.TemplateError as fault:
-            raise Faulty(self._told(fault)) from None
+            raise InputError(self._told(fault)) from None
         except OSError as fault:
-            raise Faulty(f"{self.name}: {fault.strerror}") from None
+            raise InputError(f"{self.name}: {fault.strerror}") from None
         except UnicodeDecodeError as fault:
-            raise Faulty(f"{self.name}: it is no text: byte {fault.start} is none of UTF-8") from None
+            raise InputError(f"{self.name}: it is not UTF-8 text: byte {fault.start} is invalid") from None
 
     def __reduce__(self) -> "tuple[type[Template], tuple[Union[str, Path]]]":
-        """What is compiled is made anew in another process."""
+        """Makes pickling recompile the template in the other process."""
         return Template, (self._source,)
 
     def _names(self, text: str, seen: set[str]) -> set[str]:
-        """The names that a template takes from outside, those of what it includes too."""
+        """Returns the names that a template uses from outside, including those of what it includes."""
         parsed = self._environment.parse(text)
-        # As jinja2.meta.find_undeclared_variables, which would calculate what is constant.
+        # Like jinja2.meta.find_undeclared_variables, which would evaluate constants.
         finder: Any = jinja2.meta.TrackingCodeGenerator(self._environment)
         finder.optimizer = None
         finder.visit(parsed)
@@ -180,13 +180,14 @@ class Template:
                 try:
                     found |= self._names(self._loader.get_source(self._environment, name)[0], seen)
                 except jinja2.TemplateNotFound:
-                    continue  # Where it is wanted the rendering says so, with the line.
+                    continue  # Rendering reports a missing file with its line.
                 except jinja2.TemplateRuntimeError:
                     continue
         return found
 
     def made(self, name: str, seed: int, settings: Mapping[str, Any]) -> str:
-        """The text of an experiment; its last line is ended. `Faulty` where it is longer than a scenario may be."""
+        """Returns the text of an experiment, which ends with a line feed. Raises `InputError` if it is longer than a scenario may
+        be."""
         parts, size = [], 0
         try:
             rng = Chance(seed)
@@ -196,16 +197,16 @@ class Template:
                 parts.append("".join(batch))
                 size += len(parts[-1])
                 if size > MOST_BYTES:
-                    raise Faulty(f"{self.name}: the text of {name} has more than {MOST_BYTES} bytes, which no scenario has")
-        except Faulty:
+                    raise InputError(f"{self.name}: the text of {name} has more than {MOST_BYTES} bytes, the maximum of a scenario")
+        except InputError:
             raise
-        except Exception as fault:  # A template calculates, so anything may go wrong in it.
-            raise Faulty(self._told(fault)) from None
+        except Exception as fault:  # A template computes, so any exception may occur in it.
+            raise InputError(self._told(fault)) from None
         text = "".join(parts)
         return text if text.endswith("\n") else text + "\n"
 
     def _told(self, fault: Exception) -> str:
-        """A fault with its file and line."""
+        """Returns a fault with its file and line."""
         if isinstance(fault, jinja2.TemplateSyntaxError):
             return f"{fault.filename or self.name}: line {fault.lineno}: {fault.message}"
         file, line = self._place(fault.__traceback__)
@@ -215,13 +216,13 @@ class Template:
         elif isinstance(fault, jinja2.UndefinedError):
             undefined = re.match(r"'(\w+)' is undefined", cause)
             taken = why_taken(undefined[1]) if undefined else None
-            cause += f" ({taken})" if taken else f" (settings are given by --set, and every template has {', '.join(GIVEN)})"
+            cause += f" ({taken})" if taken else f" (--set defines settings, and every template has {', '.join(GIVEN)})"
         elif not isinstance(fault, jinja2.TemplateError):
             cause = f"{type(fault).__name__}: {cause}"
         return f"{file}: line {line}: {cause}" if line else f"{file}: {cause}"
 
     def _place(self, trace: Optional[TracebackType]) -> tuple[str, Optional[int]]:
-        """The last line of a template that a traceback has; Jinja2 writes its lines into it."""
+        """Returns the last line of a template in a traceback; Jinja2 puts its lines there."""
         place: tuple[str, Optional[int]] = self.name, None
         while trace is not None:
             file = trace.tb_frame.f_code.co_filename

@@ -1,24 +1,24 @@
-"""Settings of templates: which names they can have, and how their values are read and written."""
+"""Settings of templates: their names, and how their values are read and written."""
 import re
 from decimal import Decimal
 from typing import Any, Optional, Union
 
 Value = Union[int, float, str]
-# What a template is given besides the settings.
+# Names that every template has besides the settings.
 GIVEN = ("name", "seed", "rng", "traffic")
-# The columns of the tables, besides those of the settings.
+# The columns of the tables besides those of the settings.
 COLUMNS = ("experiment", "sender", "stat", "unit", "n", "mean", "low", "high", "min", "max", "level", "method", "warnings",
            "needed", "base", "value", "differs")
 
 
 def why_taken(name: str) -> Optional[str]:
-    """Why no setting can be called so, and what to call it; None where it can.
+    """Returns why a setting can't have this name, and what to call it; None if it can.
 
     >>> why_taken("n"), why_taken("queue")
     ('no setting can be called n: the tables have a column of this name: call it n_ here and in the template', None)
     """
     if name == "seed":
-        why = "--seeds gives them"
+        why = "--seeds sets them"
     elif name in GIVEN:
         why = f"every template is given one: call it {name}_ here and in the template"
     elif name in COLUMNS:
@@ -52,7 +52,7 @@ class Written(float):
 
 
 def value_of(text: str) -> Value:
-    """A word as a number where it is one, so that a template can calculate with it.
+    """Returns a value as a number if it is one, so that a template can calculate with it.
 
     >>> value_of("10"), value_of("010"), value_of("10Mbit/s")
     (10, '010', '10Mbit/s')
@@ -63,7 +63,7 @@ def value_of(text: str) -> Value:
 
 
 def shown(value: Any) -> Any:
-    """A value as it stands in a scenario: a float without an exponent, a whole one without its point.
+    """Returns a value as written in a scenario: floats without an exponent, and without the point if they are whole.
 
     >>> shown(2.0), shown(1e-06), shown("x")
     (2, '0.000001', 'x')
