@@ -267,7 +267,7 @@ static uint64_t least(uint64_t a, uint64_t b)
 	return a < b ? a : b;
 }
 
-/* Returns the number of ready files: at once if there are some, and else after so many ns. */
+/* Returns the number of ready files: at once if there are some, and else after this many ns. */
 static int wait_for_files(int epoll, struct epoll_event *events, uint64_t ns)
 {
 	struct timespec wait = {(time_t)(ns / SECOND), (long)(ns % SECOND)};

@@ -23,11 +23,11 @@ sys.path.insert(0, str(HERE.parents[1] / "python"))
 
 import dnlab  # noqa: E402  (the path is set first)
 from dnlab.processes import ending  # noqa: E402
-from dnlab.errors import status_of  # noqa: E402
+from dnlab.errors import status_of# noqa: E402
 from dnlab.hosts import Loop  # noqa: E402
 from dnlab.senders import Timeout  # noqa: E402
 from dnlab.senders.cubic import Cubic  # noqa: E402
-from dnlab.session.events import Address, Event  # noqa: E402
+from dnlab.session.events import Address, Event# noqa: E402
 
 MS, S = 10**6, 10**9
 SENDER, RECEIVER = ("10.0.0.9", 1000), ("10.0.1.9", 80)
@@ -137,7 +137,7 @@ def transfer(link: dnlab.Link, packets: int) -> Sender:
     while sender.done_at is None and not link.is_over and loop.now < LAST:
         loop.run(min(loop.now + S // 10, LAST))
     if sender.done_at is None:
-        raise dnlab.Faulty("the transfer didn't end: the experiment's steps are spent, or 600 s of the link's time are over")
+        raise dnlab.InputError("the transfer didn't end: the experiment's steps are spent, or 600 s of the link's time are over")
     assert len(receiver.numbers) == packets
     return sender
 
@@ -180,7 +180,7 @@ def main() -> int:
     ending.watch("own_sender")
     try:
         run(words)
-    except (dnlab.Faulty, dnlab.Failed, dnlab.Over, OSError) as fault:
+    except (dnlab.InputError, dnlab.ProgramError, dnlab.ExperimentEndedError, OSError) as fault:
         print(f"own_sender: {fault}", file=sys.stderr)
         return status_of(fault)
     return 0

@@ -3,7 +3,7 @@ FLOW = "@0 flow {} 10.0.0.1 {} 10.0.0.2 80 smss 1460 segments {} ssthresh 65535 
 
 
 def flows(name: str, rate: str, count: int, segments: int, end: int) -> str:
-    """An experiment of so many flows there and back, each of so many segments."""
+    """Returns an experiment with `count` flows there and back, each of `segments` segments."""
     lines = [f"experiment {name} seed 1 budget 65535 steps 10000000",
              f"@0 pipe 1 config bw {rate} delay 10 queue 1000 codel target 5ms interval 100ms",
              "@0 pipe 2 config delay 10 queue 1000", "@0 add 100 pipe 1 tcp from 10.0.0.1 to 10.0.0.2",

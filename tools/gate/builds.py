@@ -22,7 +22,7 @@ def key_of(root: pathlib.Path, names: Sequence[str], version: Optional[str], mak
 
 
 def forget(room: pathlib.Path, beside: pathlib.Path, kept: int) -> None:
-    """Takes away the builds that were used longest ago, but for so many and one, and what a killed call left."""
+    """Removes the least recently used builds, except for a few and one more, and what a killed call left."""
     for it in room.glob("making-*"):
         rt_ci.remove(it)
     found = sorted((it for it in room.iterdir() if it.is_dir() and it != beside), key=lambda it: -it.stat().st_mtime)

@@ -75,14 +75,14 @@ BY_PROGRAM = (
 PACKAGING = "command -v dh && /usr/bin/python3 -c 'import build, wheel'"
 RELEASE = tried("tools/gate/check_release", "what tools/release makes", 60, needs=PACKAGING)
 PACKAGES = tried("tools/gate/check_packages", "the Debian packages in clean roots", 120, needs=f"{PACKAGING} && command -v mmdebstrap")
-SCRIPT = Piece("tools/gate/check_dnlab", "the script ./dnlab, beside a kit that only says what it is told to say", ("tools/gate/check_dnlab",), 16)
+SCRIPT = Piece("tools/gate/check_dnlab", "the script ./dnlab, with a kit that only prints what the test chooses", ("tools/gate/check_dnlab",), 16)
 WORKED = "the worked examples of examples/, alone and by many workers"
 # Each number of workers and of moves that the worked examples are run by.
 WAYS = tuple(word for workers in (1, 2, 4, 16) for moves in (0, 1, 64) for word in ("--run", f"{workers}:{moves}"))
 
 
 def drawn(minutes: int) -> Piece:
-    """Scenarios drawn for at most so many minutes."""
+    """Returns random scenarios for at most `minutes` minutes."""
     about = "drawn scenarios beside a second dnlab that was written from the pages of docs/"
     return tried("tools/second/differ", about, 13, "100", "1", "--minutes", str(minutes))
 

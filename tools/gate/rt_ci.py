@@ -1,4 +1,4 @@
-"""Runs `rt ci`, the kit's own gate, over a copy of some crates, and tells how far it is.
+"""Runs `rt ci`, the kit's own gate, over a copy of some crates, and shows its progress.
 
 rt ci works on a whole repository, and sets aside what stands in its folders out/. So it gets one of its own, that has the sources as they stood at
 the beginning. What it proves it keeps in the kit's store on this machine, so that the copy can go.
@@ -27,11 +27,11 @@ PROVED = re.compile(r"rt: (\w+) (proved$|is kept:)")
 NOT_PROVED = re.compile(r"rt: (\w+)(?:: its tests are)? NOT PROVED")
 # How rt begins its verdict on an edit that is refused only because a proof names what the edit took away. That shows nothing of the contract.
 NAMELESS = "refused, as it must be (only because a proof file names"
-# What is told of it beside the crates that are proved.
+# What is reported besides the crates that are proved.
 TOLD = re.compile(r"rt: (.*(?: NOT PROVED|: trying its must-fail edits| waiting for ).*)")
 # How many lines are shown of what was said of a crate.
 SHOWN = 20
-# Seconds between two tries to take a folder away, and those that rt has for ending when it is told to.
+# Seconds between two tries to take a folder away, and those that rt has to end after a signal.
 PAUSE, PATIENCE = 0.05, 3.0
 
 

@@ -7,11 +7,11 @@ from collections.abc import Iterator
 
 Trial = tuple[str, bool]
 
-# After so many steps of an experiment that runs by itself `--progress` may say a line, and so long (s) after the one before.
+# After this many steps of an experiment that runs alone `--progress` may print a line, and this long (s) after the previous one.
 TOLD, PAUSE = 65536, 0.2
 STEPPED = re.compile(r"dnlab: 1 experiments have ended, (\d+) steps of at most 3500000 of the next")
 TRAIN = "@0 train {} udp 10.0.0.1 1 10.0.0.2 2 100 count {} gap 1000\n"
-# It is offered every so many steps, with 4,000 packets under way in the end.
+# It is offered after every N steps, with 4,000 packets in flight at the end.
 HELD = b"""experiment held seed 0 budget 4096 steps 100000
 @0 pipe 1 config delay 10000
 @0 add 100 pipe 1 udp from any to any
@@ -28,7 +28,7 @@ def error_of(program: str, words: list[str], text: str) -> list[str]:
 
 
 def of_steps(steps: int, most: int) -> str:
-    """An experiment of so many steps: its train's command, the train's packets, and its end."""
+    """An experiment with this many steps: its train's command, the train's packets, and its end."""
     return f"experiment a seed 0 budget 7 steps {most}\n" + TRAIN.format(1, steps - 2) + "@1000000000000 end\n"
 
 

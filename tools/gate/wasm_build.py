@@ -76,11 +76,17 @@ def _layout(work: Work, clang: str, room: pathlib.Path) -> str:
     raise Unknown("the kit's clang says nothing of how data lies on wasm64")
 
 
+def wasm_opt() -> str:
+    """The path of Binaryen's wasm-opt, or `Unknown`."""
+    found = shutil.which("wasm-opt")
+    if found is None:
+        raise Unknown("wasm-opt is missing (Debian: apt-get install binaryen)")
+    return found
+
+
 def module_of(work: Work, kit: pathlib.Path, made: pathlib.Path, source: pathlib.Path, room: pathlib.Path) -> pathlib.Path:
     """The module for a page, made in a room of the library in a folder; `source` has heap.c."""
-    clang, opt = str(kit / "toolchain" / "bin" / "clang"), shutil.which("wasm-opt")
-    if opt is None:
-        raise Unknown("wasm-opt is not there (Debian: binaryen)")
+    clang, opt = str(kit / "toolchain" / "bin" / "clang"), wasm_opt()
     (room / "tmp").mkdir(exist_ok=True)
     words = (made / library_build.WORDS).read_text(encoding="utf-8").splitlines()
     kit_build.run(work, room, [clang, *words, "-S", "-emit-llvm", "-Xclang", "-disable-llvm-passes", str(made / library_build.MODULE), "-o", "native.ll"])
