@@ -19,7 +19,7 @@ class ParseError(Exception):
 
 
 class InputError(Exception):
-    """An input that can't be used: the file, the line if there is one, and the cause."""
+    """An input that can't be used: the file, the line and the cause."""
 
 
 class ResourceError(InputError):
@@ -51,7 +51,7 @@ def cause_of(fault: Exception) -> str:
 
 
 class ProgramError(Exception):
-    """The program `dnlab` ended with a status other than 0. Has `status`, and `said`, its standard error."""
+    """The program failed. Has its `status`, and `said`, its standard error."""
 
     def __init__(self, status: int, said: str) -> None:
         super().__init__(f"dnlab ended with status {status}: {said}")

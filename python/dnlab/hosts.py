@@ -10,10 +10,7 @@ Waiting = Generator[int, list[Event], None]
 
 
 class Loop:
-    """Hosts and timers on a link.
-
-    A host is called for each packet that is delivered to its address, a timer at its time. Packets come before timers of the
-    same time."""
+    """Hosts and timers on a link. Packets come before timers of the same time."""
 
     def __init__(self, link: Link) -> None:
         self.link = link
@@ -31,15 +28,12 @@ class Loop:
         self._hosts[address] = receive
 
     def at(self, moment: int, call: Callable[[], None]) -> None:
-        """Schedules a call at a time (ns), or now if that is past."""
+        """Schedules a call at a time (ns), at once if that is past."""
         self._count += 1
         heapq.heappush(self._timers, (moment, self._count, call))
 
     def run(self, until: int = LATEST, hold: int = 1) -> None:
-        """Advances time to `until` (ns), calling hosts and timers.
-
-        Stops earlier if the experiment ends, or if no timer is left and nothing is due on the link. `hold` is that of
-        `Link.until_mine`."""
+        """Advances time to `until` (ns), calling hosts and timers. Stops earlier if the experiment ends, or nothing is left to do."""
         while not self.link.is_over and self.now < until:
             while self._timers and self._timers[0][0] <= self.now:
                 heapq.heappop(self._timers)[2]()
@@ -70,10 +64,8 @@ class _Player:
 
 
 def play(link: Link, programs: Iterable[Waiting], until: int = LATEST) -> None:
-    """Runs generators until they end, or until time `until` (ns).
-
-    A generator yields the time (ns) until which it waits, and is sent the events of all packets since then. It continues at
-    that time or after the first event, and ends by returning."""
+    """Runs generators until they end, or until time `until` (ns). A generator yields the time (ns) until which it waits. It continues
+    then, or after the first event, and is sent the events of all packets since."""
     players = [_Player(program) for program in programs]
     for player in players:
         player.step(None)

@@ -40,7 +40,7 @@ _REFUSED = ("create_connection", "create_server", "create_unix_connection", "cre
 
 
 class DeadlockError(Exception):
-    """Nothing can happen any more, but tasks still wait. The text lists what each waits for."""
+    """Nothing can happen any more, but tasks still wait: the text lists them."""
 
 
 def _waits(task: "asyncio.Task[Any]") -> str:
@@ -81,7 +81,7 @@ class _Selector:
 
 
 class Loop(asyncio.BaseEventLoop):
-    """The event loop. `link` is the link, `hold` (ns) that of its `until_mine`."""
+    """The event loop of a link."""
 
     def __init__(self, link: Link, hold: int = 1, names: Optional[Mapping[str, str]] = None) -> None:
         super().__init__()
@@ -93,7 +93,7 @@ class Loop(asyncio.BaseEventLoop):
         self._selector = _Selector(self)
 
     def time(self) -> float:
-        """Returns the link's time in seconds; `link.now` is in nanoseconds."""
+        """Returns the link's time in seconds."""
         return self.link.now / 1e9
 
     def waiting(self) -> str:
@@ -108,7 +108,7 @@ class Loop(asyncio.BaseEventLoop):
         """Does nothing: it would wake a loop that waits for real time, which this one never does."""
 
     def run_in_executor(self, executor: Any, func: Callable[..., Any], *args: Any) -> "asyncio.Future[Any]":
-        """Runs a function at once; this takes no simulated time."""
+        """Runs a function at once, in no simulated time."""
         future = self.create_future()
         try:
             future.set_result(func(*args))
@@ -117,7 +117,7 @@ class Loop(asyncio.BaseEventLoop):
         return future
 
     def address_of(self, name: Any) -> str:
-        """Returns the IPv4 address of a name or address, or the current host's for an empty one. Raises `OSError` if unknown."""
+        """Returns the IPv4 address of a name or address; for an empty one, the current host's. Raises `OSError` if unknown."""
         said = str(name or "0.0.0.0")
         said = self._names.get(said, said)
         try:
@@ -138,8 +138,7 @@ class Loop(asyncio.BaseEventLoop):
 
     async def create_datagram_endpoint(self, protocol_factory: Callable[[], Any], local_addr: Any = None,
                                        remote_addr: Any = None, *, family: int = 0, sock: Any = None, **_: Any) -> tuple[Any, Any]:
-        """Creates an endpoint at an address of the link; without one, at a free port of the current `host`. Raises `OSError` as an
-        operating system does."""
+        """Creates an endpoint; without an address, at a free port of the current `host`. Raises `OSError`."""
         if sock is not None:
             raise ValueError("a real socket can't be used in simulated time")
         if family not in (0, socket.AF_INET):
@@ -166,7 +165,7 @@ for _name in _REFUSED:
 @contextmanager
 def clocks(link: Link) -> Iterator[None]:
     """Makes `time.time`, `time.monotonic` and `time.perf_counter` (also `_ns`) return the link's time within the block. Functions that
-    a program imported earlier (`from time import ..`) keep the machine's time."""
+    a program imported earlier keep the machine's time."""
     kept = {name: getattr(time, name) for word in ("time", "monotonic", "perf_counter") for name in (word, word + "_ns")}
     for name in kept:
         begin = EPOCH * 10**9 if name.startswith("time") else 0
@@ -183,14 +182,14 @@ def clocks(link: Link) -> Iterator[None]:
 
 def run(main: Coroutine[Any, Any, _Result], *, link: Link, hold: int = 1, names: Optional[Mapping[str, str]] = None,
         has_clocks: bool = True) -> _Result:
-    """Runs a coroutine to its end and returns its result, like `asyncio.run`.
+    """Runs a coroutine and returns its result, like `asyncio.run`.
 
-    link        the link of a session, with its rules and pipes; it isn't ended
-    hold        how long (ns) to collect deliveries, as a network card does
+    link        a link with its rules and pipes; it isn't ended
+    hold        as in `Link.until_mine`
     names       the addresses of names: {"server": "10.0.1.1"}
-    has_clocks  whether the clocks of the module `time` return the link's time meanwhile
+    has_clocks  whether to use `clocks`
 
-    Raises `DeadlockError` if everything left waits forever, and `ExperimentEndedError` if the experiment's steps are spent."""
+    Raises `DeadlockError` if everything left waits forever, and `ExperimentEndedError`."""
     with asyncio.Runner(loop_factory=lambda: Loop(link, hold, names)) as runner:
         if not has_clocks:
             return runner.run(main)

@@ -27,14 +27,13 @@ from dnlab.errors import InputError
 
 def expecting(report: Report, *bounds: Union[str, Path], allow: Union[str, Sequence[str]] = (), begin: int = 0,
               end: Optional[int] = None, names: Optional[Mapping[str, str]] = None) -> None:
-    """Fails unless all bounds hold, no command was refused and no steps were spent. The failure lists all bounds.
+    """Fails unless all bounds hold, no command was refused and no steps were spent.
 
-    bounds  each a text, or a file of them (`dnlab.analysis.bounds` has the form)
-    allow   `refused`, `spent`, or both: what is not a failure
-    begin, end  ignore what happened before `begin` and from `end` on, ns
-    names   names for sources of injected packets, as in `dnlab.read`
+    bounds  each a text, or a file of them (docs/reference/tools.md)
+    allow   what is not a failure, as `refused`
+    begin, end, names  as in `Report.summary`
 
-    Raises `dnlab.InputError` for an invalid bound, and if there is nothing to judge."""
+    Raises `InputError` for an invalid bound, and if there is nothing to judge."""
     allowed = allowed_of(allow if isinstance(allow, str) else ",".join(allow)) if allow else []
     found = []
     for number, one in enumerate(bounds, 1):
@@ -53,5 +52,5 @@ def expecting(report: Report, *bounds: Union[str, Path], allow: Union[str, Seque
 
 @pytest.fixture
 def expect() -> Callable[..., None]:
-    """Returns `expect(report, bound, .., allow="refused")`, which fails like `expecting`."""
+    """Returns `expecting`, as a pytest fixture."""
     return expecting

@@ -54,10 +54,10 @@ class Interval:
 
 
 def interval(values: Iterable[float], level: float = 95, kind: Kind = "t") -> Interval:
-    """Returns the mean of independent values (one per seed), with its confidence interval at `level` percent.
+    """Returns the mean of independent values, with its confidence interval at `level` percent.
 
-    kind  `t` is Student's, for means of values that are close to normal; `bootstrap` resamples the values 9999 times
-          (bias-corrected and accelerated), always with the same random numbers
+    kind  `t` is Student's, for means that are close to normal; `bootstrap` resamples 9999 times (bias-corrected and
+          accelerated), with fixed random numbers
 
     >>> mean = interval([1.0, 2.0, 3.0])
     >>> mean.count, mean.mean, round(mean.half, 6), round(mean.low, 6), round(mean.high, 6)

@@ -36,9 +36,7 @@ def _made_anew(report: bytes, scenarios: Sequence[bytes], given_names: Mapping[s
 
 
 class Report(Mapping[str, "Experiment"]):
-    """A report with its scenario. `report["name"]` reads that experiment; one at a time stays in memory.
-
-    Opening it finds its experiments; each is read, checked and joined on demand."""
+    """A mapping from names to experiments, which are read and checked on demand. One at a time stays in memory."""
 
     def __init__(self, report: Union[str, Path], scenario: Names = (), keep: Any = None,
                  origin: Optional[Origin] = None, names: Optional[Mapping[str, str]] = None) -> None:
@@ -95,10 +93,8 @@ class Report(Mapping[str, "Experiment"]):
         return f"Report({self.given.report!r}, {len(self)} experiments)"
 
     def params(self, changed: bool = False) -> "pd.DataFrame":
-        """Returns a row for each experiment, by name, with a column for each option of its pipes, flows and trains, as `pipe1_queue`.
-
-        Defaults are filled in (rates in bit/s, times in ns). `changed` leaves out the options that are the same in all. Needs the
-        scenario."""
+        """Returns a row per experiment, with a column per option of its pipes, flows and trains, as `pipe1_queue`, defaults included
+        (bit/s, ns). `changed` leaves out options that are the same in all. Needs the scenario."""
         from dnlab.analysis import frames
 
         if self.plans is None:
@@ -111,10 +107,9 @@ class Report(Mapping[str, "Experiment"]):
     def summary(self, percentiles: Sequence[Percentile] = PERCENTILES, of: Sequence[str] = (),
                 experiments: Sequence[str] = (), workers: Optional[int] = None, begin: int = 0,
                 end: Optional[int] = None, names: Optional[Mapping[str, str]] = None) -> "pd.DataFrame":
-        """Returns the rows of all experiments, or of some by name, using several processes if the report is long.
+        """Returns the rows of all `experiments`, or of some, like `Experiment.summary`. Long reports are read by several processes.
 
-        `of` selects rows by name, as "train *"; `begin` and `end` are as in `Experiment.summary`; `names` is as in `read`, and
-        replaces the report's names. docs/reference/tools.md has the columns."""
+        `of` selects rows by name, as "train *". `names` replaces those of `read`."""
         from dnlab.analysis import frames
         from dnlab.analysis.summing import summed
 
@@ -127,11 +122,9 @@ class Report(Mapping[str, "Experiment"]):
 
 
 def read(report: Union[str, Path], scenario: Names = (), names: Optional[Mapping[str, str]] = None) -> Report:
-    """Opens a report, with its scenario if there is one (or several).
+    """Opens a report, with its scenario or scenarios if there are any.
 
-    names   names for sources of injected packets, address or address:port, as {"10.0.0.1:1000": "mine"}: these packets are `mine`
-            in all tables, the others `injected`
+    names  names for senders of injected packets, by address or address:port: {"10.0.0.1:1000": "mine"}
 
-    Raises `dnlab.InputError` for a source without packets, and for an invalid name. A scenario of another report is refused when
-    the experiment is read, with the line at which they differ."""
+    Raises `InputError` for an invalid name or a source without packets. Reading an experiment raises it if the scenario doesn't match."""
     return Report(report, scenario, names=names)

@@ -18,7 +18,7 @@ from dnlab.io.report import Counters
 
 @dataclass(repr=False)
 class Experiment:
-    """An experiment of a report. Times are whole nanoseconds, sizes bytes, rates bits per second."""
+    """An experiment of a report. It also has `name` and `seed`."""
     view: View
     varied: Optional[str] = None
 
@@ -37,12 +37,12 @@ class Experiment:
 
     @property
     def counters(self) -> Counters:
-        """Returns the counters: packets `made`, `delivered` and `held`, and `drops` by cause."""
+        """Returns the packets `made`, `delivered` and `held`, and `drops` by cause."""
         return self.view.counters
 
     @property
     def ended(self) -> Ended:
-        """Returns how it ended: `how` (`end` or `spent`), the `moment`, and the time of the scenario's `end`; times in ns."""
+        """Returns `how` it ended (`end` or `spent`), the `moment`, and the scenario's `end` (ns)."""
         return self.view.ended
 
     @property
@@ -51,7 +51,7 @@ class Experiment:
 
     @property
     def folder(self) -> Optional[Path]:
-        """Returns the output folder of a run of programs, for your own statistics; None for any other experiment."""
+        """Returns the output folder of a run of programs, otherwise None."""
         return self.view.folder
 
     @property
@@ -61,12 +61,12 @@ class Experiment:
 
     @property
     def refused(self) -> list[Refusal]:
-        """Returns the refused commands: each with `line` and `text` of the scenario, `code` and `told()`, the reason."""
+        """Returns the refused commands, each with its `line`, `text`, `code` and reason, `told()`."""
         return self.view.refused
 
     @property
     def warnings(self) -> str:
-        """Returns the warnings of all its rows, separated by spaces; docs/reference/tools.md explains each."""
+        """Returns the warnings of all its rows (docs/reference/tools.md), separated by spaces."""
         return self.view.marks()
 
     @property
@@ -75,57 +75,53 @@ class Experiment:
         return self.view.notes
 
     def packets(self) -> pd.DataFrame:
-        """Returns a row for each packet, by serial number: made, delivered, delay (ns), bytes (with headers), sender, queue (the last pipe
-        that it is known to have reached), outcome (`held`, `delivered`, or the cause of its drop), ended (ns, also for drops), kind,
-        flow and number of its load, retransmission (a segment that was sent before)."""
+        """Returns a row per packet: made, delivered, delay (ns), bytes, sender, queue (the last one known), outcome (`held`, `delivered`,
+        or the cause of its drop), ended (ns, also for drops), kind, flow and number of its load, retransmission (sent before)."""
         return frames.packets(self.view)
 
     def visits(self) -> pd.DataFrame:
-        """Returns a row for each visit of a packet to an instance: packet, queue, arrival, finish and exit (ns)."""
+        """Returns a row per visit of a packet to an instance: packet, queue, arrival, finish and exit (ns)."""
         return frames.visits(self.view)
 
     def windows(self) -> pd.DataFrame:
-        """Returns a row for each `ack` and `expire` line and each flow's start: moment (ns), flow, event, cwnd and ssthresh
-        (bytes)."""
+        """Returns a row per `ack` and `expire` line and start of a flow: moment (ns), flow, event, cwnd and ssthresh (bytes)."""
         return frames.windows(self.view)
 
     def queues(self) -> pd.DataFrame:
-        """Returns a row for each time at which an instance changed: moment (ns), queue, waiting (packets that wait or are in service),
-        in_flight (packets in the delay line); the values hold until its next row."""
+        """Returns a row per change of an instance: moment (ns), queue, waiting (or in service), in_flight (in the delay line)."""
         return frames.queues(self.view)
 
     def drops(self) -> pd.DataFrame:
-        """Returns a row for each drop: moment (ns), packet, sender, cause, queue if a line has it, bytes."""
+        """Returns a row per drop: moment (ns), packet, sender, cause, queue if known, bytes."""
         return frames.drops(self.view)
 
     def commands(self) -> pd.DataFrame:
-        """Returns a row for each command: moment (ns), text and line of the scenario, answer (`ok`, `refused`), code."""
+        """Returns a row per command: moment (ns), text, line, answer (`ok`, `refused`), code."""
         return frames.commands(self.view)
 
     def records(self) -> pd.DataFrame:
-        """Returns the report's own lines: word, moment, packet, queue, kind, flow, number, more (see `dnlab.io.lines.Columns`)."""
+        """Returns the report's lines: word, moment, packet, queue, kind, flow, number, more."""
         return frames.records(self.view)
 
     def summary(self, percentiles: Sequence[Percentile] = PERCENTILES, begin: int = 0,
                 end: Optional[int] = None) -> pd.DataFrame:
-        """Returns the rows of this experiment in a summary (docs/reference/tools.md has the columns), for what happened from `begin` on and
-        before `end` (ns), to leave out a warm-up."""
+        """Returns the rows of a summary (docs/reference/tools.md), for what happened from `begin` on and before `end` (ns)."""
         span = span_of(begin, end)
         return frames.of_rows(Tables(self.view, percentiles, self.varied, span=span).rows(), columns_of(percentiles, span))
 
     def throughput(self, every: int) -> pd.DataFrame:
-        """Returns each sender's deliveries in intervals of `every` ns: sender, begin, end (ns), packets, bytes, rate (bit/s), useful (bytes,
-        each once), goodput (bit/s)."""
+        """Returns a row per sender and interval of `every` ns: sender, begin, end (ns), packets, bytes, rate (bit/s), useful (bytes, each
+        once), goodput (bit/s)."""
         rows = windows(self.view, every)
         return frames.of_rows(rows, list(rows[0]) if rows else ["experiment", "sender", "begin", "end"])
 
     def losses(self) -> pd.DataFrame:
-        """Returns drops by sender, cause and queue (<NA> if no line has it): sender, cause, queue, packets."""
+        """Returns drops by sender, cause and queue (<NA> if unknown): sender, cause, queue, packets."""
         return frames.of_rows(losses(self.view), ["experiment", "sender", "cause", "queue", "packets"])
 
     def plot(self, what: Sequence[str] = ("window", "queue", "sojourn", "delivered", "drops"), acks: bool = False,
              effective: bool = False, **design: Any) -> Any:
-        """Returns a matplotlib figure with a panel for each of `what`. `acks` and `effective` are those of `tools/plot`, and so are `title`,
+        """Returns a matplotlib figure with a panel for each of `what`. The others are options of `tools/plot`, such as `title`,
         `labels`, `size` (inches), `font`, `style` and `legend`."""
         from dnlab.plot import pictures
         from dnlab.plot.design import Design
@@ -134,11 +130,8 @@ class Experiment:
 
 
 def intervals(rows: pd.DataFrame, by: Union[str, Sequence[str]], columns: Union[str, Sequence[str]]) -> pd.DataFrame:
-    """Returns for each group of rows and each column the number of values (`n`), the `mean`, and `ci95`, the half-width of its 95 %
-    confidence interval (Student's t). Groups are in the order of their first row.
-
-    by       the columns that define a group
-    columns  the columns to average"""
+    """Returns the number of values (`n`), the `mean`, and the half-width of its 95 % confidence interval (`ci95`, Student's t) of each
+    of `columns`, for each group of rows that agree in `by`, in the order of their first rows."""
     keys = [by] if isinstance(by, str) else list(by)
     wanted = [columns] if isinstance(columns, str) else list(columns)
     found: dict[Any, dict[tuple[str, str], Any]] = {}

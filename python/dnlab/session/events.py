@@ -15,7 +15,7 @@ LEAST_SIZE, MOST_SIZE = 40, 1500
 
 
 class LineRejectedError(InputError):
-    """A line was rejected, and changed nothing. `cause` is one of docs/reference/faults.md, `line` the line."""
+    """A line was rejected, and changed nothing. Has `line`, and `cause` (docs/reference/faults.md)."""
 
     def __init__(self, cause: str, line: str, more: str = "") -> None:
         super().__init__(f"{cause}: {line}{more}")
@@ -23,8 +23,7 @@ class LineRejectedError(InputError):
 
 
 class CommandRefusedError(InputError):
-    """A command was refused. `code` is one of docs/reference/faults.md, `line` the command. The transcript has it, but nothing else
-    changed."""
+    """A command was refused, and only the transcript changed. Has `line`, and `code` (docs/reference/faults.md)."""
 
     def __init__(self, code: int, line: str) -> None:
         super().__init__(f"refused {code}: {line} (docs/reference/faults.md says what each code means)")
@@ -32,7 +31,7 @@ class CommandRefusedError(InputError):
 
 
 class ExperimentEndedError(Exception):
-    """The experiment has ended, by `end` or because its steps are spent. `moment` is the time (ns)."""
+    """The experiment has ended, or its steps are spent. Has `moment` (ns)."""
 
     def __init__(self, name: str, moment: int) -> None:
         super().__init__(f"experiment {name} ended at {moment} ns, by `end` or because its steps are spent (begin it with "
@@ -42,8 +41,8 @@ class ExperimentEndedError(Exception):
 
 @dataclass(slots=True, eq=False)
 class Packet:
-    """A packet that was sent: `size` in bytes, `sent` in ns. `payload` belongs to your program and is not sent. `number` is the serial
-    number in the report, -1 until the program has replied."""
+    """A packet of `size` bytes that was sent at `sent` (ns). `payload` stays in your program. `number` is the serial number, -1 until the
+    program has replied."""
     source: Address
     target: Address
     size: int
@@ -54,10 +53,8 @@ class Packet:
 
 
 class Event(NamedTuple):
-    """The outcome of a packet: delivered at a time (ns; `cause` is ''), or dropped for a cause of docs/reference/report.md.
-
-    `packet` is None for packets of the link's own flows and trains, which only `until_any` returns. `number` is the packet's
-    serial number, and `load` its content as a report has it."""
+    """The outcome of a packet at `moment` (ns): delivered if `cause` is '', otherwise dropped. `packet` is None for packets of flows and
+    trains, which only `until_any` returns. `number` and `load` are those of the report."""
     moment: int
     packet: Optional[Packet]
     cause: str

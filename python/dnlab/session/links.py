@@ -18,9 +18,10 @@ class Speaks(Protocol):
 
 
 class Link:
-    """An experiment of a session. Time advances only in `until`, `until_mine`, `until_any` and `end`, and for actions at a later time.
+    """An experiment of a session. Time advances only in `until`, `until_mine`, `until_any` and `end`, and for actions `at` a later time
+    (ns).
 
-    now       the earliest time (ns) at which something can be done
+    now       the earliest time (ns) of the next action
     is_over   whether it has ended
     counters  after the end: made, delivered, held, and the drops by cause
     listings  the lines of `show` and `pipe show`"""
@@ -46,17 +47,14 @@ class Link:
     # Actions.
 
     def command(self, words: str, at: Optional[int] = None) -> None:
-        """Executes a command in scenario syntax, without its time: now, or at a later time (ns). Raises `LineRejectedError` or
-        `CommandRefusedError`."""
+        """Executes a command in scenario syntax, without its time. Raises `LineRejectedError` or `CommandRefusedError`."""
         self._move(at)
         self._session.post(self, f"@{self.now} {words}")
         self._session.exchange()
 
     def send(self, source: Address, target: Address, size: int, payload: Any = None, protocol: str = "udp",
              at: Optional[int] = None) -> Packet:
-        """Sends a packet of 40 to 1500 bytes, headers included, now or at a later time (ns).
-
-        It is sent with the next call that needs a reply, so many packets cost one round trip. Raises `ValueError` if the packet is
+        """Sends a packet of 40 to 1500 bytes, headers included, with the next call that needs a reply. Raises `ValueError` if it is
         invalid."""
         if not LEAST_SIZE <= size <= MOST_SIZE:
             raise ValueError(f"a packet has {LEAST_SIZE} to {MOST_SIZE} bytes, not {size}")
@@ -67,14 +65,12 @@ class Link:
         return packet
 
     def until(self, moment: int) -> list[Event]:
-        """Advances time to `moment` (ns). Returns the deliveries and drops of the program's own packets since the last call."""
+        """Advances time to `moment` (ns). Returns the deliveries and drops of your own packets since the last call."""
         return self._pass(f"#> until @{self._later(moment)}")
 
     def until_mine(self, moment: int = LATEST, hold: int = 1) -> list[Event]:
-        """Advances time to `moment` (ns), but at most to `hold` ns after the first delivery or drop of a packet that the program sent, so
-        that it can react. Returns the events since the last call.
-
-        Time doesn't stop for a packet that is dropped when it is sent; it is among the next events."""
+        """Like `until`, but at most to `hold` ns after the first of these events, so that you can react. A packet that is dropped on
+        sending doesn't stop time."""
         self._later(moment)
         if self._events:
             # A command at a later time produced events: time stands still until the program has seen them.
@@ -83,8 +79,7 @@ class Link:
         return self._pass(f"#> until @{moment} first{'' if hold == 1 else f' {hold}'}")
 
     def until_any(self, moment: int = LATEST, hold: int = 1) -> list[Event]:
-        """Like `until_mine`, for the first delivery or drop of any packet. Also returns events of other packets, unless
-        show='mine'."""
+        """Like `until_mine`, for any packet. Also returns events of other packets, unless show='mine'."""
         self._later(moment)
         self._session.exchange()
         if self._events:
@@ -96,10 +91,7 @@ class Link:
             self._wants_all = False
 
     def next_due(self) -> Optional[int]:
-        """Returns when the next event of the link is due (ns), or None.
-
-        After the first call, other replies include this time, so a call after `until` costs no round trip, and one after `send` only
-        that of the packets."""
+        """Returns the time of the link's next event (ns), or None."""
         self._check()
         if not self._adds_next:
             self._session.post(self, "#> next on")
@@ -108,8 +100,7 @@ class Link:
         return self._next
 
     def end(self, at: Optional[int] = None) -> list[Event]:
-        """Ends the experiment, now or at a later time (ns), and returns the events since the last call. An experiment whose steps are spent
-        also needs an end, as in a scenario."""
+        """Ends the experiment, also one whose steps are spent, and returns the events since the last call."""
         if at is not None:
             self.now = max(at, self.now) if self.is_over else self._later(at)
         self._session.post(self, f"@{self.now} end")
@@ -119,12 +110,12 @@ class Link:
     # Results.
 
     def transcript(self) -> str:
-        """Returns the scenario of everything that was done. `dnlab alone` writes the same report for it, once it has its end."""
+        """Returns the scenario of everything that was done. After the end, `dnlab alone` writes the same report for it."""
         self._session.exchange()
         return _kept(self._transcript, "transcript").decode()
 
     def report(self) -> bytes:
-        """Returns the report so far, which is complete once the experiment has ended."""
+        """Returns the report so far."""
         if self._show == "mine":
             raise ValueError("the report has only lines about the program's own packets (show='mine'): "
                              "`dnlab alone` writes the report of transcript()")
@@ -132,7 +123,7 @@ class Link:
         return _kept(self._report, "report")
 
     def save(self, scenario: Union[str, Path], report: Union[str, Path, None] = None) -> None:
-        """Writes the transcript, and the report if it has a name, for tools/summary, tools/view and the others."""
+        """Writes the transcript, and the report if named."""
         with whole_file(scenario) as file:
             file.write(self.transcript().encode())
         if report is not None:
@@ -143,7 +134,7 @@ class Link:
     # Callbacks of the session.
 
     def answered(self, line: str, words: list[bytes], packet: Optional[Packet]) -> None:
-        """Handles the reply to a line that was accepted."""
+        """Handles the reply to an accepted line."""
         kind = words[1]
         if kind == b"now":
             self.now = int(words[2])

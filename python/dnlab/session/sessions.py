@@ -29,7 +29,7 @@ _MOST_GATHERED = 1 << 15
 
 
 class Session:
-    """A running program, or library, with experiments, each a `Link`. It ends with its block, also by an exception."""
+    """A running program or library, with experiments. It ends with its block, also after an exception."""
 
     def __init__(self, dnlab: Optional[str] = None, engine: str = "process") -> None:
         self._talk = _spoken(dnlab, engine)
@@ -45,15 +45,10 @@ class Session:
     def experiment(self, name: str, seed: int = 0, budget: int = 1000, steps: int = STEPS,
                    show: Literal["all", "mine"] = "all", transcript: Optional[IO[bytes]] = None,
                    report: Optional[IO[bytes]] = None) -> Link:
-        """Starts an experiment.
+        """Starts an experiment (docs/reference/scenario.md has the ranges).
 
-        name        1 to 32 of a to z, 0 to 9, - and _; unique in the session
-        seed        of its random numbers, 0 to 2^64 - 1
-        budget      the maximum number of packets at a time, 1 to 65535
-        steps       the number of steps after which it ends, 1 to 10^7
-        show        whether its whole report is read, or only lines about packets that are sent (which is faster)
-        transcript  a file for the transcript, instead of memory
-        report      a file for the report, instead of memory
+        show                "mine" reads only lines about packets that are sent, which is faster
+        transcript, report  files for them, instead of memory
 
         Raises `LineRejectedError` if an argument is invalid."""
         link = Link(self, name, show, transcript, report)
@@ -71,16 +66,15 @@ class Session:
         return link
 
     def transcript(self) -> str:
-        """Returns the scenario of all experiments, in the order in which they started."""
+        """Returns the scenario of all experiments, in the order of their starts."""
         return "".join(link.transcript() for link in self._links)
 
     def report(self) -> bytes:
-        """Returns the report of all experiments so far; once all have ended, the report that `dnlab alone` writes for the
-        transcript."""
+        """Returns the report of all experiments so far."""
         return b"".join(link.report() for link in self._links)
 
     def post(self, link: Link, line: str, packet: Optional[Packet] = None) -> None:
-        """Queues a line of an experiment for the next exchange."""
+        """Queues a line for the next exchange."""
         if self._current is not link:
             self._lines.append(f"#> use {link.name}\n")
             self._asked.append((link, "#> use", None))
@@ -130,7 +124,7 @@ class Session:
         return "".join(f"\n{it}" for it in said if not it.startswith("line "))
 
     def close(self) -> None:
-        """Ends the program after the replies to all queued lines. An experiment without its `end` is cut off there."""
+        """Ends the program after all replies. Experiments without an `end` are cut off."""
         if not self._talk.has_ended:
             try:
                 self.exchange()
@@ -160,10 +154,10 @@ def _spoken(dnlab: Optional[str], engine: str) -> Spoken:
 
 
 def live(dnlab: Optional[str] = None, engine: str = "process") -> Session:
-    """Starts a session. Use it as a block: `with dnlab.live() as session: link = session.experiment("mine", seed=1)`.
+    """Starts a session, for use as a block: `with dnlab.live() as session: link = session.experiment("mine", seed=1)`.
 
-    dnlab    the program; by default that of `dnlab.programs.program`
-    engine   "process" starts the program; "library" calls libdnlab in this process, and takes no program
+    dnlab   the program; by default that of `dnlab.programs.program`
+    engine  "process" starts the program; "library" calls libdnlab in this process
 
-    Raises `ProgramError` if there is no program or library."""
+    Raises `ProgramError` if there is none."""
     return Session(dnlab, engine)

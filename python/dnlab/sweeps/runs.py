@@ -24,21 +24,17 @@ from dnlab.programs import program
 def run(text: Union[str, bytes, Path], workers: int = 1, moves: Optional[int] = None,
         out: Union[str, Path, None] = None, dnlab: Optional[str] = None, engine: str = "process",
         names: Optional[Mapping[str, str]] = None) -> Report:
-    """Runs a scenario and returns its report, joined with it.
+    """Runs a scenario and returns its report.
 
-    text     the scenario, or the path of its file (a str of one line is a path), which may be gzip. It may have more experiments and bytes
-             than the program accepts at once, and is then run in several parts, one after the other. A str may lack its last line feed
-    workers  the number of threads that run its experiments, 1 to 16
-    moves    after how many turns a thread offers an experiment to the others
-    out      the report's file; OUT.json, next to it, records what made it. By default a temporary file, which lives as long as the
-             report; the report's `origin` then has what made it
-    dnlab    the program; by default that of `dnlab.programs.program`
-    engine   "process" starts the program; "library" calls libdnlab in this process (see `dnlab.library.library`), and takes no
-             workers, moves or program. It is faster for many short scenarios; Ctrl-C waits until a part is done
-    names    names for sources of injected packets, as in `dnlab.read`
+    text           the scenario, or the path of its file, plain or gzip (a str of one line is a path). It is run in parts if it is too large
+                   for the program
+    workers        the number of threads that run its experiments, 1 to 16
+    moves          after how many turns a thread offers an experiment to the others
+    out            the report's file; OUT.json, next to it, records what made it. By default a temporary file
+    dnlab, engine  as in `live`; the library takes no workers or moves
+    names          as in `read`
 
-    Raises `ProgramError` if the program refuses the scenario; its `said` has `line L: CAUSE` (L counts in `text`), and the output of
-    `--explain`. Also raises it if a program ends with status 0 but its report lacks an experiment."""
+    Raises `ProgramError` if the program refuses the scenario: `said` has `line L: CAUSE` and what `--explain` prints."""
     if isinstance(text, str) and text and "\n" not in text and not text.startswith("experiment "):
         text = Path(text)
     runner = _runner(engine, workers, moves, dnlab)

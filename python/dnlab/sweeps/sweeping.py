@@ -36,21 +36,21 @@ _LOSS = re.compile(rb" plr +(?!0(\.0*)?( |$))", re.MULTILINE)
 
 
 class Sweep(Swept):
-    """The experiments of a template, `cases` in order; they run when their rows or the table are requested.
+    """The experiments of a template, in the order of `cases`. They run when `rows()` or `table()` is requested.
 
-    template  the path of the template, or its text
+    template  as in `sweep`
     grid      the values of each setting
-    seeds     the seeds to run each setting with
+    seeds     the seeds of each setting
     asks      senders and their statistics; by default those of flows and trains
-    kept      the file that caches results, by the checksums of scenario and program; by default in memory
+    kept      the file that caches results; by default memory
     workers   the number of processes; by default all cores
-    on        other machines: `slurm`, `dask:ADDRESS` of a scheduler, or the form of `dnlab-spread --ssh`; `there` is the
-              program's path on them, `parts` the number of parts, by default of about a minute each
-    dnlab     the program; by default that of `dnlab.programs.program`
-    anew      whether to run all experiments again, whatever is cached
-    allow     which of `refused` and `spent` don't stop it: an experiment with a refused command, or whose steps are spent
-              before its end, raises `InputError` unless it is allowed
-    span      the time range of each experiment to measure, as without a warm-up"""
+    on        other machines: `slurm`, `dask:ADDRESS` of a scheduler, or the form of `dnlab-spread --ssh`
+    there     the program's path on them
+    parts     the number of parts; by default of about a minute each
+    dnlab     as in `live`
+    anew      whether to ignore cached results
+    allow     which of `refused` and `spent` don't raise `InputError`
+    span      the time range to measure"""
 
     def __init__(self, template: Union[str, Path], grid: Mapping[str, Sequence[Any]], seeds: Iterable[int] = (1,),
                  asks: Sequence[Ask] = (), kept: Union[str, Path, None] = None, workers: Optional[int] = None,
@@ -82,7 +82,7 @@ class Sweep(Swept):
         return names.of_template(self.template.text, self.settings)
 
     def text(self, case: Case) -> str:
-        """Returns the text of an experiment. Raises `InputError` unless it has exactly this experiment."""
+        """Returns an experiment's scenario. Raises `InputError` unless it has exactly this experiment."""
         text = self._maker.made(case.name, case.seed, case.settings, case.told())
         found = names_of(text.encode())
         if found != [case.name]:
@@ -97,7 +97,7 @@ class Sweep(Swept):
         return InputError(f"{self.template.name}: {case.told()}: a fault in the rendered scenario ({seen} shows it)\n{said}")
 
     def check_texts(self, cases: Sequence[tuple[Case, str]], program: str) -> None:
-        """Has the program check scenarios of one experiment each. Raises the first fault, as `--explain` shows it."""
+        """Checks scenarios with the program. Raises the first fault, as `--explain` shows it."""
         joined = "".join(text for _, text in cases).encode()
         if len(joined) <= MOST_BYTES and judged(program, joined) is None:
             return
@@ -125,7 +125,7 @@ class Sweep(Swept):
         self.asks = usual(names_in(plans))
 
     def prepare(self) -> list[Waiting]:
-        """Renders and checks all scenarios, takes cached results, and returns the experiments to run."""
+        """Renders and checks all scenarios, and returns those without a cached result."""
         program = program_of(self._named)
         self._asked(program)
         own = program_checksum(program)
@@ -151,7 +151,7 @@ class Sweep(Swept):
         return waiting
 
     def run(self) -> None:
-        """Runs the experiments without a result, and stores each result as it arrives."""
+        """Runs the experiments that have no result yet."""
         if len(self.found) == len(self.cases):
             return
         try:
@@ -195,8 +195,8 @@ class Sweep(Swept):
                 raise InputError(f"{self.template.name}: {case.told()}: {note.text} (--allow {note.mark} continues)")
 
     def here(self, waiting: Sequence[Waiting], program: str) -> Iterator[Answered]:
-        """Runs and reads experiments in processes of this machine, and yields results as they arrive. If some fail, the others are run, and
-        the first failure is raised at the end; one that a signal ended ends all."""
+        """Runs experiments in processes of this machine, and yields results as they arrive. Raises the first failure at the end, but at
+        once if a signal ended a process."""
         failures: list[ProgramError] = []
         with Crew[tuple[Waiting, ...]](min(self.workers, max(len(waiting), 1))) as crew:
             def begin(batch: Sequence[Waiting]) -> None:
@@ -211,7 +211,7 @@ class Sweep(Swept):
         raise_first(failures)
 
     def give(self, crew: "Crew[tuple[Waiting, ...]]", batch: Sequence[Waiting], program: str) -> None:
-        """Submits experiments to a process, which runs them and reads their report."""
+        """Submits experiments to a process."""
         crew.give(tuple(batch), measured, [self.text(one.case) for one in batch], self.asks, program, self.span)
 
     def _taken(self, crew: Crew[tuple[Waiting, ...]], begin: Any, failures: list[ProgramError]) -> Iterator[Answered]:
@@ -229,7 +229,7 @@ class Sweep(Swept):
 
     @cached_property
     def unseeded(self) -> frozenset[str]:
-        """Returns the experiments of settings whose seeds change nothing: the scenarios are equal, and no pipe has a `plr`."""
+        """Returns the experiments whose seeds change nothing."""
         by_setting: dict[tuple[str, ...], list[Case]] = {}
         for case in self.cases:
             by_setting.setdefault(tuple(map(str, case.settings.values())), []).append(case)
@@ -241,7 +241,7 @@ class Sweep(Swept):
         return frozenset(found)
 
     def changeless(self) -> Optional[str]:
-        """Returns the warning if seeds change nothing, so that their runs count as one."""
+        """Returns the warning if seeds change nothing."""
         if not self.unseeded:
             return None
         of = "" if len(self.unseeded) == len(self.cases) else f"of {len(self.unseeded)} experiments "
@@ -264,16 +264,14 @@ def sweep(template: Union[str, Path], *, seed: Union[int, Iterable[int]] = 1, of
           end: Optional[int] = None, **grid: Any) -> Sweep:
     """Runs a template with each setting and each seed: `dnlab.sweep("link.tmpl", queue=[10, 50], seed=range(30)).table()`.
 
-    template  the path of a Jinja2 template, or its text (a str of several lines)
-    seed      one or several; `settings` has settings whose names are parameters here
+    template  the path of a Jinja2 template, or its text
+    settings  settings whose names are parameters here
     of, stat  senders and statistics: `of="train 9", stat=["delay.p95", "lost"]`, or of={"train 9": ["delay.p95"], ..}
-    begin, end  ignore what happened before `begin` and from `end` on (ns), to leave out a warm-up
-    kept, workers, on, dnlab, allow   see `Sweep`
+    begin, end  as in `Experiment.summary`
+    kept, workers, on, dnlab, allow  as in `Sweep`
 
-    A setting is a value or a list of values. A statistic may be your own function: it takes the run, a `dnlab.Experiment`, and
-    optionally the sender's name, and returns a number. Its results are not cached.
-
-    Raises `InputError` for faults in the template and in a scenario that was rendered from it."""
+    Settings and seeds are values or lists, statistics names or functions (docs/howto/sweeps.md). Raises `InputError` for faults in the
+    template and in its scenarios."""
     every = {name: [value] if isinstance(value, (str, int, float)) else list(value)
              for name, value in {**settings, **grid}.items()}
     asked = of if isinstance(of, Mapping) else {} if of is None else {
