@@ -88,7 +88,12 @@ def test_what_a_page_shows_is_compared() -> None:
 
 
 def text_of(name: str) -> str:
-    """A scenario of the tutorial."""
+    """A scenario of the tutorial, which makes two of them from others by sed."""
+    if name == "rate.txt":
+        return text_of("packet.txt").replace("delay", "bw 1Mbit/s delay")
+    if name == "codel.txt":
+        deep = text_of("flow.txt")
+        return deep + deep.replace("deep", "codel").replace("queue 50", "queue 50 codel")
     found = re.search(rf"^```text title=\"{name}\"\n(.*?)^```", (ROOT / "docs/tutorial.md").read_text(), re.DOTALL | re.MULTILINE)
     assert found
     return found[1]
