@@ -49,4 +49,4 @@ def test_commands(place: int, program: str, tmp_path: Path) -> None:
 
 
 def test_nothing_is_left_out() -> None:
-    assert (len(PROGRAMS), len(COMMANDS)) == (3, 2)
+    assert (len(PROGRAMS), len(COMMANDS)) == (2, 2)
