@@ -35,8 +35,6 @@ ELSEWHERE = {
     ("docs/explanation/definitions.md", "tools/definitions/spell"): "by ./test, with --check",
     ("docs/howto/cookbook.md", "cookbook/chain/sweep"): "by cookbook/check",
     ("docs/howto/from_netem.md", "tc qdisc"): "root, and an interface",
-    ("docs/howto/many_machines.md", "tools/spread scenario.txt --parts 8 --ssh"): "a cluster; with stand-ins by test_spread.py",
-    ("docs/howto/many_machines.md", "tools/spread scenario.txt --parts 8 --slurm"): "a cluster; with stand-ins by test_spread.py",
     ("docs/howto/many_machines.md", "tools/spread scenario.txt --parts 16 --ssh"): "a cluster; with stand-ins by test_spread.py",
     ("docs/howto/many_machines.md", "tools/sweep link.tmpl"): "a cluster; with workers of this machine by test_seeds.py",
     ("docs/howto/many_machines.md", "python3 python/examples/queues.py 1000"): "8000 experiments",
