@@ -7,7 +7,7 @@ from decimal import Decimal
 from fractions import Fraction
 
 TIMES = {"ns": 1, "us": 10**3, "ms": 10**6, "s": 10**9}
-# The units of each kind of amount; '' means no unit.
+# The units of each kind of amount; '' means no unit. An index is Jain's, from 0 to 1; an ending is one of `ENDINGS`.
 UNITS: dict[str, dict[str, Fraction]] = {
     "time": {unit: Fraction(size) for unit, size in TIMES.items()},
     "size": {"bytes": Fraction(1)},
@@ -74,7 +74,7 @@ def shown(amount: Fraction, kind: str, unit: str = "", digits: int = 9) -> str:
 
 
 def fitting(amount: Fraction, kind: str) -> str:
-    """Returns the largest unit in which an amount is at least 1, else the smallest unit.
+    """Returns the largest unit in which an amount is at least 1, or the smallest unit if there is none.
 
     >>> fitting(Fraction(1500000), "time"), fitting(Fraction(0), "rate")
     ('ms', 'bit/s')

@@ -10,7 +10,7 @@ from dnlab.analysis.figures import Interval, Kind, interval as interval_of
 from dnlab.analysis.stats import unit_of
 from dnlab.errors import InputError
 
-# A search stops at this number of seeds.
+# A search, which first doubles the number of seeds, ends when that exceeds this.
 _MOST = 10**6
 # Decimals in tables: further digits of a float differ between versions of scipy.
 _DIGITS = 6
@@ -84,7 +84,7 @@ def compared(rows: pd.DataFrame, settings: Sequence[str], stats: Sequence[str], 
 
 def needed(values: Sequence[float], share: float, level: float = 95) -> Optional[int]:
     """Returns the minimum number of seeds for which the interval (Student's t) is within `share` of the mean, if further seeds vary like
-    these. None for fewer than two values, a mean of 0, and 10^6 seeds or more.
+    these. None for fewer than two values, if different values have a mean of 0, and above 524,288 seeds.
 
     >>> needed([90.0, 110.0], 0.5), needed([7.0, 7.0], 0.01)
     (3, 2)

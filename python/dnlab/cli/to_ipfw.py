@@ -31,7 +31,7 @@ express, 3 something is missing on this machine."""
 
 
 def add_scenario(parser: argparse.ArgumentParser) -> None:
-    """Adds the arguments that both exports share."""
+    """Adds the arguments that `to-ipfw` and `to-tc` share."""
     parser.add_argument("scenario", metavar="SCENARIO", help="a scenario, or - for standard input")
     parser.add_argument("--experiment", metavar="NAME", help="which of its experiments, if it has several")
     parser.add_argument("--out", metavar="FILE", help="the output file [standard output]")

@@ -9,7 +9,7 @@ from typing import NamedTuple, Optional
 
 from dnlab.emulation.amounts import signal_name
 
-# 2027-01-01T00:00:00Z: after the certificates begin that machines have when this version is published.
+# 2027-01-01T00:00:00Z: certificates that machines have when this version is published must already be valid then.
 START_DATE = 1798761600 * 10**9
 
 
@@ -59,7 +59,7 @@ class Host:
     processes: tuple[Process, ...] = ()
 
     def stem(self, index: int) -> str:
-        """Returns the begin of the names of a process' output files, relative to the output folder."""
+        """Returns how the names of a process's output files start, relative to the output folder."""
         return f"hosts/{self.name}/{self.processes[index].program}.{index}"
 
 
@@ -74,10 +74,10 @@ class NetworkLine(NamedTuple):
 class Settings:
     """What simulated time costs, and what the guest is: part of an experiment, as its seed is.
 
-    `syscall_ns` and `clock_read_ns` are the costs of a system call and of a clock read. One of `reads` clock
-    reads is a system call. A poll without other work since the last one costs twice as much as that one, up to
-    2^(`polls` - 1) system calls; with 0 all cost the same.
-    `limit_s` is the longest run in seconds of real time.
+    `syscall_ns` and `clock_read_ns` are the costs of a system call and of a clock read. One in `reads` clock
+    reads is a system call. A poll without other work since the previous poll costs twice as much as that one, up to
+    2^(`polls` - 1) system calls; if `polls` is 0, all cost the same.
+    `limit_s` is the longest run in seconds of real time. `jitter_ns` bounds the random delay of each start.
     """
     syscall_ns: int = 1000
     clock_read_ns: int = 0
