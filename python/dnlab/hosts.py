@@ -65,7 +65,7 @@ class _Player:
 
 def play(link: Link, programs: Iterable[Waiting], until: int = LATEST) -> None:
     """Runs generators until they end, or until time `until` (ns). A generator yields the time (ns) until which it waits. It continues
-    then, or after the first event, and is sent the events of all packets since."""
+    then, or after the first event, and is sent all events since."""
     players = [_Player(program) for program in programs]
     for player in players:
         player.step(None)

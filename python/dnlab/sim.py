@@ -138,7 +138,7 @@ class Loop(asyncio.BaseEventLoop):
 
     async def create_datagram_endpoint(self, protocol_factory: Callable[[], Any], local_addr: Any = None,
                                        remote_addr: Any = None, *, family: int = 0, sock: Any = None, **_: Any) -> tuple[Any, Any]:
-        """Creates an endpoint; without an address, at a free port of the current `host`. Raises `OSError`."""
+        """Creates an endpoint; without an address, at a free port of the current `dnlab.sim.host`. Raises `OSError`."""
         if sock is not None:
             raise ValueError("a real socket can't be used in simulated time")
         if family not in (0, socket.AF_INET):
@@ -184,7 +184,7 @@ def run(main: Coroutine[Any, Any, _Result], *, link: Link, hold: int = 1, names:
         has_clocks: bool = True) -> _Result:
     """Runs a coroutine and returns its result, like `asyncio.run`.
 
-    link        a link with its rules and pipes; it isn't ended
+    link        a link with its rules and pipes, which the call doesn't end
     hold        as in `Link.until_mine`
     names       the addresses of names: {"server": "10.0.1.1"}
     has_clocks  whether to use `clocks`

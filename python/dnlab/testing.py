@@ -27,10 +27,10 @@ from dnlab.errors import InputError
 
 def expecting(report: Report, *bounds: Union[str, Path], allow: Union[str, Sequence[str]] = (), begin: int = 0,
               end: Optional[int] = None, names: Optional[Mapping[str, str]] = None) -> None:
-    """Fails unless all bounds hold, no command was refused and no steps were spent.
+    """Fails unless all bounds hold, no command was refused and no experiment used up its steps.
 
     bounds  each a text, or a file of them (docs/reference/tools.md)
-    allow   what is not a failure, as `refused`
+    allow   what is not a failure, such as `refused`
     begin, end, names  as in `Report.summary`
 
     Raises `InputError` for an invalid bound, and if there is nothing to judge."""

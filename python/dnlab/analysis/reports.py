@@ -107,9 +107,9 @@ class Report(Mapping[str, "Experiment"]):
     def summary(self, percentiles: Sequence[Percentile] = PERCENTILES, of: Sequence[str] = (),
                 experiments: Sequence[str] = (), workers: Optional[int] = None, begin: int = 0,
                 end: Optional[int] = None, names: Optional[Mapping[str, str]] = None) -> "pd.DataFrame":
-        """Returns the rows of all `experiments`, or of some, like `Experiment.summary`. Long reports are read by several processes.
+        """Returns the rows of `Experiment.summary`, for all experiments or those named. Several processes read long reports.
 
-        `of` selects rows by name, as "train *". `names` replaces those of `read`."""
+        `of` selects rows by name, such as "train *". `names` replaces those of `read`."""
         from dnlab.analysis import frames
         from dnlab.analysis.summing import summed
 
@@ -122,7 +122,7 @@ class Report(Mapping[str, "Experiment"]):
 
 
 def read(report: Union[str, Path], scenario: Names = (), names: Optional[Mapping[str, str]] = None) -> Report:
-    """Opens a report, with its scenario or scenarios if there are any.
+    """Opens a report, with its scenario or scenarios if you pass any.
 
     names  names for senders of injected packets, by address or address:port: {"10.0.0.1:1000": "mine"}
 

@@ -66,7 +66,7 @@ class Experiment:
 
     @property
     def warnings(self) -> str:
-        """Returns the warnings of all its rows (docs/reference/tools.md), separated by spaces."""
+        """Returns the warnings of all summary rows (docs/reference/tools.md), separated by spaces."""
         return self.view.marks()
 
     @property
@@ -105,7 +105,7 @@ class Experiment:
 
     def summary(self, percentiles: Sequence[Percentile] = PERCENTILES, begin: int = 0,
                 end: Optional[int] = None) -> pd.DataFrame:
-        """Returns the rows of a summary (docs/reference/tools.md), for what happened from `begin` on and before `end` (ns)."""
+        """Returns the rows of a summary (docs/reference/tools.md), from `begin` until before `end` (ns)."""
         span = span_of(begin, end)
         return frames.of_rows(Tables(self.view, percentiles, self.varied, span=span).rows(), columns_of(percentiles, span))
 
@@ -116,12 +116,12 @@ class Experiment:
         return frames.of_rows(rows, list(rows[0]) if rows else ["experiment", "sender", "begin", "end"])
 
     def losses(self) -> pd.DataFrame:
-        """Returns drops by sender, cause and queue (<NA> if unknown): sender, cause, queue, packets."""
+        """Returns a row per kind of drop: sender, cause, queue (<NA> if unknown), packets."""
         return frames.of_rows(losses(self.view), ["experiment", "sender", "cause", "queue", "packets"])
 
     def plot(self, what: Sequence[str] = ("window", "queue", "sojourn", "delivered", "drops"), acks: bool = False,
              effective: bool = False, **design: Any) -> Any:
-        """Returns a matplotlib figure with a panel for each of `what`. The others are options of `tools/plot`, such as `title`,
+        """Returns a matplotlib figure with a panel for each of `what`. Others are options of `tools/plot`, such as `title`,
         `labels`, `size` (inches), `font`, `style` and `legend`."""
         from dnlab.plot import pictures
         from dnlab.plot.design import Design
@@ -130,8 +130,8 @@ class Experiment:
 
 
 def intervals(rows: pd.DataFrame, by: Union[str, Sequence[str]], columns: Union[str, Sequence[str]]) -> pd.DataFrame:
-    """Returns the number of values (`n`), the `mean`, and the half-width of its 95 % confidence interval (`ci95`, Student's t) of each
-    of `columns`, for each group of rows that agree in `by`, in the order of their first rows."""
+    """Returns, for each group of rows that agree in `by`, in the order of their first rows, the number of values (`n`) of each of
+    `columns`, their `mean`, and the half-width of its 95 % confidence interval (`ci95`, Student's t)."""
     keys = [by] if isinstance(by, str) else list(by)
     wanted = [columns] if isinstance(columns, str) else list(columns)
     found: dict[Any, dict[tuple[str, str], Any]] = {}

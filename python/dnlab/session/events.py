@@ -23,7 +23,7 @@ class LineRejectedError(InputError):
 
 
 class CommandRefusedError(InputError):
-    """A command was refused, and only the transcript changed. Has `line`, and `code` (docs/reference/faults.md)."""
+    """A command was refused; only the transcript changed. Has `line`, and `code` (docs/reference/faults.md)."""
 
     def __init__(self, code: int, line: str) -> None:
         super().__init__(f"refused {code}: {line} (docs/reference/faults.md says what each code means)")
@@ -41,8 +41,8 @@ class ExperimentEndedError(Exception):
 
 @dataclass(slots=True, eq=False)
 class Packet:
-    """A packet of `size` bytes that was sent at `sent` (ns). `payload` stays in your program. `number` is the serial number, -1 until the
-    program has replied."""
+    """A packet of `size` bytes that was sent at `sent` (ns). `payload` stays in your program. `number` is the serial number, -1 until
+    `dnlab` has replied."""
     source: Address
     target: Address
     size: int

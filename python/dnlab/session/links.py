@@ -54,8 +54,8 @@ class Link:
 
     def send(self, source: Address, target: Address, size: int, payload: Any = None, protocol: str = "udp",
              at: Optional[int] = None) -> Packet:
-        """Sends a packet of 40 to 1500 bytes, headers included, with the next call that needs a reply. Raises `ValueError` if it is
-        invalid."""
+        """Queues a packet of 40 to 1500 bytes, headers included; the next call that needs a reply sends it. Raises `ValueError` if it
+        is invalid."""
         if not LEAST_SIZE <= size <= MOST_SIZE:
             raise ValueError(f"a packet has {LEAST_SIZE} to {MOST_SIZE} bytes, not {size}")
         header = header_of(protocol, source, target)
@@ -69,8 +69,8 @@ class Link:
         return self._pass(f"#> until @{self._later(moment)}")
 
     def until_mine(self, moment: int = LATEST, hold: int = 1) -> list[Event]:
-        """Like `until`, but at most to `hold` ns after the first of these events, so that you can react. A packet that is dropped on
-        sending doesn't stop time."""
+        """Like `until`, but stops at most `hold` ns after the first of these deliveries or drops, so that you can react. A packet that
+        is dropped when sent doesn't stop time."""
         self._later(moment)
         if self._events:
             # A command at a later time produced events: time stands still until the program has seen them.
@@ -100,7 +100,7 @@ class Link:
         return self._next
 
     def end(self, at: Optional[int] = None) -> list[Event]:
-        """Ends the experiment, also one whose steps are spent, and returns the events since the last call."""
+        """Ends the experiment, even if its steps are spent, and returns the events since the last call."""
         if at is not None:
             self.now = max(at, self.now) if self.is_over else self._later(at)
         self._session.post(self, f"@{self.now} end")
@@ -123,7 +123,7 @@ class Link:
         return _kept(self._report, "report")
 
     def save(self, scenario: Union[str, Path], report: Union[str, Path, None] = None) -> None:
-        """Writes the transcript, and the report if named."""
+        """Writes the transcript, and the report if you name a file."""
         with whole_file(scenario) as file:
             file.write(self.transcript().encode())
         if report is not None:

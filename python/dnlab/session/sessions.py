@@ -29,7 +29,7 @@ _MOST_GATHERED = 1 << 15
 
 
 class Session:
-    """A running program or library, with experiments. It ends with its block, also after an exception."""
+    """A running program or library, with experiments. It ends with its block, even after an exception."""
 
     def __init__(self, dnlab: Optional[str] = None, engine: str = "process") -> None:
         self._talk = _spoken(dnlab, engine)
@@ -47,7 +47,7 @@ class Session:
                    report: Optional[IO[bytes]] = None) -> Link:
         """Starts an experiment (docs/reference/scenario.md has the ranges).
 
-        show                "mine" reads only lines about packets that are sent, which is faster
+        show                "mine" reads only lines about your own packets, which is faster
         transcript, report  files for them, instead of memory
 
         Raises `LineRejectedError` if an argument is invalid."""
@@ -159,5 +159,5 @@ def live(dnlab: Optional[str] = None, engine: str = "process") -> Session:
     dnlab   the program; by default that of `dnlab.programs.program`
     engine  "process" starts the program; "library" calls libdnlab in this process
 
-    Raises `ProgramError` if there is none."""
+    Raises `ProgramError` if there is no program."""
     return Session(dnlab, engine)

@@ -26,10 +26,10 @@ def run(text: Union[str, bytes, Path], workers: int = 1, moves: Optional[int] = 
         names: Optional[Mapping[str, str]] = None) -> Report:
     """Runs a scenario and returns its report.
 
-    text           the scenario, or the path of its file, plain or gzip (a str of one line is a path). It is run in parts if it is too large
-                   for the program
+    text           the scenario, or the path of its file, plain or gzip (a str of one line is a path). One too large for the
+                   program is run in parts
     workers        the number of threads that run its experiments, 1 to 16
-    moves          after how many turns a thread offers an experiment to the others
+    moves          after how many steps a thread offers an experiment to the others
     out            the report's file; OUT.json, next to it, records what made it. By default a temporary file
     dnlab, engine  as in `live`; the library takes no workers or moves
     names          as in `read`

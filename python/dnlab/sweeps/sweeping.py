@@ -45,8 +45,8 @@ class Sweep(Swept):
     kept      the file that caches results; by default memory
     workers   the number of processes; by default all cores
     on        other machines: `slurm`, `dask:ADDRESS` of a scheduler, or the form of `dnlab-spread --ssh`
-    there     the program's path on them
-    parts     the number of parts; by default of about a minute each
+    there     the program's path on these machines
+    parts     how many parts they get; by default of about a minute each
     dnlab     as in `live`
     anew      whether to ignore cached results
     allow     which of `refused` and `spent` don't raise `InputError`
@@ -265,12 +265,12 @@ def sweep(template: Union[str, Path], *, seed: Union[int, Iterable[int]] = 1, of
     """Runs a template with each setting and each seed: `dnlab.sweep("link.tmpl", queue=[10, 50], seed=range(30)).table()`.
 
     template  the path of a Jinja2 template, or its text
-    settings  settings whose names are parameters here
+    settings  settings named like a parameter of `sweep`
     of, stat  senders and statistics: `of="train 9", stat=["delay.p95", "lost"]`, or of={"train 9": ["delay.p95"], ..}
     begin, end  as in `Experiment.summary`
     kept, workers, on, dnlab, allow  as in `Sweep`
 
-    Settings and seeds are values or lists, statistics names or functions (docs/howto/sweeps.md). Raises `InputError` for faults in the
+    Settings and seeds are values or lists; statistics are names or functions (docs/howto/sweeps.md). Raises `InputError` for faults in the
     template and in its scenarios."""
     every = {name: [value] if isinstance(value, (str, int, float)) else list(value)
              for name, value in {**settings, **grid}.items()}
