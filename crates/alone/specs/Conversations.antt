@@ -1,4 +1,4 @@
--- The conversation of a text: what a session writes for it, line by line, and how it ends (our choice).
+-- The conversation for a text: what a session writes, line by line, and how it ends (our choice).
 use Rattle.std.specs.Prelude.{◌≡◌, ◌≢◌, ℕ, ◌+◌, ◌-◌, ◌^◌, ◌<◌, ◌≤◌, ◌⊎◌, min, Bool, true, false, All, List, [], ◌∷◌, ◌++◌, length, take, Option, Some, None, Result, Ok, Err}
 use Rattle.std.specs.Io.KnownBytes.{Appends, IsAtEnd}
 use Rattle.control.specs.declared.fault.Cause.{Cause}
@@ -15,30 +15,30 @@ use Rattle.alone.specs.declared.fault.RunFault.TheVariants as faults
 use Rattle.alone.specs.Bytes.{IsCut}
 
 -- ---- a line
--- which texts may be the hint for a line and its fault
+-- the texts that may be the hint for a line and its fault
 abbrev pub Hinting : Type 1
 Hinting = List ℕ → Cause → List ℕ → Type 0
 
--- what a hint sees of a line: of one that is too long just enough to show it, since no more is kept
+-- the part of a line that a hint sees: if the line is too long, just enough to show this, since no more is stored
 abbrev pub seen_of : List ℕ → Cause → List ℕ
 seen_of line causes.TooLong = take 513 line
 seen_of line _ = line
 
--- what is written for a line that is refused: the hint's lines as comments, and then the fault
+-- the output for a rejected line: the lines of the hint as comments, and then the fault
 abbrev pub IsRefusal : Hinting → List ℕ → Cause → List ℕ → Type 0
 IsRefusal hinting line cause said = (hint : List ℕ) × hinting (seen_of line cause) cause hint × (said ≡ comment_of hint ++ answer_line (answers.Fault cause))
 
--- a line with a fault is refused, and nothing changes; any other line does what it says
+-- a line with a fault is rejected, and nothing changes; any other line is obeyed
 abbrev pub RepliesBy : Hinting → Option Cause → List ℕ → List ℕ → KeptSession → KeptSession → Type 0
 RepliesBy hinting (Some cause) line said old new = IsRefusal hinting line cause said × (new ≡ old)
 RepliesBy hinting None line said old new = LineDoes line said old new
 
--- what is written for a line
+-- the output for a line
 abbrev pub Replies : Hinting → List ℕ → List ℕ → KeptSession → KeptSession → Type 0
 Replies hinting line said old new = (fault : Option Cause) × IsFaultOf line old fault × RepliesBy hinting fault line said old new
 
 -- ---- a text
--- lines before these, the latest first
+-- these lines, preceded by earlier ones, which are listed from the latest
 abbrev pub with_earlier : List (List ℕ) → List (List ℕ) → List (List ℕ)
 with_earlier [] ls = ls
 with_earlier (line ∷ done) ls = with_earlier done (line ∷ ls)
@@ -47,23 +47,23 @@ with_earlier (line ∷ done) ls = with_earlier done (line ∷ ls)
 abbrev pub nobody : KeptSession
 nobody = record { opened = []; current = 0 }
 
--- what is written for lines, the latest first, and the session after them
+-- the output for lines, which are listed from the latest, and the session after them
 abbrev pub AreReplied : Hinting → List (List ℕ) → List ℕ → KeptSession → Type 0
 AreReplied hinting [] said now = (said ≡ []) × (now ≡ nobody)
 AreReplied hinting (line ∷ done) said now =
     (first more : List ℕ) × (before : KeptSession) × (said ≡ first ++ more) × AreReplied hinting done first before × Replies hinting line more before now
 
--- what is written for bytes after the last line feed: nothing, unless they are too long for a line already
+-- the output for the bytes after the last line feed: nothing, unless they are already too long for a line
 abbrev pub IsAwaited : Hinting → List ℕ → List ℕ → Type 0
 IsAwaited hinting last said = ((length last ≤ 512) × (said ≡ [])) ⊎ ((512 < length last) × IsRefusal hinting last causes.TooLong said)
 
--- what is written for a text
+-- the output for a text
 pub record Conversation (hinting : Hinting) (text said : List ℕ) : Type 0 where
-  -- its lines, the latest first, and the bytes after the last line feed
+  -- its lines, from the latest, and the bytes after the last line feed
   pub done : List (List ℕ)
   pub last : List ℕ
   pub lines_are : lines text ≡ with_earlier done (last ∷ [])
-  -- what is written for the lines, the session after them, and what is written for the last bytes
+  -- the output for the lines, the session after them, and the output for the last bytes
   pub first : List ℕ
   pub now : KeptSession
   pub replied : AreReplied hinting done first now
@@ -71,8 +71,8 @@ pub record Conversation (hinting : Hinting) (text said : List ℕ) : Type 0 wher
   pub awaited : IsAwaited hinting last more
   pub said_is : said ≡ first ++ more
 
--- ---- how it ends
--- one line more; a count that would not fit into 64 bits stays
+-- ---- the end of a conversation
+-- one more line; a count that would not fit into 64 bits does not change
 abbrev pub next_line : ℕ → ℕ
 next_line n = min (n + 1) (2 ^ 64 - 1)
 
@@ -83,24 +83,24 @@ count_of (line ∷ done) = next_line (count_of done)
 abbrev pub AreClosed : KeptSession → Type 0
 AreClosed s = All (λ o. o.is_closed ≡ true) s.opened
 
--- the line after the last line feed is at fault: it is cut, or an experiment has no end
+-- the fault is after the last line feed: the line is cut, or an experiment has no end
 abbrev pub EndsBy : Cause → List ℕ → KeptSession → Type 0
 EndsBy cause last s = ((cause ≡ causes.Cut) × (last ≢ [])) ⊎ ((cause ≡ causes.NoEnd) × (last ≡ []) × (¬ AreClosed s))
 
--- the text ends well, or with this fault
+-- the text ends without a fault, or with this one
 abbrev pub Concludes : Option Fault → {hinting : Hinting} → {text said : List ℕ} → Conversation hinting text said → Type 0
 Concludes None c = (c.last ≡ []) × AreClosed c.now
 Concludes (Some f) c = (f.line ≡ next_line (count_of c.done)) × EndsBy f.cause c.last c.now
 
--- the text ends so, and its whole conversation was written
+-- the text ends in this way, and its whole conversation was written
 abbrev pub WritesWhole : Hinting → List ℕ → Option Fault → Option (List ℕ) → Option (List ℕ) → Type 0
 WritesWhole hinting text fault old new = (said : List ℕ) × (c : Conversation hinting text said) × Concludes fault c × Appends old new said
 
--- the first bytes of the conversation of the text's beginning were written
+-- a prefix was written of the conversation for a prefix of the text
 abbrev pub WritesSome : Hinting → List ℕ → Option (List ℕ) → Option (List ℕ) → Type 0
 WritesSome hinting text old new = (heard rest said : List ℕ) × (text ≡ heard ++ rest) × Conversation hinting heard said × IsCut old new said
 
--- what a session wrote for the text that it read, by its answer: `old` was written before it and `new` is after it
+-- what a session wrote for the text that it read, by its result: `old` was written before it and `new` is after it
 abbrev pub Converses : Hinting → List ℕ → Option (List ℕ) → Option (List ℕ) → Result (Unit {0}) RunFault → Type 0
 Converses hinting text old new (Ok _) = WritesWhole hinting text None old new
 Converses hinting text old new (Err (faults.Scenario f)) = WritesWhole hinting text (Some f) old new
@@ -110,13 +110,13 @@ Converses hinting text old new (Err faults.Memory) = WritesSome hinting text old
 Converses hinting text old new (Err faults.Strange) = ⊥
 Converses hinting text old new (Err faults.Gate) = ⊥
 
--- a session that answers so has read up to the reader's end
+-- the results with which a session has read to the end of the input
 abbrev pub IsEnded : Result (Unit {0}) RunFault → Type 0
 IsEnded (Ok _) = Unit {0}
 IsEnded (Err (faults.Scenario f)) = Unit {0}
 IsEnded (Err _) = ⊥
 
--- the reader after it: at its end; failed, or it gave so many bytes that nobody lives to see it; or it didn't fail
+-- the reader after a session: at its end; failed, or after so many bytes that nobody lives to see it; or not failed
 abbrev pub Leaves : List ℕ → Option (List ℕ) → Bool → Result (Unit {0}) RunFault → Type 0
 Leaves text rest failed (Ok _) = IsAtEnd rest × (failed ≡ false)
 Leaves text rest failed (Err (faults.Scenario f)) = IsAtEnd rest × (failed ≡ false)

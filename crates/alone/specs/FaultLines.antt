@@ -1,4 +1,4 @@
--- The line that is said of a fault.
+-- The line for a fault.
 use Rattle.std.specs.Prelude.{◌≡◌, ℕ, Bool, false, List, ◌++◌, codes, decimal, Option}
 use Rattle.std.specs.Io.KnownBytes.{Appends}
 use Rattle.control.specs.declared.fault.Fault.{Fault}
@@ -18,7 +18,7 @@ fault_line faults.Memory = codes "memory\n"
 fault_line faults.Strange = codes "strange\n"
 fault_line faults.Gate = codes "gate\n"
 
--- a text was written to who can fail: some first bytes of it, and all of it unless it has failed
+-- a text was given to a writer that can fail: it wrote a prefix of the text, and the whole text unless it has failed
 pub record IsSaid (text : List ℕ) (old new : Option (List ℕ)) (failed : Bool) : Type 0 where
   pub some : IsCut old new text
   pub all : failed ≡ false → Appends old new text

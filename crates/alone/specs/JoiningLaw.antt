@@ -5,8 +5,8 @@ use Rattle.control.specs.declared.scenario.Experiment.{Experiment}
 use Rattle.control.specs.Scenario.{Spells}
 use Rattle.alone.specs.Reports.{reports}
 
--- Where each of some texts spells a scenario by itself, and all of them, one after the other, spell one too, that one
--- is theirs, one after the other, and its report is their reports.
+-- If each of several texts spells a scenario by itself, and their concatenation spells one too, then that scenario is the
+-- concatenation of theirs, and its report is the concatenation of their reports.
 abbrev pub ReportsJoin : Type 0
 ReportsJoin = (texts : List (List ℕ)) (scenarios : List (List Experiment)) (all : List Experiment) →
     AllZip Spells texts scenarios → Spells (flat_map (λ text. text) texts) all →

@@ -10,21 +10,21 @@ use Rattle.alone.specs.declared.fault.RunFault.TheVariants as faults
 use Rattle.alone.specs.declared.whole.Tally.{Tally}
 use Rattle.alone.specs.Bytes.{IsCut, TakesFew}
 
--- an experiment by itself, after all steps of its budget
+-- the trace of an experiment that runs alone, after all steps of its budget
 abbrev pub trace_alone : Experiment → Trace
 trace_alone e = trace_of (alone e.spec e.commands e.spec.budget.steps)
 
 abbrev pub report_with : Experiment → Trace → List ℕ
 report_with e t = report_of e.name t.records t.counters
 
--- the report of an experiment that runs by itself, and those of all, in their order
+-- the report of an experiment that runs alone, and the reports of several, in their order
 abbrev pub report_alone : Experiment → List ℕ
 report_alone e = report_with e (trace_alone e)
 
 abbrev pub reports : List Experiment → List ℕ
 reports es = flat_map report_alone es
 
--- how many experiments and commands there are, and the line of `check` for that
+-- the numbers of experiments and commands, and the line that `check` writes for them
 abbrev pub tally_of : List Experiment → Tally
 tally_of es = record { experiments = length es; commands = sum (map (λ e. length e.commands) es) }
 
@@ -34,15 +34,15 @@ tally_line t = codes "ok " ++ decimal t.experiments ++ codes " " ++ decimal t.co
 abbrev pub tally : List Experiment → List ℕ
 tally es = tally_line (tally_of es)
 
--- the text that was read spells a scenario, of which this is written
+-- the text that was read spells a scenario, and what `says` returns for it was written
 abbrev pub Writes : (List Experiment → List ℕ) → Option (List ℕ) → Option (List ℕ) → Option (List ℕ) → Type 0
 Writes says read old new = (es : List Experiment) × IfSome read (λ text. Spells text es) × Appends old new (says es)
 
--- some first bytes of that
+-- like `Writes`, with a prefix written
 abbrev pub WritesCut : (List Experiment → List ℕ) → Option (List ℕ) → Option (List ℕ) → Option (List ℕ) → Type 0
 WritesCut says read old new = (es : List Experiment) × IfSome read (λ text. Spells text es) × IsCut old new (says es)
 
--- a call that reads a scenario and writes what a function says of it: `read` was left to read, `old` was
+-- a call that reads a scenario and writes what `says` returns for it: `read` was left to read, `old` was
 -- written before it and `new` is after it
 abbrev pub Calls : (List Experiment → List ℕ) → Option (List ℕ) → Option (List ℕ) → Option (List ℕ) → Result (Unit {0}) RunFault → Type 0
 Calls says read old new (Ok _) = Writes says read old new
@@ -53,33 +53,32 @@ Calls says read old new (Err faults.Memory) = Keeps old new
 Calls says read old new (Err faults.Strange) = Keeps old new
 Calls says read old new (Err faults.Gate) = Keeps old new
 
--- whether the reader has failed after a call that answers this
+-- whether the reader has failed after a call with this result
 abbrev pub reader_failed : {T : Type 0} → Result T RunFault → Bool
 reader_failed (Err faults.Read) = true
 reader_failed _ = false
 
--- whether the writer has, which had failed before or not; it is reached by these two answers alone
+-- whether the writer has failed after a call with this result; `old` is whether it had failed before
 abbrev pub writer_failed : {T : Type 0} → Bool → Result T RunFault → Bool
 writer_failed old (Ok _) = false
 writer_failed old (Err faults.Write) = true
 writer_failed old (Err _) = old
 
--- what a call leaves of its reader and its writer, whose words these are before it and after it: it took few bytes
--- past the longest text, each has failed just where the answer says so, and the writer is as it was but for what was
--- written
+-- what a call does to its reader and writer: it reads at most one byte past the longest text, each has failed exactly if
+-- the result shows it, and the writer is unchanged after any fault other than `Write`
 pub record Ends {A : Type 0} (result : Result (Unit {0}) RunFault) (unread rest : Option (List ℕ)) (reading writing written : Bool) (before after : A) : Type 0 where
   pub taken : TakesFew unread rest
   pub read : reading ≡ reader_failed result
   pub write : written ≡ writer_failed writing result
   pub untouched : IfErr result (λ e. e ≢ faults.Write → after ≡ before)
 
--- a fault of reading alone
+-- the faults that can occur while a text is read
 abbrev pub IsInputFault : RunFault → Type 0
 IsInputFault faults.Read = Unit {0}
 IsInputFault faults.Memory = Unit {0}
 IsInputFault _ = ⊥
 
--- what was read of a text spells these experiments
+-- the text that was read spells these experiments
 abbrev pub Reads : Option (List ℕ) → List Experiment → Type 0
 Reads read es = IfSome read (λ text. Spells text es)
 
@@ -91,13 +90,13 @@ ReadsFault read faults.Memory = Unit {0}
 ReadsFault read faults.Strange = ⊥
 ReadsFault read faults.Gate = ⊥
 
--- what a text may fail of by itself: it has this fault, or memory was refused
+-- the faults that a text can have by itself: the fault of its scenario, or a failed allocation
 abbrev pub IsTextFault : List ℕ → RunFault → Type 0
 IsTextFault text (faults.Scenario f) = HasFault text f
 IsTextFault text faults.Memory = Unit {0}
 IsTextFault text _ = ⊥
 
--- a fault that has nothing to do with workers
+-- the faults that do not involve workers
 abbrev pub IsOwnFault : RunFault → Type 0
 IsOwnFault faults.Strange = ⊥
 IsOwnFault faults.Gate = ⊥

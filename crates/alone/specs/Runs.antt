@@ -1,11 +1,11 @@
--- What making events until nothing more can be done does to an experiment.
+-- The effect of processing an experiment's events until nothing more can be done.
 use Rattle.std.specs.Prelude.{◌≡◌, ℕ, ◌⊎◌, ◌≤◌, List, [], ◌++◌, None, IsSome}
 use Rattle.emu_model.specs.declared.commands.Timed.{Timed}
 use Rattle.packet_store.specs.Pocket.{Pocket}
 use Rattle.experiment.specs.Kept.{KeptExperiment, IsHousedIn, shown_ending}
 use Rattle.experiment.specs.Written.{Written, IsWritten}
 
--- it has ended, or wants its next command
+-- the experiment has ended, or waits for its next command
 abbrev pub IsAtRest : KeptExperiment → Type 0
 IsAtRest e = IsSome (shown_ending e.ending) ⊎ ((e.ending ≡ None) × (e.next ≡ None))
 
@@ -17,18 +17,18 @@ pub record Advances (was : Written) (p : Pocket) (old : KeptExperiment) (is : Wr
   pub consumed : new.consumed ≡ old.consumed
   pub few : new.steps ≤ new.spec.budget.steps
 
--- no command came yet
+-- no command has arrived yet
 pub record IsNew (e : KeptExperiment) : Type 0 where
   pub ending : e.ending ≡ None
   pub next : e.next ≡ None
   pub consumed : e.consumed ≡ []
   pub steps : e.steps ≡ 0
 
--- it has ended before these commands, or has taken all and there are none
+-- the experiment has ended before these commands, or has taken all and none are left
 abbrev pub IsOver : KeptExperiment → List Timed → Type 0
 IsOver e rest = IsSome (shown_ending e.ending) ⊎ ((e.next ≡ None) × (rest ≡ []))
 
--- it was given the commands, but for those after its end
+-- the experiment was given the commands, except those after its end
 pub record Plays (commands : List Timed) (was : Written) (p : Pocket) (old : KeptExperiment) (is : Written) (q : Pocket) (new : KeptExperiment) : Type 0 where
   pub housed : IsHousedIn q new
   pub written : (head : List ℕ) → IsWritten head was p old → IsWritten head is q new

@@ -1,4 +1,4 @@
--- What a call within limits does: it stops where its experiments go past one, and else does as a call without limits.
+-- The effect of a call with limits: it stops if its experiments exceed a limit, and otherwise acts as a call without limits.
 use Rattle.std.specs.Prelude.{◌≡◌, ℕ, ◌+◌, ◌<◌, ◌≤◌, List, length, map, sum, take, Option, Some, None, IfSome, Result, Ok, Err}
 use Rattle.std.specs.Io.KnownBytes.{Appends, Keeps}
 use Rattle.control.specs.declared.scenario.Experiment.{Experiment}
@@ -12,107 +12,107 @@ use Rattle.alone.specs.declared.within.Made.{Made}
 use Rattle.alone.specs.Bytes.{IsCut}
 use Rattle.alone.specs.Reports.{report_alone, reports, IsOwnFault, Reads}
 
--- the steps that experiments may take, added up
+-- the sum of the steps that experiments may take
 abbrev pub steps_of : List Experiment → ℕ
 steps_of es = sum (map (λ e. e.spec.budget.steps) es)
 
--- there is no limit, or so much is within it
+-- there is no limit, or `n` is within it
 abbrev pub IsWithin : Option ℕ → ℕ → Type 0
 IsWithin limit n = IfSome limit (λ most. n ≤ most)
 
--- there is a limit, and so much is past it
+-- there is a limit, and `n` exceeds it
 abbrev pub IsPast : Option ℕ → ℕ → Type 0
 IsPast None n = ⊥
 IsPast (Some most) n = most < n
 
--- the experiment with this number, from 0, is the first with which the steps go past the limit; all have this total
+-- the experiment with this number, from 0, is the first with which the steps exceed the limit; `total` is the sum of all
 pub record PassesSteps (limits : Limits) (es : List Experiment) (number total : ℕ) : Type 0 where
   pub before : IsWithin limits.steps (steps_of (take number es))
   pub past : IsPast limits.steps (steps_of (take (number + 1) es))
   pub summed : total ≡ steps_of es
 
--- the steps are within the limit, and the reports have so many bytes, which are past theirs
+-- the steps are within their limit, and the reports have this many bytes, which exceed theirs
 pub record PassesOutput (limits : Limits) (es : List Experiment) (bytes : ℕ) : Type 0 where
   pub steps : IsWithin limits.steps (steps_of es)
   pub output : IsPast limits.output bytes
   pub counted : bytes ≡ length (reports es)
 
--- both are within their limits
+-- the steps and the reports are within their limits
 pub record Fits (limits : Limits) (es : List Experiment) : Type 0 where
   pub steps : IsWithin limits.steps (steps_of es)
   pub output : IsWithin limits.output (length (reports es))
 
--- the steps of experiments go past the limit
+-- a stop because the steps of experiments exceed the limit
 abbrev pub IsStepsStop : Limits → List Experiment → Stop → Type 0
 IsStepsStop limits es (stops.Fault e) = ⊥
 IsStepsStop limits es (stops.Steps number total) = PassesSteps limits es number total
 IsStepsStop limits es (stops.Output bytes) = ⊥
 
--- so many bytes go past a limit, or there was no memory to count them
+-- a stop because this many bytes exceed a limit, or because there was no memory to count them
 abbrev pub IsOutputStop : Option ℕ → ℕ → Stop → Type 0
 IsOutputStop limit n (stops.Fault e) = e ≡ faults.Memory
 IsOutputStop limit n (stops.Steps number total) = ⊥
 IsOutputStop limit n (stops.Output bytes) = IsPast limit n × (bytes ≡ n)
 
--- what was read spells experiments that fit, and these are their reports
+-- the text that was read spells experiments that fit, and these are their reports
 abbrev pub MakesWithin : Limits → Option (List ℕ) → List ℕ → Type 0
 MakesWithin limits read text = (es : List Experiment) × Reads read es × Fits limits es × (text ≡ reports es)
 
--- what was read spells this scenario, and these are the reports of its experiments
+-- the text that was read spells this scenario, and these are the reports of its experiments
 pub record IsMade (read : Option (List ℕ)) (m : Made) : Type 0 where
   pub spelled : Reads read m.scenario
   pub each : m.reports.items ≡ map report_alone m.scenario
 
--- a fault of a call that wrote nothing
+-- the faults of a call that wrote nothing
 abbrev pub FailsUnwritten : Option (List ℕ) → RunFault → Type 0
 FailsUnwritten read (faults.Scenario f) = IfSome read (λ text. HasFault text f)
 FailsUnwritten read faults.Write = ⊥
 FailsUnwritten read _ = Unit {0}
 
--- why a call stops before it writes: such a fault, or the experiments that were read go past a limit
+-- why a call stops before it writes: such a fault, or experiments that exceed a limit
 abbrev pub StopsUnwritten : Limits → Option (List ℕ) → Stop → Type 0
 StopsUnwritten limits read (stops.Fault e) = FailsUnwritten read e
 StopsUnwritten limits read (stops.Steps number total) = (es : List Experiment) × Reads read es × PassesSteps limits es number total
 StopsUnwritten limits read (stops.Output bytes) = (es : List Experiment) × Reads read es × PassesOutput limits es bytes
 
--- a call that stops: only where the writer fails it has written, and then the beginning of reports that fit
+-- a call that stops: it has written only if the writer failed, and then a prefix of reports that fit
 abbrev pub StopsWithin : Limits → Option (List ℕ) → Option (List ℕ) → Option (List ℕ) → Stop → Type 0
 StopsWithin limits read old new (stops.Fault faults.Write) = (es : List Experiment) × Reads read es × Fits limits es × IsCut old new (reports es)
 StopsWithin limits read old new s = StopsUnwritten limits read s × Keeps old new
 
--- a call that reads a scenario and writes its reports, if both fit: `read` was left to read, `old` was written before it
--- and `new` is after it
+-- a call that reads a scenario and writes its reports if they are within the limits: `read` was left to read, `old` was
+-- written before it and `new` is after it
 abbrev pub CallsWithin : Limits → Option (List ℕ) → Option (List ℕ) → Option (List ℕ) → Result (Unit {0}) Stop → Type 0
 CallsWithin limits read old new (Ok _) = (es : List Experiment) × Reads read es × Fits limits es × Appends old new (reports es)
 CallsWithin limits read old new (Err s) = StopsWithin limits read old new s
 
--- a text was written; its beginning, if the writer fails; and nothing, if memory was refused
+-- a text was written; a prefix of it if the writer failed, and nothing if memory ran out
 abbrev pub WritesOut : Option (List ℕ) → Option (List ℕ) → List ℕ → Result (Unit {0}) Stop → Type 0
 WritesOut old new text (Ok _) = Appends old new text
 WritesOut old new text (Err (stops.Fault faults.Write)) = IsCut old new text
 WritesOut old new text (Err (stops.Fault faults.Memory)) = Keeps old new
 WritesOut old new text (Err _) = ⊥
 
--- a call went well, or stopped so
+-- the result of a call, without its value
 abbrev pub done_of : {T : Type 0} → Result T Stop → Result (Unit {0}) Stop
 done_of (Ok x) = Ok tt
 done_of (Err s) = Err s
 
--- no limit stopped it
+-- no limit stopped the call
 abbrev pub IsUnlimited : Result (Unit {0}) Stop → Type 0
 IsUnlimited (Ok _) = Unit {0}
 IsUnlimited (Err (stops.Fault e)) = Unit {0}
 IsUnlimited (Err (stops.Steps number total)) = ⊥
 IsUnlimited (Err (stops.Output bytes)) = ⊥
 
--- a stop leaves reader and writer as want of memory does
+-- a stop by a limit leaves the reader and the writer as a failed allocation does
 abbrev pub leaves : {T : Type 0} → Result T Stop → Result T RunFault
 leaves (Ok x) = Ok x
 leaves (Err (stops.Fault e)) = Err e
 leaves (Err (stops.Steps number total)) = Err faults.Memory
 leaves (Err (stops.Output bytes)) = Err faults.Memory
 
--- a stop that has nothing to do with workers
+-- the stops that do not involve workers
 abbrev pub IsOwnStop : Stop → Type 0
 IsOwnStop (stops.Fault e) = IsOwnFault e
 IsOwnStop (stops.Steps number total) = Unit {0}

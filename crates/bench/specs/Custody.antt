@@ -1,4 +1,4 @@
--- What a deque holds is what was pushed and not taken, and who came to a bench is there or went.
+-- A deque holds what was pushed and not taken, and each parcel that came to a bench is there or has left it.
 use Rattle.std.specs.Prelude.{◌≡◌, ◌+◌, ◌==◌, ◌<◌, ◌≤◌, ℕ, List, [], map, cond, Option, Some, None, slice_index_or}
 use Rattle.std.specs.List.{sum_by}
 use Rattle.shard.specs.Stand.{Stand, Seat}
@@ -6,7 +6,7 @@ use Rattle.bench.specs.declared.mail.RingMail.{RingMail}
 use Rattle.bench.specs.declared.hand.Stamp.{Stamp}
 use Rattle.bench.specs.declared.hand.Hand.{Hand}
 
--- what stays of an experiment while it moves
+-- the part of an experiment that does not change while it moves
 abbrev pub stamp : Stand RingMail → Stamp
 stamp p = record { name = p.name; spec = p.spec; consumed = p.consumed; events = p.state.steps }
 
@@ -16,21 +16,22 @@ stamps parcels = map stamp parcels
 abbrev pub hand : List Stamp → List Stamp → Hand
 hand pushed taken = record { pushed = pushed; taken = taken }
 
--- however stamps are weighed, the pushes are the takes and what is held. Only the owner, at place 0, has pushed
+-- whatever the weight of each stamp, the pushed ones weigh as much as those taken and those held; only the owner, at
+-- place 0, has pushed
 abbrev pub Balanced : List (Stand RingMail) → List Hand → Type 0
 Balanced items views =
     ((h : Stamp → ℕ) → sum_by (λ (v : Hand). sum_by h v.pushed) views ≡ sum_by (λ (v : Hand). sum_by h v.taken) views + sum_by h (stamps items))
     × ((k : ℕ) → 0 < k → (slice_index_or views k (hand [] [])).pushed ≡ [])
 
--- however stamps are weighed, no more was taken than pushed
+-- whatever the weight of each stamp, those taken weigh no more than those pushed
 abbrev pub TookLess : Hand → Type 0
 TookLess v = (h : Stamp → ℕ) → sum_by h v.taken ≤ sum_by h v.pushed
 
--- how often x stands in the list
+-- the number of times that x is in the list
 abbrev pub times : ℕ → List ℕ → ℕ
 times x xs = sum_by (λ y. cond (y == x) 1 0) xs
 
--- how often the list has the name x
+-- the number of stamps with the name x
 abbrev pub named : ℕ → List Stamp → ℕ
 named x ss = sum_by (λ (s : Stamp). cond (s.name == x) 1 0) ss
 
@@ -38,15 +39,15 @@ abbrev pub seat_named : ℕ → Option (Seat RingMail) → ℕ
 seat_named x None = 0
 seat_named x (Some s) = cond (s.stand.name == x) 1 0
 
--- how many residents have the name x
+-- the number of residents with the name x
 abbrev pub seated : ℕ → List (Option (Seat RingMail)) → ℕ
 seated x seats = sum_by (seat_named x) seats
 
--- the list has the residents' names, each as often as it sits there
+-- the list has the name of each resident, as often as residents have it
 abbrev pub AreResidents : List ℕ → List (Option (Seat RingMail)) → Type 0
 AreResidents names seats = (x : ℕ) → times x names ≡ seated x seats
 
--- each name that came in, or that the owner's pass took, has ended, sits there, was handed out or was pushed, as
+-- each name that came in, or that the owner's pass took, has ended, is resident, was handed out or was pushed, as
 -- often as it came
 abbrev pub Kept : List ℕ → List ℕ → List ℕ → List ℕ → List ℕ → Hand → Type 0
 Kept admitted adopted ended resident handed_out v =

@@ -1,4 +1,4 @@
--- What a tenant gets in the end.
+-- The final result of a tenant.
 use Rattle.std.specs.Prelude.{ℕ, List}
 use Rattle.emu_model.specs.declared.commands.Spec.{Spec}
 use Rattle.emu_model.specs.declared.commands.Timed.{Timed}

@@ -1,4 +1,4 @@
--- What an experiment's mail knows of its two rings.
+-- What the mail of an experiment knows of its two rings.
 use Rattle.std.specs.Prelude.{◌≡◌, ◌==◌, ℕ, List, [], length, map}
 use Rattle.emu_model.specs.declared.commands.Spec.{Spec}
 use Rattle.emu_model.specs.declared.commands.Timed.{Timed}
@@ -16,8 +16,8 @@ commands_of ps = map (λ p. p.timed) ps
 abbrev pub letters_of : List News → List Record
 letters_of ns = map (λ n. n.letter) ns
 
--- the commands that its ring gave, and the letters that its ring took. Of the far ends it knows no more than whether
--- a command or room is known
+-- the commands that its ring has delivered, and the letters that its ring has accepted; of the far ends it knows only
+-- whether a command is known to wait and whether room is known
 abbrev pub ring_seen : RingMail → Seen
 ring_seen m = record {
   given = commands_of (received m.from);
@@ -28,7 +28,7 @@ ring_seen m = record {
   full = known_free m.to == 0;
 }
 
--- one to which no command came, and whose rings are empty
+-- an experiment to which no command has come, and whose rings have delivered and accepted nothing
 pub record IsOpened (name : ℕ) (spec : Spec) (p : Stand RingMail) : Type 0 where
   pub new : p ≡ opened_stand name spec p.mail
   pub given : (ring_seen p.mail).given ≡ []

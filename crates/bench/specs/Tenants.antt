@@ -19,7 +19,7 @@ posted t = t.posted.items
 abbrev pub letters_read : Tenant → List Record
 letters_read t = t.read.items
 
--- 64 posted commands aren't known to be taken
+-- 64 posted commands are not known to be taken
 abbrev pub IsFull : Tenant → Type 0
 IsFull t = known_free t.to ≡ 0
 
@@ -30,11 +30,11 @@ NoneWaits t = known_items t.from ≡ []
 abbrev pub SameTenant : Tenant → Tenant → Type 0
 SameTenant t u = (u.name ≡ t.name) × (u.spec ≡ t.spec)
 
--- no end was posted, and the command is neither too late nor too early
+-- no `end` was posted, and the command is neither too late nor too early
 abbrev pub MayPost : List Timed → Timed → Type 0
 MayPost ts c = (has_end ts ≡ false) × (c.moment ≤ 10 ^ 15) × (last_moment 0 ts ≤ c.moment)
 
--- the cause holds, and none before it
+-- the reason applies, and none before it does
 abbrev pub PostFails : PostError → Tenant → Tenant → Timed → Type 0
 PostFails Closed t u c = has_end (posted t) ≡ true
 PostFails TooLate t u c = (has_end (posted t) ≡ false) × (10 ^ 15 < c.moment)
@@ -42,7 +42,7 @@ PostFails Early t u c = (has_end (posted t) ≡ false) × (c.moment ≤ 10 ^ 15)
 PostFails NoMemory t u c = MayPost (posted t) c
 PostFails MailFull t u c = MayPost (posted t) c × IsFull u
 
--- name and specification are the tenant's, the commands were posted, and the letters read are its first records
+-- the name and the spec are the tenant's, the commands were posted, and the letters that were read are the first records
 pub record Fits (t : Tenant) (d : Final RingMail) : Type 0 where
   pub name : d.name ≡ t.name
   pub spec : d.spec ≡ t.spec

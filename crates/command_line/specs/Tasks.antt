@@ -1,4 +1,4 @@
--- What the words of the command line ask for.
+-- The task that the arguments of the command line request.
 use Rattle.std.specs.Prelude.{◌≡◌, ℕ, Bool, false, List, [], ◌++◌, Option, Some, None, Result, Ok, IfErr, flat_map}
 use Rattle.std.specs.List.{AllByRecursion}
 use Rattle.std.specs.Io.KnownBytes.{Appends}
@@ -16,14 +16,14 @@ use Rattle.alone.specs.Within.{CallsWithin, leaves}
 use Rattle.command_line.specs.declared.words.Task.{Task}
 use Rattle.command_line.specs.declared.words.Task.TheVariants.{Run, Alone, Check, Live}
 
--- to explain what is at fault, once the text has ended
+-- whether the task explains what is at fault, once the text has ended
 abbrev pub explains : Task → Bool
 explains (Run workers moves limits progress explain strict) = explain
 explains (Alone limits progress explain strict) = explain
 explains (Check explain strict) = explain
 explains (Live explain) = false
 
--- a refused command is a failure, and spent steps are one
+-- whether a refused command and spent steps count as failures
 abbrev pub is_strict : Task → Bool
 is_strict (Run workers moves limits progress explain strict) = strict
 is_strict (Alone limits progress explain strict) = strict
@@ -36,27 +36,27 @@ limits_of (Alone limits progress explain strict) = limits
 limits_of (Check explain strict) = record { steps = None; output = None }
 limits_of (Live explain) = record { steps = None; output = None }
 
--- the text was read from the beginning of what was left; all of it, where no more came
+-- the text is a prefix of what was left to read; all of it, if the reader came to its end
 abbrev pub IsReadOf : Option (List ℕ) → List ℕ → Result (Unit {0}) RunFault → Type 0
 IsReadOf None text r = Unit {0}
 IsReadOf (Some all) text r = (rest : List ℕ) × (all ≡ text ++ rest) × (IsEnded r → rest ≡ [])
 
--- a session that read this text, and hints only if it is to explain
+-- a session that read this text, with hints only if it explains
 pub record Talks (explain : Bool) (given : List ℕ → Type 0) (read old new : Option (List ℕ)) (r : Result (Unit {0}) RunFault) : Type 0 where
   pub own : IfErr r IsOwnFault
   pub text : List ℕ
   pub given_is : given text
   pub read_is : IsReadOf read text r
   pub converses : Converses (λ line cause hint. explain ≡ false → hint ≡ []) text old new r
-  -- where the text spells a scenario, asks for nothing else, and no answer is a fault, what is told is the reports
+  -- if the text spells a scenario without `show mine`, and the output is plain, the bytes of reports are the scenario's reports
   pub tells : (all : List ℕ) → read ≡ Some all → r ≡ Ok tt → (ps : List Piece) × Appends old new (flat_map written ps)
       × ((es : List Script) → Spells all es → AsksForAll (lines all) → AllByRecursion IsPlain ps → flat_map told ps ≡ reports es)
 
--- of the text that the reader gave
+-- for the text that the reader returned
 abbrev pub OfGiven : (List ℕ → Type 0) → (Option (List ℕ) → Type 0) → Type 0
 OfGiven given P = (text : List ℕ) × given text × P (Some text)
 
--- what a task does: these bytes were given by the reader's calls, `read` was left to read, `old` was written before it and
+-- the effect of a task: the reader's calls returned these bytes, `read` was left to read, `old` was written before it and
 -- `new` is after it
 abbrev pub Does : Task → (List ℕ → Type 0) → Option (List ℕ) → Option (List ℕ) → Option (List ℕ) → Result (Unit {0}) Stop → Type 0
 Does (Run workers moves limits progress explain strict) given read old new r = CallsWithin limits read old new r

@@ -1,4 +1,4 @@
--- The words of the command line: what they are, and what they ask for. `clap` says which words a grammar takes.
+-- The arguments of the command line: their grammar, and the task that they request. `clap` defines what a grammar accepts.
 use Rattle.std.specs.Prelude.{◌≡◌, ◌^◌, ◌&&◌, ℕ, Bool, true, false, List, [], ◌∷◌, Option, Some, None, codes, nat_lt}
 use Rattle.std.specs.Prelude.{if◌then◌else◌, option_map, option_and_then, unwrap_or, pos}
 use Rattle.std.specs.Option.{option_map_or}
@@ -56,7 +56,7 @@ check_shape = command (codes "check") (flag (codes "explain") ∷ flag (codes "s
 abbrev pub live_shape : Shape
 live_shape = command (codes "live") (flag (codes "explain") ∷ [])
 
--- words without a command are wrong
+-- arguments without a command are wrong
 abbrev pub program_shape : Shape
 program_shape = record (new_shape (codes "dnlab")) {
   has_version = true;
@@ -70,16 +70,16 @@ dnlab = record {
   subs = run_shape ∷ alone_shape ∷ check_shape ∷ live_shape ∷ [];
 }
 
--- the code's option and command are these
+-- the option and the command in the code are these
 abbrev pub IsArg : Rule → Arg → Type 0
 IsArg rule arg = (rule_of arg ≡ rule) × (arg.global ≡ false)
 
 abbrev pub IsCommand : Shape → Command → Type 0
 IsCommand shape c = (app_of c ≡ record { top = shape; subs = [] }) × ((out-Command c).has_globals ≡ false)
 
--- ---- what is asked for
+-- ---- the task
 
--- the number below `end` that a text writes
+-- the number below `end` that a text spells
 unfoldable pub number_below : ℕ → Text → Option ℕ
 number_below end text =
     let digits = without_leading_plus text in
@@ -106,7 +106,7 @@ abbrev pub alone_in : List Row → Task
 alone_in rows = Alone (limits_in rows)
     (flag_in (codes "progress") rows) (flag_in (codes "explain") rows) (flag_in (codes "strict") rows)
 
--- a command's name and its options; the grammar has four names
+-- the task for the name of a command and its options; the grammar has four names
 abbrev pub task_in : Text × List Row → Task
 task_in p = if bytes_eq p.0 (codes "run") then run_in p.1
     else (if bytes_eq p.0 (codes "alone") then alone_in p.1

@@ -1,4 +1,4 @@
--- What an answer says of the bytes.
+-- What a result of the parser means for the bytes.
 use Rattle.std.specs.Prelude.{◌≡◌, ℕ, List, Result, Ok, Err}
 use Rattle.control.specs.declared.fault.Fault.{Fault}
 use Rattle.control.specs.declared.fault.ParseError.{ParseError}
@@ -9,18 +9,18 @@ use Rattle.control.specs.Scenario.{HasFault, Spells, NeedsRoom}
 abbrev pub Answer : Type 0
 Answer = Result (List Experiment) ParseError
 
--- an error is the bytes' fault, or memory was wanted for what they say
+-- an error is the fault of the bytes, or memory ran out for what they spell
 abbrev pub IsFaultOf : List ℕ → ParseError → Type 0
 IsFaultOf bytes errors.NoMemory = NeedsRoom bytes
 IsFaultOf bytes (errors.Fault f) = HasFault bytes f
 
--- this scenario, or want of memory
+-- this scenario, or a failed allocation
 abbrev pub IsReadAs : List Experiment → Answer → Type 0
 IsReadAs s (Ok t) = t ≡ s
 IsReadAs s (Err errors.NoMemory) = Unit {0}
 IsReadAs s (Err (errors.Fault f)) = ⊥
 
--- this fault, or want of memory
+-- this fault, or a failed allocation
 abbrev pub IsFaultedAs : Fault → Answer → Type 0
 IsFaultedAs f (Ok t) = ⊥
 IsFaultedAs f (Err errors.NoMemory) = Unit {0}

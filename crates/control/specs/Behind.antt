@@ -1,4 +1,4 @@
--- The next word at fault behind one.
+-- The next faulty word after a faulty one.
 use Rattle.std.specs.Prelude.{◌+◌, drop, length, Option, Some, None, nat_lt, if◌then◌else◌}
 use Rattle.control_words.specs.Words.{Words}
 use Rattle.control.specs.declared.word_fault.Behind.{Behind}
@@ -12,7 +12,7 @@ use Rattle.control.specs.declared.expected.Expected.{Expected}
 use Rattle.control.specs.Values.{value_at}
 use Rattle.control.specs.Walk.{walk}
 
--- behind a word that isn't a keyword
+-- what is expected after a word that is not a keyword
 abbrev pub past : Form → Expected → Option Expected
 past (forms.Word keyword) next = None
 past _ next = Some next
@@ -36,6 +36,6 @@ abbrev pub behind_value : Words → Blamed → Option Expected → Behind
 behind_value ws b None = Unsure
 behind_value ws b (Some next) = found (walk Ranges (b.index + 1) next (drop (b.index + 1) ws))
 
--- behind a value at fault the line is walked on as behind one that fits
+-- after a faulty value, the walk continues as after a value that fits
 unfoldable pub behind : Words → Blamed → Behind
 behind ws b = if nat_lt b.index (length ws) then behind_value ws b (value_behind b.expected) else Unsure

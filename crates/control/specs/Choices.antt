@@ -1,4 +1,4 @@
--- The words of which one may stand at a place of a line, and what is expected behind each.
+-- The words that are allowed where a line has a choice, and what is expected after each.
 use Rattle.std.specs.Prelude.{ℕ, Bool, true, false, List, Option, Some, None, if◌then◌else◌}
 use Rattle.std.specs.Option.{is_some}
 use Rattle.std.specs.Str.{bytes_eq}
@@ -19,7 +19,7 @@ use Rattle.control.specs.Values.{no_flow, no_pipe}
 use Rattle.control.specs.declared.expected.PipeWord.{PipeWord}
 use Rattle.control.specs.declared.expected.PipeWord.TheVariants as pipe
 
--- each option stands at most once
+-- each option is allowed at most once
 abbrev pub unless : Bool → Expected → Option Expected
 unless seen next = if seen then None else Some next
 
@@ -108,7 +108,7 @@ chosen (Pipe place) word = pipe_word_chosen place word
 chosen (Flow (flow.Setting s)) word = flow_setting_chosen s word
 chosen _ word = None
 
--- the same place, as if no option had stood before it
+-- the same place, as if no option had been given before it
 abbrev pub afresh : Expected → Expected
 afresh (Pipe (pipe.Setting s)) = Pipe (pipe.Setting no_pipe)
 afresh (Pipe (pipe.Fields s f)) = Pipe (pipe.Fields no_pipe no_fields_seen)

@@ -1,4 +1,4 @@
--- What the form of a word is, and the range of its number.
+-- The form of a word, and the range of its number.
 use Rattle.std.specs.Prelude.{ℕ, Bool, true, false, List, Option, Some, None}
 use Rattle.std.specs.Option.{is_some}
 use Rattle.std.specs.Str.{bytes_eq}
@@ -13,12 +13,12 @@ use Rattle.control.specs.declared.form.Keyword.TheVariants as keywords
 use Rattle.control.specs.declared.form.Form.{Form}
 use Rattle.control.specs.declared.form.Form.TheVariants as forms
 
--- ranges are asked for, or forms alone
+-- `is_so` if the check covers ranges, and true if it covers only forms
 abbrev pub asked : Check → Bool → Bool
 asked checks.Forms is_so = true
 asked checks.Ranges is_so = is_so
 
--- the word says something, and this is so of it, if ranges are asked for
+-- whether the word has a value, for which `is_so` is true if the check covers ranges
 abbrev pub holds : {A : Type 0} → Check → Option A → (A → Bool) → Bool
 holds check None is_so = false
 holds check (Some a) is_so = asked check (is_so a)

@@ -1,4 +1,4 @@
--- When bytes spell a scenario, and what is faulty in bytes that spell none.
+-- When bytes spell a scenario, and the fault of bytes that spell none.
 use Rattle.std.specs.Prelude.{◌≡◌, ℕ, ◌+◌, ◌<◌, ◌≤◌, Bool, true, false, List, [], ◌∷◌, ◌++◌, length, Option, Some, None, option_map, ◌⊎◌}
 use Rattle.std.specs.List.{list_any}
 use Rattle.std.specs.Str.{bytes_eq}
@@ -13,7 +13,7 @@ use Rattle.control.specs.declared.fault.Cause.TheVariants.{TooBig, Cut, TooLong,
 use Rattle.control.specs.declared.fault.Fault.{Fault}
 use Rattle.control.specs.declared.scenario.Experiment.{Experiment}
 
--- Of what the lines before say, the latest first: the names, and the commands of the experiment that began last, the latest first.
+-- the names in the entries of the previous lines, and the commands of the experiment that began last, both from the latest
 abbrev pub names : List Entry → List (List ℕ)
 names [] = []
 names (Begins name spec ∷ before) = name ∷ names before
@@ -29,7 +29,7 @@ commands (Nothing ∷ before) = commands before
 abbrev pub IsRunning : List Entry → Type 0
 IsRunning before = (cs : List Timed) × (commands before ≡ Some cs) × (has_end cs ≡ false)
 
--- the table of causes that go by the lines before: of an experiment's line, and of a command
+-- the causes that depend on the previous lines: for the line of an experiment, and for a command
 abbrev pub FaultsBegin : Cause → List Entry → List ℕ → Type 0
 FaultsBegin NoEnd before name = IsRunning before
 FaultsBegin TooMany before name = 256 ≤ length (names before)
@@ -47,11 +47,11 @@ FaultsEntry cause before Nothing = ⊥
 FaultsEntry cause before (Begins name spec) = FaultsBegin cause before name
 FaultsEntry cause before (Does c) = FaultsDo cause before c
 
--- what the line says is faulty for this cause
+-- the entry of the line is faulty for this cause
 abbrev pub IsOutOfOrder : Cause → List Entry → List ℕ → Type 0
 IsOutOfOrder cause before line = (e : Entry) × Says line e × FaultsEntry cause before e
 
--- the table of causes: what stands in the line, behind the lines before it
+-- the table of causes: whether a cause applies to the line, after the lines before it
 abbrev pub Stands : Cause → List Entry → List ℕ → Type 0
 Stands TooBig before line = ⊥
 Stands Cut before line = ⊥
@@ -66,7 +66,7 @@ Stands NoExperiment before line = IsOutOfOrder NoExperiment before line
 Stands AfterEnd before line = IsOutOfOrder AfterEnd before line
 Stands Backwards before line = IsOutOfOrder Backwards before line
 
--- its place in the table
+-- the place of a cause in the table
 abbrev pub rank : Cause → ℕ
 rank TooBig = 0
 rank Cut = 1
@@ -81,22 +81,21 @@ rank NoExperiment = 9
 rank AfterEnd = 10
 rank Backwards = 11
 
--- the first cause that stands
+-- the first cause that applies
 abbrev pub IsFirst : Cause → List Entry → List ℕ → Type 0
 IsFirst cause before line = Stands cause before line × ((other : Cause) → rank other < rank cause → Stands other before line → ⊥)
 
--- no cause stands
+-- no cause applies
 abbrev pub IsFine : List Entry → List ℕ → Type 0
 IsFine before line = (cause : Cause) → Stands cause before line → ⊥
 
 -- ---- faults
--- the fault of the lines from number n on, behind those before; what follows the last line feed stands last
+-- the fault of the lines from number n on, after the lines before them; the last item is what follows the last line feed
 abbrev pub IsFault : ℕ → List Entry → List (List ℕ) → Fault → Type 0
 IsFault n before [] f = ⊥
 IsFault n before (line ∷ []) f = ((line ≡ []) × IsRunning before × (f ≡ record { line = n; cause = NoEnd })) ⊎ ((0 < length line) × (f ≡ record { line = n; cause = Cut }))
 IsFault n before (line ∷ more ∷ rest) f = ((f.line ≡ n) × IsFirst f.cause before line) ⊎ ((e : Entry) × IsFine before line × Says line e × IsFault (n + 1) (e ∷ before) (more ∷ rest) f)
 
--- the bytes' fault
 abbrev pub HasFault : List ℕ → Fault → Type 0
 HasFault bytes f = ((16777216 < length bytes) × (f ≡ record { line = 0; cause = TooBig })) ⊎ ((length bytes ≤ 16777216) × IsFault 1 [] (lines bytes) f)
 
@@ -113,14 +112,15 @@ with_last [] c = []
 with_last (e ∷ []) c = with_command e c ∷ []
 with_last (e ∷ f ∷ more) c = e ∷ with_last (f ∷ more) c
 
--- the experiments that the lines before say
+-- the experiments of the previous lines
 abbrev pub experiments : List Entry → List Experiment
 experiments [] = []
 experiments (Nothing ∷ before) = experiments before
 experiments (Begins name spec ∷ before) = experiments before ++ begun name spec ∷ []
 experiments (Does c ∷ before) = with_last (experiments before) c
 
--- the lines spell these experiments, behind those before: none of them is faulty, each says something, and the last experiment has its end
+-- the lines spell these experiments, after the lines before them: none of them is faulty, each has an entry, and the last
+-- experiment has its end
 abbrev pub AreSpelled : List Entry → List (List ℕ) → List Experiment → Type 0
 AreSpelled before [] s = ⊥
 AreSpelled before (line ∷ []) s = (line ≡ []) × (IsRunning before → ⊥) × (experiments before ≡ s)
@@ -130,13 +130,13 @@ abbrev pub Spells : List ℕ → List Experiment → Type 0
 Spells bytes s = (length bytes ≤ 16777216) × AreSpelled [] (lines bytes) s
 
 -- ---- memory
--- what it says has to be kept
+-- the entry must be stored
 abbrev pub Grows : Entry → Type 0
 Grows Nothing = ⊥
 Grows (Begins name spec) = Unit {0}
 Grows (Does c) = Unit {0}
 
--- a line without fault, behind lines without fault, says what has to be kept
+-- a line without a fault, after lines without faults, has an entry that must be stored
 abbrev pub NeedRoom : List Entry → List (List ℕ) → Type 0
 NeedRoom before [] = ⊥
 NeedRoom before (line ∷ []) = ⊥

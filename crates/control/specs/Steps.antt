@@ -1,4 +1,4 @@
--- Reading what lines say from the first to the last, with the first fault that is met.
+-- Processing the entries of lines from the first to the last, up to the first fault.
 use Rattle.std.specs.Prelude.{ℕ, Bool, List, [], ◌∷◌, ◌++◌, length, Option, Some, None, Result, Ok, Err, is_some, nat_lt, nat_le, ◌==◌, if◌then◌else◌}
 use Rattle.std.specs.List.{list_any}
 use Rattle.std.specs.Str.{bytes_eq}
@@ -27,7 +27,7 @@ abbrev pub error_at : LineError → ℕ → ParseError
 error_at line_error.Memory n = errors.NoMemory
 error_at (line_error.Cause c) n = errors.Fault (record { line = n; cause = c })
 
--- the experiments that have their end, the one that hasn't, and the moment of its last command
+-- the experiments that have their end, the one that does not, and the time of its last command
 pub record Sofar : Type 0 where
   pub done : List Experiment
   pub running : Option Experiment
@@ -36,7 +36,7 @@ pub record Sofar : Type 0 where
 abbrev pub has_name : List ℕ → Experiment → Bool
 has_name name e = bytes_eq e.name name
 
--- an experiment's line
+-- the line of an experiment
 unfoldable pub begin : Sofar → List ℕ → Spec → Result Sofar Cause
 begin s name spec =
     if is_some s.running then Err NoEnd
@@ -50,7 +50,7 @@ add_at done (Some e) latest c = if nat_lt c.moment latest then Err Backwards
     else if is_end c.command then Ok (record { done = done ++ with_command e c ∷ []; running = None; latest = c.moment })
     else Ok (record { done = done; running = Some (with_command e c); latest = c.moment })
 
--- a command's line
+-- the line of a command
 unfoldable pub add : Sofar → Timed → Result Sofar Cause
 add s c = add_at s.done s.running s.latest c
 

@@ -1,4 +1,4 @@
--- The value or keyword that may stand at a place of a line, and what is expected behind it.
+-- The value or keyword that is allowed at a place of a line, and what is expected after it.
 use Rattle.std.specs.Prelude.{ℕ, false, Option, Some, None}
 use Rattle.control.specs.declared.form.Form.{Form}
 use Rattle.control.specs.declared.form.Form.TheVariants as forms
@@ -53,7 +53,7 @@ rule_value rule.To = Some (to_next (forms.Word keywords.To) (Rule rule.Destinati
 rule_value rule.Destination = Some (to_next forms.Prefix (Rule rule.LastPorts))
 rule_value rule.LastPorts = Some (to_next forms.Ports End)
 
--- ---- what sends
+-- ---- packets, trains and flows
 abbrev pub ends_form : EndsWord → Form
 ends_form ends.Source = forms.Address
 ends_form ends.SourcePort = number 0 65535

@@ -1,4 +1,4 @@
--- The walk over the words of a line, to the first at fault.
+-- The walk over the words of a line, up to the first faulty one.
 use Rattle.std.specs.Prelude.{ℕ, ◌+◌, Bool, true, false, List, [], ◌∷◌, Option, Some, None, if◌then◌else◌}
 use Rattle.control_words.specs.Words.{Words}
 use Rattle.control.specs.declared.word_fault.Check.{Check}
@@ -14,7 +14,7 @@ use Rattle.control.specs.Forms.{fits}
 use Rattle.control.specs.Values.{value_at}
 use Rattle.control.specs.Choices.{chosen}
 
--- a line may end there
+-- whether a line may end there
 abbrev pub may_end : Expected → Bool
 may_end End = true
 may_end (Header header.StepsWord) = true
@@ -25,7 +25,7 @@ may_end (Pipe (pipe.Times seen times)) = true
 may_end (Flow (flow.Setting seen)) = true
 may_end _ = false
 
--- what is expected behind a word
+-- what is expected after a word, if the word fits
 abbrev pub next_of : Check → Option Value → List ℕ → Option Expected
 next_of check None word = None
 next_of check (Some value) word = if fits check value.form word then Some value.next else None
@@ -41,7 +41,7 @@ abbrev pub or_blame : {R : Type 0} → Option Expected → (Expected → R) → 
 or_blame None go stop = stop
 or_blame (Some next) go stop = go next
 
--- the first word at fault of these, the first of which has this number
+-- the first faulty word of these, the first of which has this number
 abbrev pub walk : Check → ℕ → Expected → Words → Option Blamed
 walk check index expected [] = if may_end expected then None else Some (record { index = index; expected = expected })
 walk check index expected (word ∷ words) = or_blame (next check expected word) (λ e. walk check (index + 1) e words) (Some (record { index = index; expected = expected }))

@@ -1,4 +1,4 @@
--- What a line of a scenario says by itself, and what is faulty in it whatever stands before it.
+-- The entry of a line of a scenario, and the faults of a line whatever precedes it.
 use Rattle.std.specs.Prelude.{◌≡◌, ℕ, ◌<◌, Bool, true, false, ◌&&◌, not, List, [], ◌∷◌, length, Option, Some, None, Result, Ok, Err, ◌⊎◌, nat_lt, nat_le, ◌==◌, if◌then◌else◌}
 use Rattle.std.specs.List.{list_all}
 use Rattle.emu_model.specs.declared.commands.Spec.{Spec}
@@ -13,7 +13,7 @@ use Rattle.control_lines.specs.declared.line.LineFault.TheVariants.{TooLong, Bad
 use Rattle.control_lines.specs.declared.line.LineEntry.{LineEntry}
 use Rattle.control_lines.specs.declared.line.LineEntry.TheVariants as code
 
--- what a line says: nothing, an experiment, or a command
+-- the entry of a line: nothing, an experiment, or a command
 pub data Entry : Type 0 where
   Nothing : Entry
   Begins : List ℕ → Spec → Entry
@@ -24,7 +24,7 @@ view_entry code.Nothing = Nothing
 view_entry (code.Begins name spec) = Begins name.now spec
 view_entry (code.Does command) = Does command
 
--- no word, or a comment
+-- a line without words, or a comment
 abbrev pub is_skipped : List (List ℕ) → Bool
 is_skipped [] = true
 is_skipped ([] ∷ ws) = false
@@ -33,7 +33,7 @@ is_skipped ((c ∷ cs) ∷ ws) = c == 35
 abbrev pub is_printable : ℕ → Bool
 is_printable c = nat_le 32 c && nat_le c 126
 
--- what the line says, if each number is in its range
+-- the entry of the line, if each number is in its range
 unfoldable pub line_within : Line → Option Entry
 line_within (Experiment h) = do
   spec ← spec_within h
@@ -42,35 +42,35 @@ line_within (Command c) = do
   timed ← timed_within c
   Some (Does timed)
 
--- the line says this, its numbers in their ranges
+-- the line spells this entry, with its numbers in their ranges
 abbrev pub Says : List ℕ → Entry → Type 0
 Says line e = ((is_skipped (words line) ≡ true) × (e ≡ Nothing)) ⊎ ((l : Line) × IsLine (words line) l × (line_within l ≡ Some e))
 
--- what is faulty in a line alone
+-- the faults of a line by itself
 abbrev pub StandsAlone : LineFault → List ℕ → Type 0
 StandsAlone TooLong line = 512 < length line
 StandsAlone BadByte line = list_all is_printable line ≡ false
 StandsAlone BadWord line = (is_skipped (words line) ≡ false) × ((l : Line) → IsLine (words line) l → ⊥)
 StandsAlone OutOfRange line = (l : Line) × IsLine (words line) l × (line_within l ≡ None)
 
--- the order in which they are named
+-- the order in which faults are reported
 abbrev pub place : LineFault → ℕ
 place TooLong = 0
 place BadByte = 1
 place BadWord = 2
 place OutOfRange = 3
 
--- the first that stands
+-- the first fault that applies
 abbrev pub IsFirstAlone : LineFault → List ℕ → Type 0
 IsFirstAlone c line = StandsAlone c line × ((other : LineFault) → place other < place c → StandsAlone other line → ⊥)
 
--- a line without fault that says e, and nothing else
+-- a line without a fault that spells `e`, and no other entry
 pub record IsEntry (line : List ℕ) (e : Entry) : Type 0 where
   pub says : Says line e
   pub only : (other : Entry) → Says line other → other ≡ e
   pub fine : (c : LineFault) → StandsAlone c line → ⊥
 
--- ---- reading a line
+-- ---- parsing a line
 abbrev pub ranged : Option Entry → Result Entry LineFault
 ranged None = Err OutOfRange
 ranged (Some e) = Ok e

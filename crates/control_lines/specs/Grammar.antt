@@ -1,4 +1,4 @@
--- What a line is: the forms of lines, each said by what its words are, whatever the numbers are.
+-- The grammar of lines: each form is defined by its words, whatever the numbers are.
 use Rattle.std.specs.Prelude.{◌≡◌, ℕ, List, [], ◌∷◌, ◌++◌, Option, Some, None}
 use lib.Chars.{codes}
 use Rattle.control_words.specs.Words.{Words}
@@ -89,7 +89,7 @@ abbrev pub AreSteps : Words → Option ℕ → Type 0
 AreSteps ws None = ws ≡ []
 AreSteps ws (Some n) = IsPair (codes "steps") number_of ws n
 
--- an experiment's line, without where it lies in memory
+-- the line of an experiment, without its place in memory
 pub record Header : Type 0 where
   pub name : List ℕ
   pub seed : ℕ

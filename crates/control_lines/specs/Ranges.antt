@@ -1,4 +1,4 @@
--- What a line says, if each number is in its range.
+-- The value of a line, if each number is in its range.
 use Rattle.std.specs.Prelude.{ℕ, ◌+◌, ◌*◌, ◌&&◌, Option, Some, None, nat_le, ◌==◌, if◌then◌else◌, unwrap_or}
 use Rattle.emu_model.specs.Spans.{AddressSpan, PortSpan, address_span}
 use Rattle.emu_model.specs.declared.rules.Action.{Action}
@@ -64,7 +64,7 @@ prefix_within p = do
   length ← within p.length 0 32
   Some (address_span address length)
 
--- the first not above the second
+-- two ports, the first of which does not exceed the last
 unfoldable pub span_within : RawPorts → Option PortSpan
 span_within p = do
   first ← within p.first 0 65535
@@ -98,7 +98,7 @@ rule_within rule = do
   dports ← ports_within rule.dports
   Some (record { number = number; action = action; proto = rule.proto; src = src; sports = sports; dst = dst; dports = dports })
 
--- slots, or KBytes; 50 slots where none is said
+-- a number of slots, or of KBytes; 50 slots by default
 unfoldable pub queue_within : Option RawQueue → Option QueueLimit
 queue_within None = Some (limits.Slots 50)
 queue_within (Some (raw_queue.Slots slots)) = do
@@ -108,7 +108,7 @@ queue_within (Some (raw_queue.KBytes kilobytes)) = do
   n ← within kilobytes 1 1024
   Some (limits.KBytes n)
 
--- all bits of the fields that are left out are cleared
+-- all bits of omitted fields are zero
 unfoldable pub fields_within : RawFields → Option Mask
 fields_within fields = do
   proto ← within (unwrap_or fields.proto 0) 0 255
@@ -123,7 +123,7 @@ mask_within None = Some (record { proto = 0; src = 0; dst = 0; sport = 0; dport 
 mask_within (Some raw_mask.Everything) = Some (record { proto = 255; src = 4294967295; dst = 4294967295; sport = 65535; dport = 65535 })
 mask_within (Some (raw_mask.Fields fields)) = fields_within fields
 
--- 5 ms and 100 ms where they aren't said
+-- 5 ms and 100 ms by default
 unfoldable pub codel_within : RawCodel → Option Discipline
 codel_within codel = do
   target ← within (unwrap_or codel.target 5000000) 1000 60000000000
@@ -168,7 +168,7 @@ train_within train = do
   gap ← within train.gap 0 1000000000000
   Some (trained number (record { packet = packet; count = count; gap = gap }))
 
--- 1000 ms where it isn't said
+-- 1000 ms by default
 unfoldable pub timing_within : Option RawTiming → Option Timing
 timing_within None = Some (timings.Fixed 1000)
 timing_within (Some raw_timing.Adaptive) = Some timings.Adaptive

@@ -1,4 +1,4 @@
--- Reading the words of a line.
+-- Parsing the words of a line.
 use Rattle.std.specs.Prelude.{ℕ, List, [], ◌∷◌, Option, Some, None, if◌then◌else◌}
 use Rattle.std.specs.Str.{bytes_eq}
 use lib.Chars.{codes}
@@ -58,7 +58,7 @@ source_ports_of ws = do
   first ← next ws
   if bytes_eq first.0 (codes "to") then Some (None, first.1) else ports_and_to first.0 first.1
 
--- [PORTS], to the line's end
+-- [PORTS], up to the end of the line
 unfoldable pub last_ports_of : Words → Option (Option RawPorts)
 last_ports_of [] = Some None
 last_ports_of (word ∷ ws) = do

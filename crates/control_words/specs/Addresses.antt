@@ -1,4 +1,4 @@
--- What one word says: protocols, addresses, ports and names.
+-- The value of a single word: protocols, addresses, ports and names.
 use Rattle.std.specs.Prelude.{ℕ, Bool, ◌&&◌, ◌||◌, List, [], ◌∷◌, length, Option, Some, None, nat_lt, nat_le, ◌==◌, if◌then◌else◌}
 use Rattle.std.specs.List.{list_all}
 use Rattle.std.specs.Str.{bytes_eq}
@@ -22,7 +22,7 @@ protocol_of word = if bytes_eq word (codes "tcp") then Some Tcp else if bytes_eq
 unfoldable pub match_of : List ℕ → Option ProtocolMatch
 match_of word = if bytes_eq word (codes "ip") then Some AnyProtocol else if bytes_eq word (codes "tcp") then Some OnlyTcp else if bytes_eq word (codes "udp") then Some OnlyUdp else None
 
--- four numbers with points between
+-- four numbers separated by points
 abbrev pub four_of : List (List ℕ) → Option RawAddress
 four_of (a ∷ b ∷ c ∷ d ∷ []) = do
   first ← number_of a
@@ -35,7 +35,7 @@ four_of _ = None
 unfoldable pub address_of : List ℕ → Option RawAddress
 address_of word = four_of (parts 46 word)
 
--- an address, or an address, `/` and how many bits of it count
+-- an address, or an address, `/` and the number of its bits that count
 abbrev pub with_length : List (List ℕ) → Option RawPrefix
 with_length (host ∷ []) = do
   address ← address_of host
@@ -53,7 +53,7 @@ any_address = record { address = record { first = 0; second = 0; third = 0; four
 unfoldable pub prefix_of : List ℕ → Option RawPrefix
 prefix_of word = if bytes_eq word (codes "any") then Some any_address else with_length (parts 47 word)
 
--- a port, or two with `-` between
+-- a port, or two ports separated by `-`
 abbrev pub first_to_last : List (List ℕ) → Option RawPorts
 first_to_last (p ∷ []) = do
   port ← number_of p
@@ -70,6 +70,6 @@ ports_of word = first_to_last (parts 45 word)
 abbrev pub is_name_byte : ℕ → Bool
 is_name_byte c = (nat_le 97 c && nat_le c 122) || ((nat_le 48 c && nat_le c 57) || (c == 45 || c == 95))
 
--- 1 to 32 of `a` to `z`, `0` to `9`, `-` and `_`
+-- 1 to 32 characters of `a` to `z`, `0` to `9`, `-` and `_`
 unfoldable pub name_of : List ℕ → Option (List ℕ)
 name_of word = if length word == 0 then None else if nat_lt 32 (length word) then None else if list_all is_name_byte word then Some word else None

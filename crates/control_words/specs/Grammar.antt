@@ -1,4 +1,4 @@
--- What options are: each form said by what its words are, whatever the numbers are.
+-- The grammar of options: each form is defined by its words, whatever the numbers are.
 use Rattle.std.specs.Prelude.{◌≡◌, ℕ, List, [], ◌∷◌, ◌++◌, Option, Some, None, option_to_list}
 use Rattle.std.specs.List.{filter_map}
 use lib.Chars.{codes}
@@ -25,12 +25,12 @@ use Rattle.control_words.specs.declared.raw_options.FlowSetting.{FlowSetting}
 use Rattle.control_words.specs.declared.raw_options.FlowSetting.TheVariants.{Ssthresh, Window, Timing}
 use Rattle.control_words.specs.declared.raw_options.RawFlowOptions.{RawFlowOptions}
 
--- these words are phrases for these things, one after the other
+-- these words are phrases for these values, one after the other
 abbrev pub Are : {A : Type 0} → (Words → A → Type 0) → Words → List A → Type 0
 Are P ws [] = ws ≡ []
 Are P ws (a ∷ more) = (front rest : Words) × (ws ≡ front ++ rest) × P front a × Are P rest more
 
--- a keyword, and a word that says a
+-- a keyword, and a word whose value is `a`
 abbrev pub IsPair : {A : Type 0} → List ℕ → (List ℕ → Option A) → Words → A → Type 0
 IsPair key says ws a = (v : List ℕ) × (ws ≡ key ∷ v ∷ []) × (says v ≡ Some a)
 
@@ -47,7 +47,7 @@ abbrev pub interval_in : Time → Option ℕ
 interval_in (Target n) = None
 interval_in (Interval n) = Some n
 
--- each at most once: of each kind there is the one that codel has, or none
+-- each time at most once: `codel` has the one of its kind that is given, or none
 abbrev pub HasTimes : List Time → RawCodel → Type 0
 HasTimes times codel = (filter_map target_in times ≡ option_to_list codel.target)
     × (filter_map interval_in times ≡ option_to_list codel.interval)
@@ -80,7 +80,7 @@ abbrev pub proto_in : Field → Option ℕ
 proto_in (Proto n) = Some n
 proto_in _ = None
 
--- each at most once
+-- each field at most once
 abbrev pub HasFields : List Field → RawFields → Type 0
 HasFields all fields = (filter_map src_ip_in all ≡ option_to_list fields.src_ip)
     × (filter_map dst_ip_in all ≡ option_to_list fields.dst_ip)
@@ -89,7 +89,7 @@ HasFields all fields = (filter_map src_ip_in all ≡ option_to_list fields.src_i
     × (filter_map proto_in all ≡ option_to_list fields.proto)
 
 -- ---- {OPTION}
--- `all`, or one field or more
+-- `all`, or one or more fields
 abbrev pub IsMask : Words → RawMask → Type 0
 IsMask ws Everything = ws ≡ codes "all" ∷ []
 IsMask ws (Fields fields) = (first : Field) × (more : List Field) × Are IsField ws (first ∷ more)
@@ -135,7 +135,7 @@ abbrev pub discipline_in : Setting → Option RawDiscipline
 discipline_in (Discipline discipline) = Some discipline
 discipline_in _ = None
 
--- each at most once, and one discipline at most
+-- each option at most once, and at most one discipline
 abbrev pub HasSettings : List Setting → RawConfig → Type 0
 HasSettings all config = (filter_map bw_in all ≡ option_to_list config.bw)
     × (filter_map delay_in all ≡ option_to_list config.delay)

@@ -1,4 +1,4 @@
--- What one word says: numbers, with units and without.
+-- The value of a single word: numbers, with and without units.
 use Rattle.std.specs.Prelude.{ℕ, ◌+◌, ◌*◌, ◌-◌, ◌^◌, ◌&&◌, ◌||◌, not, Bool, List, [], ◌∷◌, length, Option, Some, None, nat_lt, nat_le, ◌==◌, if◌then◌else◌, take, drop, slice_index}
 use Rattle.std.specs.List.{prefix_len}
 use Rattle.std.specs.Str.{bytes_eq}
@@ -14,17 +14,17 @@ abbrev pub digits_after : ℕ → List ℕ → Option ℕ
 digits_after n [] = Some n
 digits_after n (c ∷ cs) = if is_ascii_digit c then digits_after (n * 10 + (c - 48)) cs else None
 
--- `0`, or 1 to 20 digits that don't begin with `0`
+-- `0`, or 1 to 20 digits that do not begin with `0`
 unfoldable pub number_of : List ℕ → Option ℕ
 number_of word = if length word == 0 then None else if nat_lt 20 (length word) then None else if slice_index word 0 == 48 && not (length word == 1) then None else digits_after 0 word
 
--- a number, and what directly follows it
+-- a number, and the bytes that directly follow it
 unfoldable pub number_with_unit : List ℕ → Option (ℕ × List ℕ)
 number_with_unit word = do
   n ← number_of (take (prefix_len is_ascii_digit word) word)
   Some (n, drop (prefix_len is_ascii_digit word) word)
 
--- how many bit/s the unit is
+-- the unit in bit/s
 unfoldable pub rate_unit : List ℕ → Option ℕ
 rate_unit unit = if bytes_eq unit (codes "") then Some 1
     else if bytes_eq unit (codes "bit/s") then Some 1
@@ -37,18 +37,18 @@ rate_unit unit = if bytes_eq unit (codes "") then Some 1
     else if bytes_eq unit (codes "GByte/s") then Some 8000000000
     else None
 
--- in bit/s
+-- a rate in bit/s
 unfoldable pub rate_of : List ℕ → Option ℕ
 rate_of word = do
   n ← number_with_unit word
   unit ← rate_unit n.1
   Some (n.0 * unit)
 
--- how many ms the unit is
+-- the unit in ms
 unfoldable pub delay_unit : List ℕ → Option ℕ
 delay_unit unit = if bytes_eq unit (codes "") then Some 1 else if bytes_eq unit (codes "ms") then Some 1 else None
 
--- in ms
+-- a delay in ms
 unfoldable pub delay_of : List ℕ → Option ℕ
 delay_of word = do
   n ← number_with_unit word
@@ -58,13 +58,13 @@ delay_of word = do
 abbrev pub is_kbytes : List ℕ → Bool
 is_kbytes unit = bytes_eq unit (codes "KBytes") || (bytes_eq unit (codes "Kbytes") || (bytes_eq unit (codes "KB") || bytes_eq unit (codes "K")))
 
--- slots, or KBytes
+-- a number of slots, or of KBytes
 unfoldable pub queue_of : List ℕ → Option RawQueue
 queue_of word = do
   n ← number_with_unit word
   if bytes_eq n.1 (codes "") then Some (queues.Slots n.0) else if is_kbytes n.1 then Some (queues.KBytes n.0) else None
 
--- how many ns the unit is
+-- the unit in ns
 unfoldable pub time_unit : List ℕ → Option ℕ
 time_unit unit = if bytes_eq unit (codes "") then Some 1000000
     else if bytes_eq unit (codes "s") then Some 1000000000
@@ -72,14 +72,14 @@ time_unit unit = if bytes_eq unit (codes "") then Some 1000000
     else if bytes_eq unit (codes "us") then Some 1000
     else None
 
--- in ns
+-- a time in ns
 unfoldable pub time_of : List ℕ → Option ℕ
 time_of word = do
   n ← number_with_unit word
   unit ← time_unit n.1
   Some (n.0 * unit)
 
--- a fraction in millionths: `0` or `1`, then nothing, or a point and 1 to 6 digits
+-- a fraction in millionths: `0` or `1`, followed by nothing, or by a point and 1 to 6 digits
 unfoldable pub decimals_of : List ℕ → Option ℕ
 decimals_of digits = if length digits == 0 then None else if nat_lt 6 (length digits) then None else do
   n ← digits_after 0 digits
@@ -109,7 +109,7 @@ hex_digits_after n (c ∷ cs) = do
 unfoldable pub hex_digits_of : ℕ → List ℕ → Option ℕ
 hex_digits_of greatest digits = if length digits == 0 then None else if nat_lt greatest (length digits) then None else hex_digits_after 0 digits
 
--- `0x`, then 1 digit to the greatest count of digits
+-- `0x`, followed by 1 to `greatest` hexadecimal digits
 unfoldable pub hex_of : ℕ → List ℕ → Option ℕ
 hex_of greatest [] = None
 hex_of greatest (c ∷ []) = None

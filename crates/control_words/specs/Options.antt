@@ -1,4 +1,4 @@
--- Reading the options of a pipe and of a flow.
+-- Parsing the options of a pipe and of a flow.
 use Rattle.std.specs.Prelude.{ℕ, Bool, true, ◌||◌, List, Option, Some, None, if◌then◌else◌}
 use Rattle.std.specs.Str.{bytes_eq}
 use lib.Chars.{codes}
@@ -23,7 +23,7 @@ use Rattle.control_words.specs.declared.raw_options.FlowSetting.{FlowSetting}
 use Rattle.control_words.specs.declared.raw_options.FlowSetting.TheVariants.{Ssthresh, Window, Timing}
 use Rattle.control_words.specs.declared.raw_options.RawFlowOptions.{RawFlowOptions}
 
--- sets what isn't set
+-- the new value, if there is no old one
 abbrev pub once : {A : Type 0} → Option A → A → Option (Option A)
 once None a = Some (Some a)
 once (Some old) a = None

@@ -2,11 +2,11 @@
 use Rattle.std.specs.Prelude.{ℕ, Bool, true, false, List, [], ◌∷◌, ◌==◌}
 use Rattle.std.specs.List.{slice_split, filter}
 
--- what stands between the separators, first to last
+-- the parts between separators, from the first to the last
 abbrev pub parts : ℕ → List ℕ → List (List ℕ)
 parts separator bytes = slice_split (λ b. b == separator) bytes
 
--- what stands between the line feeds: each line, and at last what follows the last line feed
+-- the parts between line feeds: each line, and at the end what follows the last line feed
 abbrev pub lines : List ℕ → List (List ℕ)
 lines bytes = parts 10 bytes
 
@@ -14,6 +14,6 @@ abbrev pub is_word : List ℕ → Bool
 is_word [] = false
 is_word (b ∷ bs) = true
 
--- what stands between runs of spaces
+-- the parts between runs of spaces
 abbrev pub words : List ℕ → List (List ℕ)
 words line = filter is_word (parts 32 line)

@@ -1,4 +1,4 @@
--- Reading words from the left.
+-- Parsing words from left to right.
 use Rattle.std.specs.Prelude.{ℕ, List, [], ◌∷◌, Option, Some, None, if◌then◌else◌, option_and_then}
 use Rattle.std.specs.Str.{bytes_eq}
 
@@ -13,24 +13,23 @@ abbrev pub next : Words → Option (List ℕ × Words)
 next [] = None
 next (w ∷ ws) = Some (w, ws)
 
--- no word is left
 abbrev pub none_left : Words → Option Words
 none_left [] = Some []
 none_left (w ∷ ws) = None
 
--- the words after this one
+-- the words after this one, if it is the first
 abbrev pub after : List ℕ → Words → Option Words
 after text [] = None
 after text (w ∷ ws) = if bytes_eq w text then Some ws else None
 
--- what the next word says
+-- the value of the next word
 abbrev pub value : {A : Type 0} → (List ℕ → Option A) → Words → Option (A × Words)
 value says ws = do
   word ← next ws
   a ← says word.0
   Some (a, word.1)
 
--- what the next word says, as a thing
+-- the value of the next word, passed to `thing`
 abbrev pub said : {A B : Type 0} → (List ℕ → Option A) → (A → B) → Words → Option (B × Words)
 said says thing ws = do
   a ← value says ws

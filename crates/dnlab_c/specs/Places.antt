@@ -1,4 +1,4 @@
--- What a place owns: where it is null nothing, else the box there with its session.
+-- What a place owns: nothing if it is null, and otherwise the box there with its session.
 use base.Fml.{Fml, feq}
 use denote.RawPtr.{Ptr, null_ptr}
 use mir.Syntax.{Ty}
@@ -16,7 +16,7 @@ heap = record { memory = record { seal = tt } }
 abbrev pub token : Ty → Ptr → Fml
 token t p = ghosts.dealloc_token heap t p
 
--- a session in a box of the heap
+-- a session in a box on the heap
 abbrev pub boxed : Ptr → KeptGuest → Fml
 boxed p g = box_owns token the_row p g
 

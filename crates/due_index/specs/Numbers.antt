@@ -1,5 +1,5 @@
--- A due as one number, so that two are compared at once: by moment, then class, then number, as the
--- order of events has it. None comes after all.
+-- A due as one number, so that one comparison orders two dues: by time, then class, then number, as in the order of
+-- events. None is after all dues.
 use Rattle.std.specs.Prelude.{ℕ, zero, suc, ◌+◌, ◌-◌, ◌*◌, ◌/◌, ◌%◌, ◌^◌, ◌==◌, if◌then◌else◌, Option, Some, None}
 use Rattle.emu_model.specs.declared.sources.Class.{Class}
 use Rattle.emu_model.specs.declared.sources.Class.TheVariants.{NextCommand, Exit, Finish, Expiry, Emission}
@@ -23,7 +23,7 @@ class_at (suc (suc zero)) = Finish
 class_at (suc (suc (suc zero))) = Expiry
 class_at (suc (suc (suc (suc n)))) = Emission
 
--- the due of a number
+-- the due that a number represents
 abbrev pub due_at : ℕ → Due
 due_at n = due (class_at (n / 2 ^ 32 % 2 ^ 32)) (n % 2 ^ 32) (n / 2 ^ 64)
 

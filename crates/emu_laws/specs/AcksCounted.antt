@@ -1,5 +1,5 @@
--- Each segment that is delivered is acknowledged by one packet, and nothing else is (RFC 5681, section 4.2; that it is so
--- at once is our choice).
+-- Each segment that is delivered is acknowledged by one packet, and nothing else is acknowledged (RFC 5681, section 4.2; that
+-- this happens at once is our choice).
 use Rattle.std.specs.Prelude.{◌≡◌, ℕ, ◌+◌, Bool, false, ◌==◌, List, count_by}
 use Rattle.emu_model.specs.declared.packets.Load.{Load}
 use Rattle.emu_model.specs.declared.packets.Load.TheVariants.{Seg, Ack}
@@ -10,7 +10,7 @@ use Rattle.emu_model.specs.declared.commands.Timed.{Timed}
 use Rattle.emu_model.specs.TraceLaws.{held_packets}
 use Rattle.emu_model.specs.Alone.{alone}
 
--- a segment of flow k, an acknowledgement of it
+-- tests for a segment of flow k; `is_ack` tests for an acknowledgement of flow k
 abbrev pub is_segment : ℕ → Load → Bool
 is_segment k (Seg flow first) = flow == k
 is_segment k l = false
@@ -19,7 +19,7 @@ abbrev pub is_ack : ℕ → Load → Bool
 is_ack k (Ack flow upto) = flow == k
 is_ack k l = false
 
--- a record says that one is delivered; that one is delivered or dropped
+-- tests for the delivery of a segment of flow k; `ends_ack` tests for the delivery or drop of an acknowledgement of flow k
 abbrev pub brings_segment : ℕ → Record → Bool
 brings_segment k (PacketDelivered moment packet load) = is_segment k load
 brings_segment k r = false
@@ -29,7 +29,7 @@ ends_ack k (PacketDelivered moment packet load) = is_ack k load
 ends_ack k (PacketDropped moment packet load cause) = is_ack k load
 ends_ack k r = false
 
--- of each flow as many acknowledgements are delivered, dropped and held as segments were delivered
+-- for each flow, as many acknowledgements are delivered, dropped or held as segments were delivered
 abbrev pub AcksMatchSegments : Type 0
 AcksMatchSegments = (spec : Spec) (c : List Timed) (n k : ℕ) →
     let net = (alone spec c n).net in

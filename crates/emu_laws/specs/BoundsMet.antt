@@ -1,5 +1,5 @@
--- Bounds of laws that are met, so no lesser one holds, and a search that goes all its ways. The runs and numbers are
--- worked out by hand.
+-- Examples that meet the bounds of laws, so that no smaller bound holds, and a search that takes every kind of step. The runs
+-- and numbers are worked out by hand.
 use Rattle.std.specs.Prelude.{◌≡◌, ℕ, ◌+◌, ◌-◌, ◌*◌, ◌^◌, true, None, List, [], ◌∷◌, length, map}
 use Rattle.std.specs.List.{AllByRecursion}
 use Rattle.emu_model.specs.declared.packets.Protocol.TheVariants.{Udp}
@@ -54,12 +54,12 @@ allow_all = Add (rule 100 Allow AnyProtocol)
 abbrev one_packet : Command
 one_packet = Inject (record { proto = Udp; src = 1; sport = 1; dst = 2; dport = 2; size = 100 })
 
--- three packets come at once where two may be held
+-- three packets at one time, where two may be held
 abbrev three_packets : List Timed
 three_packets =
     at 0 allow_all ∷ at 0 one_packet ∷ at 0 one_packet ∷ at 0 one_packet ∷ at 9 End ∷ []
 
--- a flow of four segments of 1000 bytes, whose receiver has a window of so many
+-- a flow of four segments of 1000 bytes, whose receiver has a window of this many bytes
 abbrev four_of : ℕ → Command
 four_of window =
     Flow 1 (record {
@@ -100,7 +100,7 @@ delayed_packet =
     ∷ at 9000000 End
     ∷ []
 
--- a packet goes into an instance that is made, and is recorded in all ways; then the steps are spent
+-- a packet that enters a new instance and causes each kind of trace record; then the steps are spent
 abbrev traced_packet : List Timed
 traced_packet =
     at 0 (Add (rule 100 (Pipe 1) AnyProtocol))
@@ -113,7 +113,7 @@ traced_packet =
 abbrev pub allowing : Counted
 allowing = new_rule 4 (rule 500 Allow AnyProtocol)
 
--- the first counts, the second jumps over the third, and the fourth matches no UDP
+-- the first rule counts, the second jumps over the third, and the fourth doesn't match UDP
 abbrev five_rules : List Counted
 five_rules =
     new_rule 0 (rule 100 Count AnyProtocol)
@@ -146,7 +146,7 @@ four_steps = record { seed = 0; budget = record { packets = 2; steps = 4 } }
 abbrev times : Times
 times = record { target = 5; interval = 100 }
 
--- two packets that came at a moment; behind the first wait as few bytes as may where it is dropped
+-- two packets that arrived at this time; after the first wait the fewest bytes with which it may be dropped
 abbrev two_came : ℕ → List (Queued Packet)
 two_came moment =
     record { item = udp_packet; size = 1000; stamp = moment }
@@ -156,14 +156,13 @@ two_came moment =
 abbrev flows : ℕ → List FlowState
 flows n = (alone spec four_segments n).net.flows
 
--- In four steps, the rule's and the packets', two packets come to be held, and the budget drops the third. In the fourth
--- step a packet is made, its instance identified, it comes there and is held, the command is done and the steps are
--- spent: six records and packets more. In four steps, the rule's, the flow's and two emissions, two segments are sent,
--- as many as the window lets; the second ends where the window does. At 7 bit/s packets of 6 and 1 bytes finish from
--- 48 * 10^9 / 7, rounded up, to 56 * 10^9 / 7 ns: a bit more, in 8 * 10^9 parts of it, and it would be as many bits as
--- the bound of the rate. Where a packet of 1000 bytes has just begun at 1 Mbit/s, the next of 1000 finishes 16 ms later.
--- A packet that finishes at 0 is delivered after the pipe's delay of 1 ms. At 5, CoDel with a target of 5 and an interval
--- of 100 gives a packet that came at 0; at 105 it drops one that came at 100. A window of 999 is too small for 1000 bytes.
+-- Four steps (the rule and three packets): two packets are held, and the budget drops the third. In the traced run, the fourth step creates a
+-- packet, identifies its instance, where the packet arrives and is held, completes the command and spends the steps: six more records and held
+-- packets. Four steps (the rule, the flow and two emissions): two segments are sent, all that the window allows, and the second ends where the
+-- window does. At 7 bit/s packets of 6 and 1 bytes finish from 48 * 10^9 / 7 ns, rounded up, to 56 * 10^9 / 7 ns: 10^-9 bit more would reach the
+-- bound of the rate. If a packet of 1000 bytes has just begun service at 1 Mbit/s, the next of 1000 bytes finishes 16 ms later. A packet that
+-- finishes at 0 is delivered after the pipe's delay of 1 ms. With a target of 5 and an interval of 100, CoDel passes on at 5 a packet that
+-- arrived at 0, and drops at 105 one that arrived at 100. A window of 999 bytes is too small for a segment of 1000.
 pub record BoundsAreMet : Type 0 where
   pub held_is_budget : held (alone spec three_packets 4).net ≡ most_held spec
   pub step_tells_most :
@@ -185,6 +184,6 @@ pub record BoundsAreMet : Type 0 where
       length (codel_dequeue times now before (two_came (now - least_sojourn times))).dropped ≡ 1
   pub window_is_too_small : AllByRecursion IsTooSmall (alone spec (at 0 (four_of 999) ∷ at 9 End ∷ []) 1).net.flows
 
--- a search counts, jumps, passes a rule that doesn't match, and ends at the one that allows
+-- a search that counts, jumps, passes a rule that doesn't match, and ends at the rule that allows
 abbrev pub SearchGoesAllWays : Type 0
 SearchGoesAllWays = EndsAt udp_packet five_rules 0 allowing

@@ -1,5 +1,5 @@
--- What is delivered waited for the delay of each pipe in which it finished (ipfw(8), delay; that a packet is on its way
--- for 1 ns at least is our choice), over a whole run's records.
+-- A packet that is delivered has waited for the delay of each pipe in which it finished (ipfw(8), delay; the minimum of 1 ns
+-- is our choice), in the records of a whole run.
 use Rattle.std.specs.Prelude.{◌≡◌, ℕ, ◌+◌, ◌≤◌, max, List}
 use Rattle.std.specs.List.{AllByRecursion}
 use Rattle.emu_model.specs.declared.records.Record.{Record}
@@ -13,28 +13,28 @@ use Rattle.emu_model.specs.RunLaws.{ConfiguresPipe}
 use Rattle.emu_model.specs.DueLaws.{AreRising}
 use Rattle.emu_model.specs.Alone.{alone}
 
--- a command gives a pipe a delay of so many milliseconds at least
+-- a command that, if it configures the pipe, gives it a delay of at least `delay` milliseconds
 abbrev pub DelaysPipe : ℕ → ℕ → Command → Type 0
 DelaysPipe pipe delay (Config k config) = k ≡ pipe → delay ≤ config.delay
 DelaysPipe pipe delay _ = Unit {0}
 
--- where it says that a packet is delivered, it is so from a moment on
+-- if a record is a delivery of the packet, it is at `moment` or later
 abbrev pub DeliversFrom : ℕ → ℕ → Record → Type 0
 DeliversFrom moment packet (PacketDelivered at number load) = number ≡ packet → moment ≤ at
 DeliversFrom moment packet _ = Unit {0}
 
--- where it says that a packet finished in a pipe, the packet is delivered no sooner than after a time
+-- if a record is the finish of a packet in the pipe, the packet is delivered no sooner than `time` ns after it
 abbrev pub WaitsInPipe : ℕ → ℕ → List Record → Record → Type 0
 WaitsInPipe pipe time records (PacketFinished at number p k) =
     p ≡ pipe → AllByRecursion (DeliversFrom (at + time) number) records
 WaitsInPipe pipe time records _ = Unit {0}
 
--- after a delay of so many milliseconds a packet leaves, after 1 ns at least
+-- the minimum time in a delay line, in ns: a delay of this many milliseconds, but at least 1 ns
 abbrev pub least_delay : ℕ → ℕ
 least_delay delay = max (milliseconds delay) 1
 
--- where the moments of the commands don't fall, and each command that configures a pipe gives it so many milliseconds
--- at least, what a `deliver` line says of a packet comes no sooner than what its `finish` line says, and the delay
+-- if the times of the commands never decrease, and each command that configures a pipe gives it at least `delay` milliseconds, each
+-- `deliver` line of a packet is no sooner than the delay after each of its `finish` lines in the pipe
 abbrev pub DeliveriesWait : Type 0
 DeliveriesWait = (spec : Spec) (c : List Timed) (n pipe delay : ℕ) → AreRising 0 c →
     AllByRecursion (λ t. ConfiguresPipe t.command) c → AllByRecursion (λ t. DelaysPipe pipe delay t.command) c →

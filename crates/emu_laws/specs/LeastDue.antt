@@ -1,10 +1,10 @@
--- What is due first (our choice: by moment, class and number).
+-- The first of all dues (our choice: by time, class and number).
 use Rattle.std.specs.Prelude.{◌≡◌, ℕ, false, Some, List, ◌∷◌, slice_get}
 use Rattle.emu_model.specs.declared.sources.Class.TheVariants.{NextCommand}
 use Rattle.emu_model.specs.declared.sources.Due.{Due}
 use Rattle.emu_model.specs.Dues.{due, is_before, least_due}
 
--- a command's due and all others
+-- the due of a command and all other dues
 abbrev pub all_dues : ℕ → List Due → List Due
 all_dues moment dues = due NextCommand 0 moment ∷ dues
 

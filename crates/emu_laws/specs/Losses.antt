@@ -1,5 +1,5 @@
--- A loss has a cause: whole runs in which a cause can't arise (ipfw(8): plr, queue; RFC 8289; the causes of a report
--- are our choice).
+-- A loss has a cause: laws about whole runs in which a cause can't arise (ipfw(8): plr, queue; RFC 8289; the causes in a
+-- report are our choice).
 use Rattle.std.specs.Prelude.{◌≡◌, ℕ, ◌+◌, ◌*◌, ◌<◌, ◌≤◌, Bool, true, false, ◌&&◌, ◌==◌, List, [], length, count_by}
 use Rattle.std.specs.List.{AllByRecursion}
 use Rattle.emu_model.specs.declared.packets.Load.{Load}
@@ -23,8 +23,8 @@ use Rattle.emu_model.specs.Step.{State}
 use Rattle.emu_model.specs.Alone.{alone}
 use Rattle.emu_laws.specs.StepPackets.{IsOfStep}
 
--- what never comes into a pipe's queue: a packet that a rule denies, that finds no pipe or no instance, or that is
--- beyond the budget
+-- tests for a cause that keeps a packet out of every queue: a rule denies it, it finds no pipe or no instance, or it exceeds
+-- the budget
 abbrev pub turns_away : DropCause → Bool
 turns_away Denied = true
 turns_away NoPipe = true
@@ -32,27 +32,27 @@ turns_away NoInstance = true
 turns_away Budget = true
 turns_away _ = false
 
--- a command gives no pipe a loss rate
+-- a command that gives no pipe a loss rate above 0
 abbrev pub IsLossless : Command → Type 0
 IsLossless (Config k config) = config.plr ≡ 0
 IsLossless _ = Unit {0}
 
--- where each `config` gives loss rate 0, nothing is lost
+-- if each `config` gives loss rate 0, nothing is lost
 abbrev pub NothingIsLost : Type 0
 NothingIsLost = (spec : Spec) (c : List Timed) (n : ℕ) → AllByRecursion (λ t. IsLossless t.command) c →
     drops_of (alone spec c n).net.records Lost ≡ 0
 
--- a command gives no pipe a discipline but drop-tail
+-- a command that gives no pipe a discipline other than drop-tail
 abbrev pub IsDropTail : Command → Type 0
 IsDropTail (Config k config) = config.discipline ≡ TailDrop
 IsDropTail _ = Unit {0}
 
--- where each `config` gives drop-tail, CoDel drops nothing
+-- if each `config` gives drop-tail, CoDel drops nothing
 abbrev pub CodelDropsNothing : Type 0
 CodelDropsNothing = (spec : Spec) (c : List Timed) (n : ℕ) → AllByRecursion (λ t. IsDropTail t.command) c →
     drops_of (alone spec c n).net.records Codel ≡ 0
 
--- a queue that takes as many packets as may be held in all
+-- a queue limit of at least as many slots as packets may be held in all
 abbrev pub TakesAll : ℕ → QueueLimit → Type 0
 TakesAll budget (Slots n) = budget ≤ n
 TakesAll budget (KBytes n) = ⊥
@@ -61,24 +61,24 @@ abbrev pub IsRoomy : ℕ → Command → Type 0
 IsRoomy budget (Config k config) = TakesAll budget config.queue
 IsRoomy budget _ = Unit {0}
 
--- where each `config` gives as many slots as packets may be held, no queue is full
+-- if each `config` gives at least as many slots as packets may be held, no queue is full
 abbrev pub NoQueueIsFull : Type 0
 NoQueueIsFull = (spec : Spec) (c : List Timed) (n : ℕ) →
     AllByRecursion (λ t. IsRoomy spec.budget.packets t.command) c →
     drops_of (alone spec c n).net.records Full ≡ 0
 
--- one packet more of a step has room
+-- a queue with room for one more packet of a step
 abbrev pub HasRoom : State → QueueLimit → List (Queued Packet) → Type 0
 HasRoom s (Slots n) ws = length ws < n
 HasRoom s (KBytes n) ws = (p : Packet) → IsOfStep s p → bytes_of ws + p.size ≤ 1024 * n
 
--- so it is in each instance of each pipe, and in a new one
+-- each instance of each pipe has such room, and so does a new one
 abbrev pub QueuesHaveRoom : State → Type 0
 QueuesHaveRoom s =
     AllByRecursion
     (λ p. HasRoom s p.config.queue [] × AllByRecursion (λ i. HasRoom s p.config.queue i.waiting) p.instances) s.net.pipes
 
--- where so it was in each state before, no queue was full
+-- if all queues had room in each earlier state, no queue was full
 abbrev pub RoomDropsNothing : Type 0
 RoomDropsNothing = (spec : Spec) (c : List Timed) (n : ℕ) → ((m : ℕ) → m < n → QueuesHaveRoom (alone spec c m)) →
     drops_of (alone spec c n).net.records Full ≡ 0
@@ -87,12 +87,12 @@ abbrev pub KeepsPipes : Command → Type 0
 KeepsPipes (PipeDelete k) = ⊥
 KeepsPipes _ = Unit {0}
 
--- where no pipe is deleted, no packet goes with its pipe
+-- if no pipe is deleted, no packet is dropped with its pipe
 abbrev pub NothingGoesWithPipes : Type 0
 NothingGoesWithPipes = (spec : Spec) (c : List Timed) (n : ℕ) → AllByRecursion (λ t. KeepsPipes t.command) c →
     drops_of (alone spec c n).net.records Deleted ≡ 0
 
--- an acknowledgement that is beyond the budget
+-- tests for an acknowledgement that exceeds the budget
 abbrev pub is_refusal : DropCause → Load → Bool
 is_refusal Budget (Ack flow upto) = true
 is_refusal cause load = false
@@ -101,23 +101,23 @@ abbrev pub refuses_ack : Record → Bool
 refuses_ack (PacketDropped moment packet load cause) = is_refusal cause load
 refuses_ack r = false
 
--- in every run there is none, since a segment has left that it answers
+-- in every run no acknowledgement exceeds the budget, because the segment that it answers has left
 abbrev pub AcksPassTheBudget : Type 0
 AcksPassTheBudget = (spec : Spec) (c : List Timed) (n : ℕ) → count_by refuses_ack (alone spec c n).net.records ≡ 0
 
--- a command that gives no pipe a loss rate or CoDel, and deletes none
+-- a command that gives no pipe a loss rate or CoDel, and deletes no pipe
 pub record SparesPackets (c : Command) : Type 0 where
   pub lossless : IsLossless c
   pub drop_tail : IsDropTail c
   pub kept : KeepsPipes c
 
--- a record says that packet k is turned away
+-- tests for a drop of packet k for a cause of `turns_away`
 abbrev pub turned_away : ℕ → Record → Bool
 turned_away k (PacketDropped moment packet load cause) = turns_away cause && (packet == k)
 turned_away k _ = false
 
--- where these are all commands, and no queue was full, each packet that was made and isn't turned away is delivered or
--- held, once
+-- if all commands are such, and no queue was full, each packet that was created and not turned away is delivered or held,
+-- exactly once
 abbrev pub PipesDropNothing : Type 0
 PipesDropNothing = (spec : Spec) (c : List Timed) (n k : ℕ) → AllByRecursion (λ t. SparesPackets t.command) c →
     let net = (alone spec c n).net in

@@ -1,9 +1,9 @@
--- What a receiver misses (RFC 5681, section 4.2; which segments come is anybody's).
+-- The first byte that a receiver misses (RFC 5681, section 4.2), whichever segments arrive.
 use Rattle.std.specs.Prelude.{◌≡◌, ℕ, ◌*◌, ◌<◌, ◌==◌, true, false, List, [], ◌∷◌}
 use Rattle.std.specs.List.{list_any}
 use Rattle.emu_model.specs.Reno.{with_segment, missing}
 
--- the receiver's set once these segments came, the latest first
+-- the receiver's set after these segments have arrived, the latest of which is first in the list
 abbrev pub received : List ℕ → List ℕ
 received [] = []
 received (first ∷ before) = with_segment first (received before)

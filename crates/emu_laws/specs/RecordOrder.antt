@@ -1,4 +1,4 @@
--- A run's records come in order of their moments (our choice: the clock never goes back).
+-- The records of a run are in the order of their times (our choice: the clock never goes back).
 use Rattle.std.specs.Prelude.{ℕ, ◌≤◌, List, [], ◌∷◌, flat_map}
 use Rattle.emu_model.specs.declared.records.Record.{Record}
 use Rattle.emu_model.specs.declared.records.Record.TheVariants.{CommandDone, CommandRefused, PacketMade, PacketArrived, InstanceIdentified, PacketFinished, PacketDelivered, PacketPassed, PacketDropped, AckTaken, TimerExpired, StepsSpent, RuleLine, PipeLine, InstanceLine}
@@ -7,7 +7,7 @@ use Rattle.emu_model.specs.declared.commands.Timed.{Timed}
 use Rattle.emu_model.specs.DueLaws.{AreRising}
 use Rattle.emu_model.specs.Alone.{alone}
 
--- the moment of a record; a line of `show` or `pipe show` has none
+-- the time of a record; the lines of `show` and `pipe show` have none
 abbrev pub moment_of : Record → List ℕ
 moment_of (CommandDone moment command) = moment ∷ []
 moment_of (CommandRefused moment command refusal) = moment ∷ []
@@ -28,12 +28,12 @@ moment_of (InstanceLine pipe instance waiting bytes busy in_flight drawn) = []
 abbrev pub moments_of : List Record → List ℕ
 moments_of rs = flat_map moment_of rs
 
--- numbers of at least `low` that don't fall
+-- numbers that are at least `low` and never decrease
 abbrev pub NeverFall : ℕ → List ℕ → Type 0
 NeverFall low [] = Unit {0}
 NeverFall low (m ∷ ms) = (low ≤ m) × NeverFall m ms
 
--- where the moments of the commands don't fall, those of the records don't either, in every state
+-- if the times of the commands never decrease, neither do those of the records, in every state
 abbrev pub RecordsAreInOrder : Type 0
 RecordsAreInOrder = (spec : Spec) (c : List Timed) (n : ℕ) → AreRising 0 c →
     NeverFall 0 (moments_of (alone spec c n).net.records)

@@ -21,7 +21,7 @@ use Rattle.emu_laws.specs.StepPackets.{IsNext, IsIn, IsMade, EntersRules}
 use Rattle.emu_laws.specs.LossCauses.{IsOverLimit, IsBelowLossRate}
 use Rattle.emu_laws.specs.CodelCauses.{MayBeDropped}
 
--- a packet of this number passes the rules, which deny it
+-- a packet with this number enters the rules, which deny it
 pub record IsDenied (number : ℕ) (s : State) : Type 0 where
   pub packet : Packet
   pub number_is : packet.number ≡ number
@@ -29,7 +29,7 @@ pub record IsDenied (number : ℕ) (s : State) : Type 0 where
   pub enters : EntersRules s start packet
   pub rule : verdict start packet s.net.book.rules ≡ Dropped
 
--- or send it into a pipe
+-- a packet enters the rules, which send it into a pipe
 pub record IsSentTo (pipe : ℕ) (packet : Packet) (s : State) : Type 0 where
   pub unsent : Packet
   pub start : ℕ
@@ -38,7 +38,7 @@ pub record IsSentTo (pipe : ℕ) (packet : Packet) (s : State) : Type 0 where
   pub rule : verdict start unsent s.net.book.rules ≡ IntoPipe pipe place
   pub is : packet ≡ record unsent { place = place }
 
--- which isn't there
+-- a packet with this number is sent into a pipe that doesn't exist
 pub record FindsNoPipe (number : ℕ) (s : State) : Type 0 where
   pub packet : Packet
   pub number_is : packet.number ≡ number
@@ -46,7 +46,7 @@ pub record FindsNoPipe (number : ℕ) (s : State) : Type 0 where
   pub sent : IsSentTo pipe packet s
   pub none : find_pipe pipe s.net ≡ None
 
--- or in which there is a cause
+-- a packet with this number is sent into a pipe in whose state there is a cause
 pub record Comes (Cause : Packet → PipeState → Type 0) (number : ℕ) (s : State) : Type 0 where
   pub packet : Packet
   pub number_is : packet.number ≡ number
@@ -56,7 +56,7 @@ pub record Comes (Cause : Packet → PipeState → Type 0) (number : ℕ) (s : S
   pub there : find_pipe pipe s.net ≡ Some state
   pub cause : Cause packet state
 
--- a packet of this number waits in an instance of a pipe with CoDel, which may drop it
+-- a packet with this number waits in an instance of a pipe with CoDel, which may drop it
 pub record IsDueInPipe (now number : ℕ) (n : Net) : Type 0 where
   pub pipe : ℕ
   pub state : PipeState
@@ -74,7 +74,7 @@ pub record IsDueInPipe (now number : ℕ) (n : Net) : Type 0 where
   pub number_is : waiting.item.number ≡ number
   pub due : MayBeDropped (record { target = target; interval = interval }) now inside.control waiting behind
 
--- the next command deletes a pipe that holds a packet of this number
+-- the next command deletes a pipe that holds a packet with this number
 pub record IsDeleted (number : ℕ) (s : State) : Type 0 where
   pub pipe : ℕ
   pub next : IsNext (PipeDelete pipe) s
@@ -84,14 +84,14 @@ pub record IsDeleted (number : ℕ) (s : State) : Type 0 where
   pub number_is : packet.number ≡ number
   pub holds : IsIn packet (pipe_packets state)
 
--- a packet of this number is made, where as many are held as the budget allows
+-- a packet with this number is created while at least as many are held as the budget allows
 pub record IsBeyondBudget (number : ℕ) (s : State) : Type 0 where
   pub packet : Packet
   pub number_is : packet.number ≡ number
   pub made : IsMade s packet
   pub spent : s.spec.budget.packets ≤ held s.net
 
--- what a record of a drop says, stands in the state
+-- the cause in the record of a drop exists in the state
 abbrev pub HasCause : State → Record → Type 0
 HasCause s (PacketDropped now number load Denied) = IsDenied number s
 HasCause s (PacketDropped now number load NoPipe) = FindsNoPipe number s
@@ -103,7 +103,7 @@ HasCause s (PacketDropped now number load Deleted) = IsDeleted number s
 HasCause s (PacketDropped now number load Budget) = IsBeyondBudget number s
 HasCause s r = Unit {0}
 
--- a step records what has its cause in the state before it
+-- each drop that a step records has its cause in the state before the step
 pub record RecordsCauses (before : State) (after : Net) : Type 0 where
   pub more : List Record
   pub grows : after.records ≡ before.net.records ++ more

@@ -1,4 +1,4 @@
--- What is in service finishes when the rate says (our choice: a busy period is rounded once, as a whole).
+-- The packet in service finishes at the time that the rate determines (our choice: a busy period is rounded once, as a whole).
 use Rattle.std.specs.Prelude.{◌≡◌, ℕ, Some, List}
 use Rattle.std.specs.List.{AllByRecursion}
 use Rattle.emu_model.specs.declared.packets.Packet.{Packet}
@@ -8,13 +8,13 @@ use Rattle.emu_model.specs.Rate.{finish_at}
 use Rattle.emu_model.specs.Pipes.{InService, Instance}
 use Rattle.emu_model.specs.Alone.{alone}
 
--- the packet in service finishes at the start of its busy period and the time that all bits of the period, with its
+-- the packet in service finishes at the start of its busy period plus the time that all bits of the period, including its
 -- own, take at the rate
 abbrev pub IsOnTime : ℕ → Instance → Type 0
 IsOnTime bw i = (s : InService Packet) → i.service ≡ Some s →
     s.period.finish ≡ finish_at bw s.period.start s.period.sum
 
--- so it is in each instance of each pipe in every state, whatever `config` commands came
+-- service is on time in each instance of each pipe in every state, whichever `config` commands were executed
 abbrev pub ServiceIsOnTime : Type 0
 ServiceIsOnTime = (spec : Spec) (c : List Timed) (n : ℕ) →
     AllByRecursion (λ p. AllByRecursion (IsOnTime p.config.bw) p.instances) (alone spec c n).net.pipes

@@ -1,4 +1,4 @@
--- The packets of a step: those that are held as it begins, and one that may be made in it (our choice).
+-- The packets of a step: those that are held when it begins, and one that it may create (our choice).
 use Rattle.std.specs.Prelude.{◌≡◌, ℕ, Some, ◌⊎◌, List, ◌∷◌, ◌++◌}
 use Rattle.emu_model.specs.declared.packets.Load.{Load}
 use Rattle.emu_model.specs.declared.packets.Load.TheVariants.{Plain, Seg, Ack}
@@ -13,26 +13,26 @@ use Rattle.emu_model.specs.Net.{Net, FlowState, TrainState, find_flow, find_trai
 use Rattle.emu_model.specs.TraceLaws.{held_packets}
 use Rattle.emu_model.specs.Step.{State}
 
--- a command is the next one
+-- the next command is this one
 pub record IsNext (command : Command) (s : State) : Type 0 where
   pub moment : ℕ
   pub later : List Timed
   pub is : s.left ≡ record { moment = moment; command = command } ∷ later
 
--- a train sends such packets
+-- a train sends packets with this specification
 pub record IsOfTrain (send : SendSpec) (n : Net) : Type 0 where
   pub number : ℕ
   pub train : TrainState
   pub there : find_train number n ≡ Some train
   pub sends : train.train.packet ≡ send
 
--- flow k sends them, in this direction
+-- flow k sends packets with this specification, in this direction
 pub record IsOfFlow (direction : FlowSpec → SendSpec) (k : ℕ) (send : SendSpec) (n : Net) : Type 0 where
   pub flow : FlowState
   pub there : find_flow k n ≡ Some flow
   pub sends : direction flow.flow ≡ send
 
--- what a step may send: by the next command, a train or a flow
+-- the packets that a step may send: those of the next command, a train or a flow
 abbrev pub MaySend : State → Load → SendSpec → Type 0
 MaySend s Plain send = IsNext (Inject send) s ⊎ IsOfTrain send s.net
 MaySend s (Seg k first) send = IsOfFlow data_send k send s.net
@@ -43,18 +43,19 @@ pub record IsIn (p : Packet) (ps : List Packet) : Type 0 where
   pub after : List Packet
   pub is : ps ≡ before ++ p ∷ after
 
--- the packet that a step may make
+-- a packet that the step may create
 pub record IsMade (s : State) (p : Packet) : Type 0 where
   pub load : Load
   pub send : SendSpec
   pub is : p ≡ packet_of load send s.net.made
   pub sent : MaySend s load send
 
--- a packet that is held as the step begins, or that the step may make
+-- a packet that is held when the step begins, or that the step may create
 abbrev pub IsOfStep : State → Packet → Type 0
 IsOfStep s p = IsIn p (held_packets s.net) ⊎ IsMade s p
 
--- a packet passes the rules from a place on: behind the rule that sent it, if it was held, or from the first
+-- a packet enters the rules at a place: after the rule that sent it into a pipe, if it was held, or at the first rule, if it
+-- is created
 abbrev pub EntersRules : State → ℕ → Packet → Type 0
 EntersRules s start p =
     (IsIn p (held_packets s.net) × (start ≡ start_behind p.place s.net.book.rules)) ⊎ (IsMade s p × (start ≡ 0))

@@ -1,4 +1,4 @@
--- Work is bounded (our choice): what an experiment holds, and what it records.
+-- Work is bounded (our choice): the packets that an experiment holds, and its records.
 use Rattle.std.specs.Prelude.{ℕ, ◌+◌, ◌*◌, ◌≤◌, Bool, true, false, not, List, count_by}
 use Rattle.emu_model.specs.declared.records.Record.{Record}
 use Rattle.emu_model.specs.declared.records.Record.TheVariants.{RuleLine, PipeLine, InstanceLine}
@@ -11,26 +11,26 @@ use Rattle.emu_model.specs.Alone.{alone}
 abbrev pub most_held : Spec → ℕ
 most_held spec = spec.budget.packets
 
--- no more packets wait, are in service or are under way than the budget allows
+-- no more packets wait, are in service or are in a delay line than the budget allows
 abbrev pub HeldWithinBudget : Type 0
 HeldWithinBudget = (spec : Spec) (c : List Timed) (n : ℕ) → held (alone spec c n).net ≤ most_held spec
 
--- a line of `show` or `pipe show`, of which there are as many as rules, pipes and instances
+-- tests for a line of `show` or `pipe show`, of which there are as many as rules, pipes and instances
 abbrev pub is_listing : Record → Bool
 is_listing (RuleLine rule packets bytes) = true
 is_listing (PipeLine pipe config) = true
 is_listing (InstanceLine pipe instance waiting bytes busy in_flight drawn) = true
 is_listing _ = false
 
--- the records but for those lines
+-- the number of records other than these lines
 abbrev pub told : List Record → ℕ
 told records = count_by (λ r. not (is_listing r)) records
 
--- how many of these a step makes for itself; besides it makes a drop for each packet that it no longer holds
+-- the maximum number of such records that a step adds, apart from a drop for each packet that it no longer holds
 abbrev pub most_told : ℕ
 most_told = 6
 
--- with the packets that are held, a step makes no more of them, and so n steps no more than 6 * n
+-- a step adds at most `most_told` to the sum of such records and held packets, so n steps add at most 6 * n
 pub record RecordsAreBounded : Type 0 where
   pub in_a_step : (spec : Spec) (c : List Timed) (n : ℕ) →
       let s = alone spec c n in

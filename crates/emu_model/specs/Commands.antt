@@ -1,4 +1,4 @@
--- What a command does (our choice, in the words of ipfw(8)).
+-- The effects of commands (our choice, with the words of ipfw(8)).
 use Rattle.std.specs.Prelude.{ℕ, ◌+◌, ◌-◌, ◌^◌, min, Bool, true, false, ◌||◌, ◌==◌, nat_lt, if◌then◌else◌, Option, Some, None, is_some, List, [], ◌∷◌, ◌++◌, map, length, flat_map}
 use Rattle.std.specs.List.{list_any}
 use Rattle.std.specs.Option.{option_map_or}
@@ -13,7 +13,7 @@ use Rattle.emu_model.specs.Net.{Net, EventContext, FlowState, note, note_all, no
 abbrev pub rule_lines : Net → List Record
 rule_lines n = map (λ c. RuleLine c.rule c.packets c.bytes) n.book.rules
 
--- how many loss words were drawn, as a line shows it: 64 bits hold more than any budget of steps draws
+-- the number of loss words drawn, as a listing prints it; no budget of steps allows more than 64 bits hold
 abbrev pub shown_words : ℕ → ℕ
 shown_words drawn = min drawn (2 ^ 64 - 1)
 
@@ -29,7 +29,7 @@ instance_lines pipe k (i ∷ is) = instance_line pipe k i ∷ instance_lines pip
 abbrev pub pipe_lines : PipeState → List Record
 pipe_lines p = PipeLine p.number p.config ∷ instance_lines p.number 0 p.instances
 
--- pipes stand by number
+-- inserts a pipe into a list that is ordered by number
 abbrev pub with_pipe : PipeState → List PipeState → List PipeState
 with_pipe p [] = p ∷ []
 with_pipe p (q ∷ qs) = if nat_lt p.number q.number then p ∷ q ∷ qs else q ∷ with_pipe p qs
@@ -55,13 +55,13 @@ configure k config n =
 abbrev pub without_pipe : ℕ → Net → Net
 without_pipe k n = record n { pipes = remove_first (λ q. q.number == k) n.pipes }
 
--- a pipe goes, and all that it held is dropped
+-- deletes a pipe, and drops all packets that it holds
 abbrev pub delete_pipe : ℕ → ℕ → Net → PipeState → Net
 delete_pipe now k n p =
     note_drops now (map (λ q. record { packet = q; cause = Deleted }) (pipe_packets p))
     (without_pipe k n)
 
--- flows and trains share one set of numbers
+-- tests whether a flow or a train has this number: they share one set of numbers
 abbrev pub is_in_use : ℕ → Net → Bool
 is_in_use k n =
     list_any (λ f. f.number == k) n.flows || list_any (λ t. t.number == k) n.trains
@@ -90,7 +90,7 @@ start_train now k t n = record n {
 abbrev pub stop_flow : Net → FlowState → Net
 stop_flow n f = put_flow (record f { stopped = true }) n
 
--- why a command is refused, if it is
+-- the reason for which a command is refused, if it is refused
 abbrev pub refusal_of : Command → Net → Option Refusal
 refusal_of (Add r) n = add_refusal r n.book
 refusal_of (Delete k) n = delete_refusal k n.book
@@ -101,7 +101,7 @@ refusal_of (Flow k f) n = source_refusal k n
 refusal_of (Stop k) n = if is_some (find_flow k n) then None else Some NoFlow
 refusal_of _ n = None
 
--- what a command does that isn't refused
+-- the effect of a command that is not refused
 abbrev pub effect_of : EventContext → Command → Net → Net
 effect_of at (Add r) n = record n { book = book_with r n.book }
 effect_of at (Delete k) n = record n { book = book_without k n.book }
@@ -117,7 +117,7 @@ effect_of at (OnePass b) n = record n { one_pass = b }
 effect_of at (Trace b) n = record n { trace = b }
 effect_of at End n = n
 
--- the command numbered k is done, or refused
+-- executes or refuses the command numbered k
 abbrev pub obey : EventContext → ℕ → Command → Net → Net
 obey at k c n =
     option_map_or (λ r. note (CommandRefused at.now k r) n) (refusal_of c n)
@@ -127,6 +127,6 @@ abbrev pub is_end : Command → Bool
 is_end End = true
 is_end _ = false
 
--- an `end` is among the commands
+-- tests whether an `end` is among the commands
 abbrev pub has_end : List Timed → Bool
 has_end cs = list_any (λ c. is_end c.command) cs

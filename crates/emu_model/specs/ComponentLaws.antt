@@ -1,5 +1,5 @@
--- Laws of the components, over the definitions alone: finishes and exits of whole lists, the control
--- law's step, loss at its extremes, limits, and what CoDel drops.
+-- Laws of the components, over the definitions alone: finishes and exits of whole lists, the step of the control law, loss
+-- at its extremes, limits, and the packets that CoDel drops.
 use Rattle.std.specs.Prelude.{◌≡◌, ℕ, ◌+◌, ◌-◌, ◌*◌, ◌^◌, ◌<◌, ◌≤◌, true, false, Some, option_to_list, List, [], ◌∷◌, ◌++◌, map, length, take, slice_get, sum, All}
 use Rattle.emu_model.specs.Types.{Packet, QueueLimit, Slots, KBytes}
 use Rattle.emu_model.specs.Loss.{is_lost}
@@ -12,22 +12,22 @@ use Rattle.emu_model.specs.Delay.{Line, enter, exits}
 abbrev pub idle_period : ℕ → Period
 idle_period start = record { start = start; sum = 0; finish = start }
 
--- the finishes of a server that takes packets of these sizes one after another
+-- the finishes of a server that serves packets of these sizes one after another
 abbrev pub served : ℕ → Period → List ℕ → List ℕ
 served bw p [] = []
 served bw p (z ∷ zs) = (follow bw z p).finish ∷ served bw (follow bw z p) zs
 
--- the finishes of a whole busy period are those of its steps (our choice)
+-- the finishes of a whole busy period equal those computed packet by packet (our choice)
 abbrev pub FinishesAreFolded : Type 0
 FinishesAreFolded = (bw start : ℕ) (sizes : List ℕ) →
     served bw (idle_period start) sizes ≡ finishes bw start 0 sizes
 
--- a busy period is rounded once: each finish is by the sum of all sizes so far (our choice)
+-- a busy period is rounded once: each finish is computed from the sum of all sizes so far (our choice)
 abbrev pub FinishesRoundOnce : Type 0
 FinishesRoundOnce = (bw start : ℕ) (sizes : List ℕ) (k : ℕ) → k < length sizes →
     slice_get (finishes bw start 0 sizes) k ≡ Some (finish_at bw start (sum (take (k + 1) sizes)))
 
--- a packet that enters a delay line, with its finish and the delay of that moment
+-- a packet that enters a delay line, with its finish and the delay at that time
 pub record Entry : Type 0 where
   pub packet : Packet
   pub finish : ℕ
@@ -40,17 +40,17 @@ enter_all (e ∷ es) l = enter_all es (enter e.packet e.finish e.delay l)
 abbrev pub exits_of : Line Packet → List ℕ
 exits_of l = map (λ x. x.exit) l.in_flight
 
--- the exits of a whole list of entries are those of its steps (our choice)
+-- the exits of a whole list of entries equal those computed entry by entry (our choice)
 abbrev pub ExitsAreFolded : Type 0
 ExitsAreFolded = (es : List Entry) (l : Line Packet) →
     exits_of (enter_all es l) ≡ exits_of l ++ exits l.last (map (λ e. (e.finish, e.delay)) es)
 
--- none is below the one before, nor the first below `least`
+-- a list of numbers that never decrease, the first of which is at least `least`
 abbrev pub NeverFalls : ℕ → List ℕ → Type 0
 NeverFalls least [] = Unit {0}
 NeverFalls least (x ∷ xs) = (least ≤ x) × NeverFalls x xs
 
--- exits never fall, so links don't reorder (our choice)
+-- exit times never decrease, so links don't reorder (our choice)
 abbrev pub ExitsNeverFall : Type 0
 ExitsNeverFall = (last : ℕ) (es : List (ℕ × ℕ)) → NeverFalls last (exits last es)
 
@@ -70,18 +70,18 @@ abbrev pub IsWithin : QueueLimit → List (Queued Packet) → Type 0
 IsWithin (Slots n) ws = length ws ≤ n
 IsWithin (KBytes n) ws = bytes_of ws ≤ 1024 * n
 
--- with what it accepts, a queue doesn't exceed its limit of slots or bytes (ipfw(8), queue)
+-- a queue stays within its limit of slots or bytes with each packet that it accepts (ipfw(8), queue)
 abbrev pub AcceptsWithinLimit : Type 0
 AcceptsWithinLimit = (limit : QueueLimit) (ws : List (Queued Packet)) (w : Queued Packet) →
     accepts limit ws w.size ≡ true → IsWithin limit (ws ++ w ∷ [])
 
--- what CoDel drops, what it gives and what it leaves is what waited, in order (RFC 8289, section 5.5)
+-- the packets that CoDel drops, passes to the server and leaves are those that waited, in order (RFC 8289, section 5.5)
 abbrev pub CodelKeepsOrder : Type 0
 CodelKeepsOrder = (times : Times) (now : ℕ) (c : CodelState) (ws : List (Queued Packet)) →
     let d = codel_dequeue times now c ws in
     d.dropped ++ option_to_list d.given ++ d.rest ≡ ws
 
--- CoDel drops nothing whose sojourn is below the target (RFC 8289, section 5.5)
+-- CoDel drops no packet whose sojourn time is below the target (RFC 8289, section 5.5)
 abbrev pub CodelSparesTheQuick : Type 0
 CodelSparesTheQuick = (times : Times) (now : ℕ) (c : CodelState) (ws : List (Queued Packet)) →
     All (λ w. times.target ≤ now - w.stamp) (codel_dequeue times now c ws).dropped

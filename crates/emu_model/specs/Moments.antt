@@ -1,11 +1,11 @@
--- Moments and times, in whole nanoseconds (our choice).
+-- Times, in whole nanoseconds (our choice).
 use Rattle.std.specs.Prelude.{ℕ, ◌*◌, ◌^◌, ◌<◌}
 
--- milliseconds
+-- milliseconds as nanoseconds
 abbrev pub milliseconds : ℕ → ℕ
 milliseconds ms = ms * 10 ^ 6
 
--- a moment: a command's is at most 10 ^ 15, and what is due besides comes within that time again
+-- the exclusive bound of all times: commands are at 10 ^ 15 ns at the latest, and everything else is due before twice that time
 abbrev pub end_of_time : ℕ
 end_of_time = 2 * 10 ^ 15
 

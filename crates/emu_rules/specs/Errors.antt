@@ -1,4 +1,4 @@
--- The refusal that an error of `add` tells, if it isn't want of memory.
+-- The refusal in an error of `add`, or None if memory ran out.
 use Rattle.std.specs.Prelude.{Option, Some, None}
 use Rattle.emu_model.specs.declared.records.Refusal.{Refusal}
 use Rattle.emu_rules.specs.declared.list.AddError.{AddError}

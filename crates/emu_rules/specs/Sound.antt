@@ -1,4 +1,4 @@
--- What a rule list keeps of its rules, of the jumps beside them, of its count of addings and of its cached searches.
+-- The invariant of a rule list: its rules, their jumps, the number of additions, and the cached searches.
 use Rattle.std.specs.Prelude.{ℕ, ◌≤◌, List, All}
 use Rattle.emu_model.specs.Rules.{Counted, the_rules}
 use Rattle.emu_rules.specs.declared.cache.RuleCache.{RuleCache}

@@ -9,12 +9,12 @@ use Rattle.emu_model.specs.Dues.{due, dues_of}
 use Rattle.emu_model.specs.Step.{State, next_event}
 use Rattle.emu_model.specs.RunLaws.{same_source}
 
--- the first of the commands that are left is the next one
+-- the due of the next command, which is the first of the commands that are left
 abbrev pub command_dues : List Timed → List Due
 command_dues [] = []
 command_dues (c ∷ rest) = due NextCommand 0 c.moment ∷ []
 
--- what comes next: the least of what is due, where a command is left
+-- the next event: the first of what is due, if a command is left
 abbrev pub first_due : List Timed → State → Option Due
 first_due [] s = None
 first_due (c ∷ rest) s = Some (next_event s c)
@@ -22,7 +22,7 @@ first_due (c ∷ rest) s = Some (next_event s c)
 abbrev pub next_due_in : State → Option Due
 next_due_in s = first_due s.left s
 
--- the next command, and all events
+-- the dues of the next command and of all events
 abbrev pub dues_in : State → List Due
 dues_in s = command_dues s.left ++ dues_of s.clock s.net
 
@@ -30,21 +30,21 @@ dues_in s = command_dues s.left ++ dues_of s.clock s.net
 abbrev pub dues_at : Source → List Due → List Due
 dues_at s dues = filter (λ d. same_source d.source s) dues
 
--- a source is among those that are named
+-- whether a source is among these named ones
 abbrev pub names : Source → List Source → Bool
 names s named = list_any (λ t. same_source t s) named
 
--- each source is named whose dues differ
+-- each source whose dues differ is named
 abbrev pub Covers : List Due → List Due → List Source → Type 0
 Covers before now named = (s : Source) → names s named ≡ false →
     dues_at s before ≡ dues_at s now
 
--- no source is named that has none, before and now
+-- no source is named that has no due in either list
 abbrev pub NamesNoOther : List Due → List Due → List Source → Type 0
 NamesNoOther before now named = (s : Source) → dues_at s before ≡ [] → dues_at s now ≡ [] →
     names s named ≡ false
 
--- as far as two lists were gone through, each source is named whose dues differ, and none that has no due
+-- as far as two lists were compared, each source whose dues differ is named, and none that has no due
 pub record NamesUpTo (i j : ℕ) (before now : List Due) (named : List Source) : Type 0 where
   pub covers : Covers (take i before) (take j now) named
   pub no_other : NamesNoOther before now named

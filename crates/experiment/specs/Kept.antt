@@ -1,4 +1,4 @@
--- What is kept of an experiment, and the state that it shows.
+-- What is stored of an experiment, and the state that it shows.
 use Rattle.std.specs.Prelude.{◌≡◌, ℕ, ◌+◌, ◌^◌, ◌<◌, ◌≤◌, Option, Some, None, option_to_list, IfSome, List, [], ◌∷◌, length}
 use Rattle.std.specs.List.{AllByRecursion}
 use Rattle.emu_model.specs.declared.commands.Spec.{Spec}
@@ -15,9 +15,9 @@ use Rattle.experiment.specs.Waits.{IsAloneUntil}
 use Rattle.packet_store.specs.Pocket.{Pocket}
 use Rattle.network.specs.Kept.{KeptNet, net_of, net_keys, IsHoused}
 
--- what it was given, what moves packets, the next command if there is one, all commands that came, how
--- many were taken, the moment of the last event, how many steps were made, how it ended, and what was
--- due when that was noted last
+-- its spec, the part that moves packets, the next command if there is one, all commands that came, the number of commands
+-- that were taken, the time of the last event, the number of steps made, how it ended, what was due when that was last
+-- noted, and the spare capacity for commands
 pub record KeptExperiment : Type 0 where
   pub spec : Spec
   pub net : KeptNet
@@ -30,14 +30,14 @@ pub record KeptExperiment : Type 0 where
   pub noted : List Due
   pub spare : ℕ
 
--- want of memory isn't an ending of the definitions: it leaves the state as it was
+-- the ending as the definitions have it: `Halted`, for lack of memory, is none of theirs and leaves the state unchanged
 abbrev pub shown_ending : Option Ending → Option Ending
 shown_ending None = None
 shown_ending (Some Ended) = Some Ended
 shown_ending (Some Spent) = Some Spent
 shown_ending (Some Halted) = None
 
--- the state that is shown over an owner's packets
+-- the state that is shown with an owner's packets
 abbrev pub view : Pocket → KeptExperiment → State
 view p e = record {
   spec = e.spec;
@@ -49,31 +49,31 @@ view p e = record {
   ending = shown_ending e.ending;
 }
 
--- what is shown is the state of the experiment by itself, after as many steps on the commands that came
+-- what is shown is the state of running the experiment alone, for as many steps, on the commands that came
 abbrev pub IsAlone : Pocket → KeptExperiment → Type 0
 IsAlone p e = view p e ≡ alone e.spec e.consumed e.steps
 
--- the same where what was recorded before was forgotten
+-- like `IsAlone`, with the discarded records put back in front
 abbrev pub IsAloneAfter : List Record → Pocket → KeptExperiment → Type 0
 IsAloneAfter earlier p e = with_earlier earlier (view p e) ≡ alone e.spec e.consumed e.steps
 
--- no command is left, and whatever comes next at a moment or later, what is shown is the state of running it alone, where
--- what was recorded before was forgotten
+-- no command is left; whatever comes next at `t` or later, what is shown, with the discarded records put back in front, is
+-- the state of running it alone
 pub record IsWaiting (t : ℕ) (earlier : List Record) (p : Pocket) (e : KeptExperiment) : Type 0 where
   pub none : e.next ≡ None
   pub alone : IsAloneUntil t e.spec e.consumed (with_earlier earlier (view p e))
 
--- the owner's packets are just those of the experiment, and it may hold as many as it was given
+-- the owner's packets are exactly those of the experiment, and the owner's budget is at least the experiment's
 pub record IsHousedIn (p : Pocket) (e : KeptExperiment) : Type 0 where
   pub housed : IsHoused p e.net
   pub room : e.spec.budget.packets ≤ p.budget
 
--- the moment of the last command, or an earlier one where there is none
+-- the time of the last command, or an earlier time if there is no command
 abbrev pub last_moment : ℕ → List Timed → ℕ
 last_moment moment [] = moment
 last_moment moment (c ∷ cs) = last_moment c.moment cs
 
--- what holds of every experiment
+-- the invariant of every experiment
 pub record IsSound (e : KeptExperiment) (latest held : ℕ) : Type 0 where
   pub counted : e.taken + length (option_to_list e.next) ≡ length e.consumed
   pub latest_is : latest ≡ last_moment 0 e.consumed

@@ -1,4 +1,4 @@
--- A session (our choice): time goes on, and commands come one by one.
+-- A session (our choice): time passes, and commands come one by one.
 use Rattle.std.specs.Prelude.{◌≡◌, ℕ, ◌≤◌, IsSome, Option, None, List, [], ◌∷◌, ◌++◌}
 use Rattle.emu_model.specs.declared.commands.Spec.{Spec}
 use Rattle.emu_model.specs.declared.commands.Timed.{Timed}
@@ -7,12 +7,12 @@ use Rattle.emu_model.specs.Alone.{alone, trace_of}
 use Rattle.emu_model.specs.RunLaws.{with_more}
 use Rattle.experiment.specs.Waits.{step_before, IsAloneUntil, IsSettled}
 
--- what is due first happens, where that is below a moment; or a command comes
+-- an action of a session: the first event that is due before a time occurs, or a command comes
 pub data Deed : Type 0 where
   Passes : ℕ → Deed
   Comes : Timed → Deed
 
--- the commands that came, the moment to which time has come, and the state
+-- the commands that came, the time that was reached, and the state
 pub record Stand : Type 0 where
   pub came : List Timed
   pub reached : ℕ
@@ -29,7 +29,7 @@ does (Comes c) x = record {
   state = step (with_more (c ∷ []) x.state);
 }
 
--- time never goes back, and a command comes where nothing is due before it and the experiment goes on
+-- time never goes back, and a command comes only if nothing is due before it and the experiment has not ended
 abbrev pub IsAllowed : Deed → Stand → Type 0
 IsAllowed (Passes t) x = x.reached ≤ t
 IsAllowed (Comes c) x = (x.reached ≤ c.moment) × (x.state.ending ≡ None) × IsSettled c.moment x.state
@@ -42,26 +42,26 @@ abbrev pub done : List Deed → Stand → Stand
 done [] x = x
 done (d ∷ ds) x = done ds (does d x)
 
--- a session shows what running alone shows of the commands that came, whatever comes then or later
+-- a session shows the state of running alone on the commands that came, whatever comes at the time reached or later
 abbrev pub SessionsAreAlone : Type 0
 SessionsAreAlone = (spec : Spec) (ds : List Deed) → AreAllowed ds (beginning spec) →
     let x = done ds (beginning spec) in IsAloneUntil x.reached spec x.came x.state
 
--- one that has ended has shown the whole trace, of whatever transcript goes on from there
+-- a session that has ended has shown the whole trace of every transcript that continues from there
 abbrev pub EndedSessionsAreWhole : Type 0
 EndedSessionsAreWhole = (spec : Spec) (ds : List Deed) → AreAllowed ds (beginning spec) →
     let x = done ds (beginning spec) in IsSome x.state.ending →
     (c : Timed) (rest : List Timed) (n : ℕ) → x.reached ≤ c.moment → x.state.steps ≤ n →
     trace_of (alone spec (x.came ++ c ∷ rest) n) ≡ trace_of x.state
 
--- where a command ended it, of the transcript itself
+-- if a command ended it, a session has shown the whole trace of the transcript itself
 abbrev pub TranscriptsAreWhole : Type 0
 TranscriptsAreWhole = (spec : Spec) (ds : List Deed) (c : Timed) → AreAllowed ds (beginning spec) →
     IsAllowed (Comes c) (done ds (beginning spec)) →
     let x = does (Comes c) (done ds (beginning spec)) in IsSome x.state.ending →
     (n : ℕ) → x.state.steps ≤ n → trace_of (alone spec x.came n) ≡ trace_of x.state
 
--- a state that has ended, and shows what running alone shows but for commands that never come, has the whole trace
+-- a state that has ended, and shows what running alone shows except for commands that never come, has the whole trace
 abbrev pub EndedStatesAreWhole : Type 0
 EndedStatesAreWhole = (spec : Spec) (commands rest : List Timed) (s : State) (n : ℕ) → IsSome s.ending →
     with_more rest s ≡ alone spec commands s.steps → s.steps ≤ n → trace_of (alone spec commands n) ≡ trace_of s

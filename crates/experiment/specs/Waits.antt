@@ -1,4 +1,4 @@
--- An experiment whose next command isn't known yet (our choice).
+-- An experiment whose next command is not known yet (our choice).
 use Rattle.std.specs.Prelude.{◌≡◌, ◌≢◌, ℕ, ◌≤◌, ◌<◌, if◌then◌else◌, is_some, None, List, [], ◌∷◌, ◌++◌}
 use Rattle.emu_model.specs.declared.commands.Spec.{Spec}
 use Rattle.emu_model.specs.declared.commands.Timed.{Timed}
@@ -11,7 +11,7 @@ use Rattle.emu_model.specs.Alone.{alone}
 use Rattle.emu_model.specs.declared.records.Record.{Record}
 use Rattle.emu_model.specs.RunLaws.{with_more, with_earlier, TakesSteps}
 
--- the event of a due, none where it is a command's
+-- the event of a due; none if the due is that of a command
 abbrev pub event_of_class : Class → Due → State → State
 event_of_class NextCommand d s = s
 event_of_class class d s = count_step (take_event d.moment class d.source.number s)
@@ -19,11 +19,11 @@ event_of_class class d s = count_step (take_event d.moment class d.source.number
 abbrev pub event_at : Due → State → State
 event_at d s = event_of_class d.source.class d s
 
--- what is due first happens, where that is below a moment
+-- the first event that is due occurs, if it is due before a time
 abbrev pub step_before : ℕ → State → State
 step_before t s = if is_some s.ending then s else event_at (least_due t (dues_of s.clock s.net)) s
 
--- whatever comes next at a moment or later, the state is that of running it alone
+-- whatever comes next at `t` or later, the state is that of running it alone
 abbrev pub IsAloneUntil : ℕ → Spec → List Timed → State → Type 0
 IsAloneUntil t spec came s = (c : Timed) (rest : List Timed) → t ≤ c.moment →
     with_more (c ∷ rest) s ≡ alone spec (came ++ c ∷ rest) s.steps
@@ -40,34 +40,34 @@ abbrev pub CommandsComeAlone : Type 0
 CommandsComeAlone = (t : ℕ) (spec : Spec) (came : List Timed) (s : State) (c : Timed) → t ≤ c.moment →
     IsAloneUntil t spec came s → with_more (c ∷ []) s ≡ alone spec (came ++ c ∷ []) s.steps
 
--- waits that pass the moment of the event that is due first make the same
+-- waits to different times have the same result if both are past the event that is due first
 abbrev pub WaitsAgree : Type 0
 WaitsAgree = (t u : ℕ) (s : State) → u ≤ t → (least_due t (dues_of s.clock s.net)).moment < u →
     step_before u s ≡ step_before t s
 
--- what is due first and is no command lies below the moment that is waited for
+-- a due that is the first and is not that of a command is before the time that is waited for
 abbrev pub WaitsPassEvents : Type 0
 WaitsPassEvents = (t : ℕ) (ds : List Due) → (least_due t ds).source.class ≢ NextCommand → (least_due t ds).moment < t
 
--- what was recorded before changes nothing of such an event, and stays
+-- earlier records do not affect such an event, and are preserved
 abbrev pub WaitsReadNoRecords : Type 0
 WaitsReadNoRecords = (t : ℕ) (rs : List Record) (s : State) → s.left ≡ [] →
     step_before t (with_earlier rs s) ≡ with_earlier rs (step_before t s)
 
--- nothing is due below a moment
+-- nothing is due before a time
 abbrev pub IsSettled : ℕ → State → Type 0
 IsSettled t s = least_due t (dues_of s.clock s.net) ≡ due NextCommand 0 t
 
--- where no event is due first below a moment, none is due
+-- if no event is the first that is due before a time, none is due before it
 abbrev pub WaitsSettle : Type 0
 WaitsSettle = (t : ℕ) (s : State) → (least_due t (dues_of s.clock s.net)).source.class ≡ NextCommand → IsSettled t s
 
--- a later moment waits too
+-- a state that waits from a time on also waits from any later time on
 abbrev pub WaitsRise : Type 0
 WaitsRise = (t u : ℕ) (spec : Spec) (came : List Timed) (s : State) → t ≤ u →
     IsAloneUntil t spec came s → IsAloneUntil u spec came s
 
--- where nothing is due before it, a command that comes is taken next, and the state waits again from its moment on
+-- if nothing is due before it, a command that comes is taken next, and the state waits again from the command's time on
 pub record GoesOn (spec : Spec) (came : List Timed) (c : Timed) (s : State) : Type 0 where
   pub none : s.left ≡ []
   pub waits : IsAloneUntil c.moment spec (came ++ c ∷ []) s

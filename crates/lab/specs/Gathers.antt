@@ -1,4 +1,4 @@
--- What is known while what the workers gave is taken in, one after the other.
+-- What is known while the results of the workers are collected, one after the other.
 use Rattle.std.specs.Prelude.{◌≡◌, List, length, Contains, Option, None, Some}
 use Rattle.shard.specs.Stand.{Final}
 use Rattle.bench.specs.declared.closing.Closing.{Closing}
@@ -8,7 +8,7 @@ use Rattle.alone.specs.declared.fault.RunFault.TheVariants.{Memory, Gate, Strang
 use Rattle.lab.specs.declared.joined.Joined.{Joined}
 use Rattle.lab.specs.Joins.{HadMemory, HadNoFault, HasTooMany, AreSeated}
 
--- what the gravest fault so far says of these closings, dossiers and faults
+-- what the gravest fault so far implies for these closings, dossiers and faults
 abbrev pub HoldsBy : Option RunFault → List (Option (Final RingMail)) → List Closing → List Closing → List (Final RingMail) → List (Option RunFault) → Type 0
 HoldsBy None places closings cs ds fs = HadNoFault ds fs × AreSeated places ds × (closings ≡ cs)
 HoldsBy (Some Memory) places closings cs ds fs = Unit {0}

@@ -1,4 +1,4 @@
--- A tenant posts the commands of its experiment.
+-- A tenant that posts the commands of its experiment.
 use Rattle.std.specs.Prelude.{◌≡◌, ◌<◌, ℕ, List, length, slice_index_or, Vec}
 use Rattle.std.specs.Global.{Global}
 use Rattle.control.specs.declared.scenario.Experiment.{Experiment}
@@ -6,7 +6,7 @@ use Rattle.bench.specs.declared.tenant.Tenant.{Tenant}
 use Rattle.bench.specs.Commands.{BeginsWith}
 use Rattle.bench.specs.Tenants.{posted}
 
--- its specification is the experiment's, and what was posted are its first commands
+-- its spec is the experiment's, and the posted commands are the first of the experiment's
 abbrev pub Serves : Tenant → Experiment → Type 0
 Serves t e = (t.spec ≡ e.spec) × BeginsWith e.commands (posted t)
 
@@ -14,7 +14,7 @@ Serves t e = (t.spec ≡ e.spec) × BeginsWith e.commands (posted t)
 abbrev pub IsTenantOf : ℕ → Tenant → Experiment → Type 0
 IsTenantOf n t e = (t.name ≡ n) × Serves t e
 
--- the first tenants are those of the first experiments, by their numbers
+-- the first tenants serve the first experiments, in the order of their numbers
 abbrev pub ServesAll : List Tenant → List Experiment → Type 0
 ServesAll ts es =
     (k : ℕ) (t : Tenant) (e : Experiment) → k < length ts → IsTenantOf k (slice_index_or ts k t) (slice_index_or es k e)

@@ -1,4 +1,4 @@
--- What a line does in a session that takes it (our choice).
+-- The effect of an accepted line on a session (our choice).
 use Rattle.std.specs.Prelude.{◌≡◌, ℕ, ◌<◌, ◌*◌, ◌^◌, Bool, true, false, List, [], ◌∷◌, ◌++◌, length, ◌&&◌, Option, Some, None, Ok, set, slice_get, codes, MatchOption, ◌⊎◌}
 use Rattle.emu_model.specs.declared.commands.Spec.{Spec}
 use Rattle.emu_model.specs.declared.commands.Timed.{Timed}
@@ -26,14 +26,14 @@ use Rattle.live.specs.Requests.{Asked, Until, UntilMine, UntilAny, Next, AddNext
 use Rattle.live.specs.Sessions.{KeptSession}
 use Rattle.live.specs.Faults.{current_of, place_named}
 
--- what is said of a command that was taken
+-- the answer to a command with this outcome
 abbrev pub answer_of : Taken → Answer
 answer_of taken.Done = answers.Done
 answer_of (taken.Packet number) = answers.Packet number
 answer_of (taken.Refused code) = answers.Refused code
 
 -- ---- an experiment of the session
--- a command comes to a run that goes on, behind all that is due below its moment: it is the next step
+-- a command arrives at a running experiment after everything that is due before its time, and is the next step
 pub record Comes (c : Timed) (t : Taken) (before after : KeptRun) : Type 0 where
   pub going : (state_of before).ending ≡ None
   pub quiet : IsQuiet c.moment before
@@ -42,23 +42,24 @@ pub record Comes (c : Timed) (t : Taken) (before after : KeptRun) : Type 0 where
   pub marks : MarkedBy c.command (made_of before) before.mine after.mine
   pub taken : t ≡ taken_by c.command (made_of before) (refusal_in (slice_get after.experiment.net.log.records (length before.experiment.net.log.records)))
 
--- how it stands by its ending
+-- the phase of an experiment, by its ending
 abbrev pub phase_of : Option Ending → Phase
 phase_of None = phases.Going
 phase_of (Some e) = phases.Over
 
--- with the counters where it has ended
+-- the line of the counters if the experiment is over, and otherwise nothing
 abbrev pub closing_in : Phase → KeptRun → List ℕ
 closing_in phases.Going r = []
 closing_in phases.Over r = closing_of r
 closing_in phases.Lost r = []
 
--- whether all records are told, and which packets were injected, stay as they were
+-- which records are reported, and which packets were injected, does not change
 pub record ShowsSame (old new : KeptRun) : Type 0 where
   pub shows : new.shows_all ≡ old.shows_all
   pub mine : new.mine ≡ old.mine
 
--- time passes in one that goes on: to where it stops, and nothing is due below that moment; what was recorded is told
+-- time passes in a running experiment until it stops, and the new records are reported;
+-- if the experiment still runs, nothing is due before the time reached
 pub record IsPassed (limit : ℕ) (stop : Stop) (bytes : List ℕ) (o p : KeptOpen) : Type 0 where
   pub clean : o.run.report.text ≡ []
   pub ran : KeptRun
@@ -72,7 +73,7 @@ pub record IsPassed (limit : ℕ) (stop : Stop) (bytes : List ℕ) (o p : KeptOp
   pub quiet : p.phase ≡ phases.Going → IsQuiet p.reached p.run
   pub whole : p.phase ≡ phases.Going → stop ≡ stops.Moment → p.reached ≡ limit
 
--- a command came to one that goes on, once time had come to its moment; what was recorded is told
+-- a command arrives at a running experiment after time has reached its `moment`, and the new records are reported
 pub record Commanded (c : Timed) (t : Taken) (bytes : List ℕ) (o p : KeptOpen) : Type 0 where
   pub clean : o.run.report.text ≡ []
   pub before : KeptRun
@@ -86,7 +87,7 @@ pub record Commanded (c : Timed) (t : Taken) (bytes : List ℕ) (o p : KeptOpen)
   pub is : p ≡ record o { reached = c.moment; phase = p.phase; run = record wrote { report = record wrote.report { text = [] } } }
   pub told : bytes ≡ wrote.report.text ++ closing_in p.phase wrote
 
--- whether its `end` came, and what is said, by how it stands behind the command
+-- whether the experiment's `end` has arrived, and the answer, by the phase after the command
 abbrev pub closes_in : Phase → Timed → Bool
 closes_in phases.Going c = false
 closes_in phases.Over c = is_end c.command
@@ -97,7 +98,7 @@ said_in phases.Going c t = answer_of t
 said_in phases.Over c t = answers.Over c.moment
 said_in phases.Lost c t = answers.Over c.moment
 
--- it was over before the command's moment, or the command came
+-- the experiment was over before the command's time, or the command was processed
 abbrev pub IsObeyed : Timed → List ℕ → Answer → KeptOpen → KeptOpen → Type 0
 IsObeyed c bytes a o p = (q : KeptOpen) × (p ≡ record q { reached = c.moment; is_closed = closes_in q.phase c }) × (
     (IsPassed c.moment stops.Moment bytes o q × (q.phase ≡ phases.Over) × (a ≡ answers.Over c.moment))
@@ -108,13 +109,13 @@ ObeysIn phases.Going c bytes a o p = IsObeyed c bytes a o p
 ObeysIn phases.Over c bytes a o p = (p ≡ record o { reached = c.moment; is_closed = is_end c.command }) × (bytes ≡ []) × (a ≡ answers.Over c.moment)
 ObeysIn phases.Lost c bytes a o p = ⊥
 
--- the answer says how it stands then
+-- the answer reports the state of the experiment afterwards
 abbrev pub PassesIn : Phase → ℕ → Stop → List ℕ → Answer → KeptOpen → KeptOpen → Type 0
 PassesIn phases.Going limit stop bytes a o p = (a ≡ stand_of p) × IsPassed limit stop bytes o p
 PassesIn phases.Over limit stop bytes a o p = (a ≡ answers.Over o.reached) × (p ≡ o) × (bytes ≡ [])
 PassesIn phases.Lost limit stop bytes a o p = ⊥
 
--- when the next event is due, if one is: every due lies below 2 * 10^15 ns
+-- the time of the next event, if there is one: every event is due before 2 * 10^15 ns
 abbrev pub IsNext : KeptOpen → Option ℕ → Type 0
 IsNext o m = MatchOption m (IsQuiet (2 * 10 ^ 15) o.run) (λ n. (n ≡ first_moment o.run) × (n < 2 * 10 ^ 15))
 
@@ -123,7 +124,7 @@ NextIn phases.Going a o = (m : Option ℕ) × (a ≡ answers.Next m) × IsNext o
 NextIn phases.Over a o = a ≡ answers.Over o.reached
 NextIn phases.Lost a o = a ≡ answers.Over o.reached
 
--- the answer to `next` can be added to this one; the others say themselves how the experiment stands
+-- the answer to `next` can be added to this answer; the other answers already report the state of the experiment
 abbrev pub can_add : Answer → Bool
 can_add answers.Done = true
 can_add (answers.Packet number) = true
@@ -133,18 +134,18 @@ can_add (answers.Next moment) = false
 can_add (answers.Over moment) = false
 can_add (answers.Fault cause) = false
 
--- the answer to `next` is added, or nothing is
+-- the answer to `next` is added if this is true, and otherwise nothing
 abbrev pub IsAddedIf : Bool → KeptOpen → Option Answer → Type 0
 IsAddedIf true o more = (b : Answer) × (more ≡ Some b) × NextIn o.phase b o
 IsAddedIf false o more = more ≡ None
 
--- it is added if the experiment that lines are for behind the line wants it
+-- the answer to `next` is added if the current experiment after the line has `adds_next`, and the answer allows it
 abbrev pub IsAdded : Option KeptOpen → Answer → Option Answer → Type 0
 IsAdded (Some o) a more = IsAddedIf (o.adds_next && can_add a) o more
 IsAdded None a more = more ≡ None
 
 -- ---- the session
--- the experiment that lines are for becomes another
+-- the current experiment changes as `P` requires, and the others do not change
 pub record Moves (P : Answer → KeptOpen → KeptOpen → Type 0) (a : Answer) (old new : KeptSession) : Type 0 where
   pub before : KeptOpen
   pub after : KeptOpen
@@ -152,7 +153,7 @@ pub record Moves (P : Answer → KeptOpen → KeptOpen → Type 0) (a : Answer) 
   pub moved : new ≡ record old { opened = set old.opened old.current after }
   pub by : P a before after
 
--- what is asked: the bytes that come before the answer, and the answer
+-- the effect of a request: the bytes that precede the answer, and the answer
 abbrev pub Obeys : Asked → List ℕ → Answer → KeptSession → KeptSession → Type 0
 Obeys (Until limit) bytes a old new = Moves (λ a o p. PassesIn o.phase limit stops.Moment bytes a o p) a old new
 Obeys (UntilMine limit hold) bytes a old new = Moves (λ a o p. PassesIn o.phase limit (stops.Mine hold) bytes a o p) a old new
@@ -163,7 +164,7 @@ Obeys (Show all) bytes a old new = (bytes ≡ []) × Moves (λ a o p. (p ≡ rec
 Obeys (Use name) bytes a old new = (place : ℕ) × (place_named name old.opened ≡ Some place) × (new ≡ record old { current = place }) × (bytes ≡ codes "#: " ++ name ++ codes "\n") × (a ≡ answers.Done)
 Obeys Help bytes a old new = (new ≡ old) × (bytes ≡ help_lines) × (a ≡ answers.Done)
 
--- an experiment begins: nothing has happened, and all will be told
+-- an experiment begins: nothing has happened in it, and all records will be reported
 pub record IsBegun (name : List ℕ) (spec : Spec) (bytes : List ℕ) (a : Answer) (old new : KeptSession) : Type 0 where
   pub opened : KeptOpen
   pub name_is : opened.name ≡ name
@@ -185,7 +186,7 @@ Follows Nothing bytes a old new = ⊥
 Follows (Begins name spec) bytes a old new = IsBegun name spec bytes a old new
 Follows (Does c) bytes a old new = Moves (λ a o p. ObeysIn o.phase c bytes a o p) a old new
 
--- what is written for a line that is taken: what happened, and then the answer; nothing for one that says nothing
+-- the output for an accepted line: what happened, and then the answer; a blank line or a comment has no output
 abbrev pub IsSaid : List ℕ → KeptSession → (List ℕ → Answer → Type 0) → Type 0
 IsSaid said new P =
     (bytes : List ℕ) × (a : Answer) × (more : Option Answer) × (said ≡ bytes ++ answer_with a more)

@@ -1,4 +1,4 @@
--- What becomes of injected packets, and what is told of it (our choice).
+-- The fate of injected packets, and what is reported of it (our choice).
 use Rattle.std.specs.Prelude.{◌≡◌, ℕ, Bool, true, false, List, [], ◌∷◌, Option, Some, None, if◌then◌else◌}
 use Rattle.emu_model.specs.declared.commands.Command.{Command}
 use Rattle.emu_model.specs.declared.commands.Command.TheVariants.{Inject}
@@ -14,24 +14,24 @@ use Rattle.live.specs.declared.fates.Stop.TheVariants.{Moment, Mine, Any}
 use Rattle.live.specs.declared.fates.Taken.{Taken}
 use Rattle.live.specs.declared.fates.Taken.TheVariants.{Done, Packet, Refused}
 
--- a packet without a load, that was injected
+-- an injected packet without a load
 abbrev pub is_mine : Marks → Load → ℕ → Bool
 is_mine mine Plain packet = is_marked mine packet
 is_mine mine _ packet = false
 
--- a record says that an injected packet was delivered or dropped
+-- a record of the delivery or drop of an injected packet
 abbrev pub is_fate_of : Marks → Record → Bool
 is_fate_of mine (PacketDelivered moment packet load) = is_mine mine load packet
 is_fate_of mine (PacketDropped moment packet load cause) = is_mine mine load packet
 is_fate_of mine _ = false
 
--- that any packet was
+-- a record of the delivery or drop of any packet
 abbrev pub is_fate : Record → Bool
 is_fate (PacketDelivered moment packet load) = true
 is_fate (PacketDropped moment packet load cause) = true
 is_fate _ = false
 
--- it is told also after `show mine`
+-- a record that is also reported after `show mine`
 abbrev pub concerns : Marks → Record → Bool
 concerns mine (PacketDelivered moment packet load) = is_mine mine load packet
 concerns mine (PacketDropped moment packet load cause) = is_mine mine load packet
@@ -42,7 +42,7 @@ concerns mine (PipeLine pipe config) = true
 concerns mine (InstanceLine pipe instance waiting bytes busy in_flight drawn) = true
 concerns mine _ = false
 
--- how long after its moment a record stops time, if it does
+-- how long after its time (ns) a record stops time, if it does
 abbrev pub hold_of : Marks → Stop → Record → Option ℕ
 hold_of mine Moment r = None
 hold_of mine (Mine hold) r = if is_fate_of mine r then Some hold else None
@@ -52,12 +52,12 @@ abbrev pub hold_or : Option ℕ → Option ℕ → Option ℕ
 hold_or (Some hold) other = Some hold
 hold_or None other = other
 
--- the same of the first of some records that does
+-- the hold of the first of these records that stops time, if there is one
 abbrev pub first_hold : Marks → Stop → List Record → Option ℕ
 first_hold mine stop [] = None
 first_hold mine stop (r ∷ rs) = hold_or (hold_of mine stop r) (first_hold mine stop rs)
 
--- ---- what became of a command
+-- ---- the outcome of a command
 abbrev pub refusal_code : Refusal → ℕ
 refusal_code BadNumber = 10
 refusal_code BadSkip = 11
@@ -70,12 +70,12 @@ refusal_code NoFlow = 23
 refusal_code TooManyPipes = 24
 refusal_code TooManyFlows = 25
 
--- why the record at a place says that it was refused, if it does
+-- the reason for a refusal, if this is the record of a refused command
 abbrev pub refusal_in : Option Record → Option Refusal
 refusal_in (Some (CommandRefused moment command refusal)) = Some refusal
 refusal_in _ = None
 
--- the packet that it makes has this number
+-- the outcome of a command that is not refused; the packet that it creates has this number
 abbrev pub done_by : Command → ℕ → Taken
 done_by (Inject send) number = Packet number
 done_by _ number = Done
@@ -84,7 +84,7 @@ abbrev pub taken_by : Command → ℕ → Option Refusal → Taken
 taken_by command number None = done_by command number
 taken_by command number (Some refusal) = Refused (refusal_code refusal)
 
--- an injected packet is marked
+-- the packet that a command injects is marked; other commands mark nothing
 abbrev pub MarkedBy : Command → ℕ → Marks → Marks → Type 0
 MarkedBy (Inject send) number old new = MarksOne number old new
 MarkedBy _ number old new = new ≡ old

@@ -1,4 +1,4 @@
--- Which line of a session isn't taken, and for what fault (our choice).
+-- The lines that a session rejects, and the fault of each (our choice).
 use Rattle.std.specs.Prelude.{◌≡◌, ℕ, ◌<◌, ◌≤◌, ◌⊎◌, List, length, Option, Some, None, Result, Ok, Err, nat_lt, nat_le, if◌then◌else◌, is_some, position, slice_get}
 use Rattle.std.specs.Str.{bytes_eq}
 use Rattle.control.specs.declared.fault.Cause.{Cause}
@@ -14,7 +14,7 @@ use Rattle.live.specs.Opens.{KeptOpen, IsFault}
 use Rattle.live.specs.Requests.{Asked, Until, UntilMine, UntilAny, Next, AddNext, Use, Show, Help, asked_of, request_of}
 use Rattle.live.specs.Sessions.{KeptSession}
 
--- a line's own fault
+-- the cause of a fault that a line has by itself
 abbrev pub cause_of : LineFault → Cause
 cause_of alone.TooLong = TooLong
 cause_of alone.BadByte = BadByte
@@ -25,16 +25,16 @@ cause_of alone.OutOfRange = OutOfRange
 abbrev pub place_named : List ℕ → List KeptOpen → Option ℕ
 place_named name os = position (λ o. bytes_eq o.name name) os
 
--- of a line that begins an experiment
+-- the fault of a line that begins an experiment, if it has one
 abbrev pub begin_fault : List KeptOpen → List ℕ → Option Cause
 begin_fault os name = if nat_le 256 (length os) then Some TooMany else if is_some (place_named name os) then Some SameName else None
 
--- of a command that comes to an experiment
+-- the fault of a command for an experiment, if it has one
 abbrev pub command_fault : KeptOpen → ℕ → Option Cause
 command_fault o moment =
     if o.is_closed then Some AfterEnd else if nat_lt moment o.reached then Some Backwards else None
 
--- of time that is to pass in one
+-- the fault of a request to let time pass in an experiment, if it has one
 abbrev pub fault_in : Phase → ℕ → ℕ → Option Cause
 fault_in Going reached limit = if nat_lt limit reached then Some Backwards else None
 fault_in Over reached limit = None
@@ -43,7 +43,7 @@ fault_in Lost reached limit = None
 abbrev pub time_fault : KeptOpen → ℕ → Option Cause
 time_fault o limit = fault_in o.phase o.reached limit
 
--- of what is asked of the experiment that lines are for, if there is one
+-- the fault of a line for the current experiment, which must exist
 abbrev pub of_current : (KeptOpen → Option Cause) → Option KeptOpen → Option Cause
 of_current f None = Some NoExperiment
 of_current f (Some o) = f o
@@ -61,12 +61,12 @@ request_fault s (Show all) = of_current (λ o. None) (current_of s)
 request_fault s (Use name) = if is_some (place_named name s.opened) then None else Some NoExperiment
 request_fault s Help = None
 
--- of a request's line
+-- the fault of the line of a request, if it has one
 abbrev pub asked_fault : KeptSession → Result Asked Cause → Option Cause
 asked_fault s (Err cause) = Some cause
 asked_fault s (Ok a) = request_fault s a
 
--- of what a line says to a scenario
+-- the fault of the entry of a line, if it has one
 abbrev pub entry_fault : KeptSession → Entry → Option Cause
 entry_fault s Nothing = None
 entry_fault s (Begins name spec) = begin_fault s.opened name
@@ -81,13 +81,13 @@ abbrev pub IsFaultBy : Option (List ℕ) → KeptSession → List ℕ → Option
 IsFaultBy (Some asked) s line fault = fault ≡ asked_fault s (request_of asked)
 IsFaultBy None s line fault = IsFaultAlone s line fault
 
--- the fault for which a line isn't taken, if it has one
+-- the fault for which a line is rejected, if it has one
 abbrev pub IsFaultOf : List ℕ → KeptSession → Option Cause → Type 0
 IsFaultOf line s fault =
     ((512 < length line) × (fault ≡ Some TooLong))
     ⊎ ((length line ≤ 512) × IsFaultBy (asked_of line) s line fault)
 
--- a fault is answered, and nothing changes; or the answer is none
+-- a fault is the answer, and nothing changes; without a fault, the answer is no fault
 abbrev pub Answers : Option Cause → Answer → Type 0 → Type 0
 Answers None a same = ¬ IsFault a
 Answers (Some c) a same = (a ≡ answers.Fault c) × same

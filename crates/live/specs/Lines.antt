@@ -1,4 +1,4 @@
--- The lines that answer (our choice).
+-- The lines of answers (our choice).
 use Rattle.std.specs.Prelude.{ℕ, List, [], ◌∷◌, ◌++◌, codes, decimal, Option, Some, None}
 use Rattle.control.specs.declared.fault.Cause.{Cause}
 use Rattle.control.specs.declared.fault.Cause.TheVariants as causes
@@ -6,7 +6,7 @@ use Rattle.control_words.specs.Text.{lines}
 use Rattle.live.specs.declared.answer.Answer.{Answer}
 use Rattle.live.specs.declared.answer.Answer.TheVariants as answers
 
--- the word of a cause, as in a fault of a scenario
+-- the word for a cause, as in a fault of a scenario
 abbrev pub cause_word : Cause → List ℕ
 cause_word causes.TooBig = codes "toobig"
 cause_word causes.Cut = codes "cut"
@@ -42,7 +42,7 @@ abbrev pub answer_with : Answer → Option Answer → List ℕ
 answer_with a None = answer_line a
 answer_with a (Some b) = answer_both a b
 
--- the fault that an answer names, if it is one
+-- the cause in an answer, if the answer is a fault
 abbrev pub fault_of : Answer → Option Cause
 fault_of (answers.Fault cause) = Some cause
 fault_of _ = None
@@ -60,7 +60,7 @@ comments (line ∷ next ∷ rest) = comment_line line ++ comments (next ∷ rest
 abbrev pub comment_of : List ℕ → List ℕ
 comment_of text = comments (lines text)
 
--- what can be asked
+-- the list of requests
 abbrev pub help_lines : List ℕ
 help_lines =
     codes "# #> until @M                all that is due below M (ns) happens\n"

@@ -1,4 +1,4 @@
--- An experiment of a session, whose commands come line by line, and what was told of it (our choice).
+-- An experiment of a session, whose commands arrive line by line, and what was reported of it (our choice).
 use Rattle.std.specs.Prelude.{◌≡◌, ℕ, ◌^◌, ◌≤◌, Bool, true, false, None, IsSome, List, [], ◌∷◌, ◌++◌, flat_map}
 use Rattle.emu_model.specs.declared.commands.Timed.{Timed}
 use Rattle.emu_model.specs.declared.records.Record.{Record}
@@ -10,7 +10,7 @@ use Rattle.live.specs.declared.open.Phase.TheVariants.{Going, Over, Lost}
 use Rattle.live.specs.Runs.{KeptRun, IsAt, Forgets, closing_of}
 use Rattle.live.specs.RunLaws.{report_of_commands}
 
--- its name, its run, the moment to which time has come, how it stands, whether its `end` came, and whether the answer to
+-- its name, its run, the time that it has reached, its phase, whether its `end` has arrived, and whether the answer to
 -- `next` is added to others
 pub record KeptOpen : Type 0 where
   pub name : List ℕ
@@ -20,18 +20,19 @@ pub record KeptOpen : Type 0 where
   pub is_closed : Bool
   pub adds_next : Bool
 
--- one that goes on waits at that moment, and all that it told was handed out
+-- a running experiment waits at this time, and everything that it has written was passed on
 abbrev pub IsOpen : Phase → ℕ → KeptRun → Bool → Type 0
 IsOpen Going t r closed = (t ≤ 10 ^ 15) × (r.report.text ≡ []) × (closed ≡ false) × (earlier : List Record) × IsAt t earlier r
 IsOpen Over t r closed = Unit {0}
 IsOpen Lost t r closed = Unit {0}
 
--- these may come yet of one that is over: nothing after its `end`, and else from that moment on
+-- the commands that may still arrive after it is over: an empty list requires its `end`, and otherwise
+-- the first command is not before the time reached
 abbrev pub MayCome : KeptOpen → List Timed → Type 0
 MayCome o [] = o.is_closed ≡ true
 MayCome o (c ∷ rest) = o.reached ≤ c.moment
 
--- these records were told of one that goes on, all of them, and these commands came
+-- a running experiment: these commands arrived, and this text, with all of its records, was reported
 pub record IsGoing (came : List Timed) (told : List ℕ) (o : KeptOpen) : Type 0 where
   pub shows : o.run.shows_all ≡ true
   pub unclosed : o.is_closed ≡ false
@@ -40,15 +41,15 @@ pub record IsGoing (came : List Timed) (told : List ℕ) (o : KeptOpen) : Type 0
   pub at : IsAt o.reached earlier o.run
   pub lines : told ≡ heading_of o.name ++ flat_map line_of earlier
 
--- the report of running it alone was told, on the commands that came and whatever may come yet
+-- the text is the report of running it alone on the commands that arrived and any that may still arrive
 abbrev pub IsOver : List Timed → List ℕ → KeptOpen → Type 0
 IsOver came told o = (rest : List Timed) → MayCome o rest → told ≡ report_of_commands o.name o.run.experiment.spec (came ++ rest)
 
--- the same whatever comes, since a command ended it
+-- like `IsOver`, whatever commands follow, because a command ended it
 abbrev pub IsWhole : List Timed → List ℕ → KeptOpen → Type 0
 IsWhole came told o = (rest : List Timed) → told ≡ report_of_commands o.name o.run.experiment.spec (came ++ rest)
 
--- what was told of an experiment to which these commands came is its report so far
+-- the text that was reported of an experiment to which these commands arrived is its report so far
 abbrev pub IsToldIn : Phase → List Timed → List ℕ → KeptOpen → Type 0
 IsToldIn Going came told o = IsGoing came told o
 IsToldIn Over came told o = IsOver came told o
@@ -57,11 +58,11 @@ IsToldIn Lost came told o = ⊥
 abbrev pub IsTold : List Timed → List ℕ → KeptOpen → Type 0
 IsTold came told o = IsToldIn o.phase came told o
 
--- from one to another these bytes were told, and these commands came
+-- between two states these bytes were reported, and these commands arrived
 abbrev pub Tells : List Timed → List ℕ → KeptOpen → KeptOpen → Type 0
 Tells more bytes old new = (came : List Timed) (told : List ℕ) → IsTold came told old → IsTold (came ++ more) (told ++ bytes) new
 
--- the same of one that took a command, which may have ended it
+-- like `IsToldIn`, after a command, which may have ended the experiment
 abbrev pub IsTakenIn : Phase → List Timed → List ℕ → KeptOpen → Type 0
 IsTakenIn Going came told o = IsGoing came told o
 IsTakenIn Over came told o = IsWhole came told o
@@ -70,12 +71,12 @@ IsTakenIn Lost came told o = ⊥
 abbrev pub Takes : Timed → List ℕ → KeptOpen → KeptOpen → Type 0
 Takes c bytes old new = (came : List Timed) (told : List ℕ) → IsTold came told old → IsTakenIn new.phase (came ++ c ∷ []) (told ++ bytes) new
 
--- its name and what it was given stay
+-- the name and the spec of the experiment do not change
 pub record IsSame (old new : KeptOpen) : Type 0 where
   pub name : new.name ≡ old.name
   pub spec : new.run.experiment.spec ≡ old.run.experiment.spec
 
--- what was recorded was told, with the counters where it has ended, and all that was told is handed out
+-- the new records are reported, with the counters if the experiment has ended, and everything written is passed on
 pub record Settles (old new : KeptOpen) (bytes : List ℕ) : Type 0 where
   pub written : KeptRun
   pub forgets : Forgets old.run written
@@ -85,12 +86,12 @@ pub record Settles (old new : KeptOpen) (bytes : List ℕ) : Type 0 where
   pub ends : IsSome written.experiment.ending → new.phase ≡ Over
   pub over : new.phase ≡ Over → IsSome written.experiment.ending × (bytes ≡ written.report.text ++ closing_of written)
 
--- a line that isn't taken
+-- an answer that rejects a line
 abbrev pub IsFault : Answer → Type 0
 IsFault (answers.Fault cause) = Unit {0}
 IsFault _ = ⊥
 
--- what is said of where it stands
+-- the answer that reports the phase and the time
 abbrev pub stand_in : Phase → ℕ → Answer
 stand_in Going t = answers.Now t
 stand_in Over t = answers.Over t

@@ -1,4 +1,4 @@
--- What a request may ask (our choice).
+-- The requests of a session (our choice).
 use Rattle.std.specs.Prelude.{ℕ, ◌≤◌, ◌^◌, ◌&&◌, Bool, true, false, List, [], ◌∷◌, Option, Some, None, Result, Ok, Err, nat_le, ◌==◌, if◌then◌else◌, codes}
 use Rattle.std.specs.Str.{bytes_eq}
 use Rattle.control.specs.declared.fault.Cause.{Cause}
@@ -12,7 +12,6 @@ use Rattle.live.specs.declared.request.Request.TheVariants as code
 use Rattle.live.specs.declared.request.RawRequest.{RawRequest}
 use Rattle.live.specs.declared.request.RawRequest.TheVariants as raw
 
--- what is asked
 pub data Asked : Type 0 where
   Until : ℕ → Asked
   UntilMine : ℕ → ℕ → Asked
@@ -44,13 +43,13 @@ view_raw (raw.Show all) = Show all
 view_raw raw.Help = Help
 
 -- ---- the words
--- what stands behind `#>`
+-- the rest of a line that begins with `#>`
 unfoldable pub asked_of : List ℕ → Option (List ℕ)
 asked_of [] = None
 asked_of (x ∷ []) = None
 asked_of (x ∷ y ∷ rest) = if x == 35 then (if y == 62 then Some rest else None) else None
 
--- [G], to the line's end: 1 without
+-- [G], up to the end of the line; 1 by default
 unfoldable pub hold_of : Words → Option ℕ
 hold_of [] = Some 1
 hold_of (word ∷ ws) = do
@@ -122,7 +121,7 @@ shape_of ws = do
       else None
 
 -- ---- the numbers
--- no moment is later than 10^15 ns, and what is waited for after a fate is 1 ns at least
+-- a number that is at most 10^15 ns, and at least `least`: 0 for a time, and 1 for the hold after a delivery or a drop
 abbrev pub time_within : ℕ → ℕ → Option ℕ
 time_within least n = if nat_le least n && nat_le n (10 ^ 15) then Some n else None
 
@@ -152,11 +151,11 @@ abbrev pub shaped : Option Asked → Result Asked Cause
 shaped None = Err BadWord
 shaped (Some a) = ranged (asked_within a)
 
--- what a line asks behind its `#>`, or its fault
+-- the request of a line after its `#>`, or its fault
 unfoldable pub request_of : List ℕ → Result Asked Cause
 request_of line = shaped (shape_of (words line))
 
--- ---- what holds of a request that was read
+-- ---- the ranges of a parsed request
 abbrev pub IsInRange : Request → Type 0
 IsInRange (code.Until limit) = limit ≤ 10 ^ 15
 IsInRange (code.UntilMine limit hold) = (limit ≤ 10 ^ 15) × (1 ≤ hold) × (hold ≤ 10 ^ 15)

@@ -1,4 +1,4 @@
--- An experiment whose commands come one by one, and what was written of it (our choice).
+-- An experiment whose commands arrive one by one, and what was written of it (our choice).
 use Rattle.std.specs.Prelude.{◌≡◌, ℕ, ◌*◌, ◌^◌, ◌≤◌, Bool, true, false, IsSome, None, ◌⊎◌, List, [], ◌∷◌, ◌++◌, flat_map}
 use Rattle.std.specs.List.{filter}
 use Rattle.emu_model.specs.declared.commands.Timed.{Timed}
@@ -16,7 +16,7 @@ use Rattle.experiment.specs.Written.{Written, Counts}
 use Rattle.live.specs.Fates.{concerns}
 use Rattle.live.specs.Marking.{Marks}
 
--- the experiment over its own packets, what was written and not yet handed out, whether all records are written, and which
+-- the experiment with its own packets, what was written and not yet passed on, whether all records are written, and which
 -- packets were injected
 pub record KeptRun : Type 0 where
   pub experiment : KeptExperiment
@@ -25,13 +25,13 @@ pub record KeptRun : Type 0 where
   pub shows_all : Bool
   pub mine : Marks
 
--- its steps are within its budget, and it wasn't halted for want of memory
+-- its steps are within its budget, and no failed allocation has halted it
 pub record IsProper (e : KeptExperiment) : Type 0 where
   pub few : e.steps ≤ e.spec.budget.steps
   pub ends : IsSome e.ending → IsSome (shown_ending e.ending)
 
--- these records were told; time has come to a moment, and whatever comes then or later finds the experiment as running
--- it alone has it
+-- these records were reported, and time has reached `t`; whatever arrives at `t` or later finds the experiment in the state
+-- of running it alone
 pub record IsAt (t : ℕ) (earlier : List Record) (r : KeptRun) : Type 0 where
   pub housed : IsHousedIn (own_pocket r.shelf) r.experiment
   pub counts : Counts earlier r.report
@@ -39,14 +39,14 @@ pub record IsAt (t : ℕ) (earlier : List Record) (r : KeptRun) : Type 0 where
   pub latest : last_moment 0 r.experiment.consumed ≤ t
   pub proper : IsProper r.experiment
 
--- the same of one whose commands were taken
+-- like `IsAt`, right after its commands were processed
 pub record IsAfter (earlier : List Record) (r : KeptRun) : Type 0 where
   pub housed : IsHousedIn (own_pocket r.shelf) r.experiment
   pub counts : Counts earlier r.report
   pub alone : IsAloneAfter earlier (own_pocket r.shelf) r.experiment
   pub proper : IsProper r.experiment
 
--- of some records, these are written
+-- the records that are written, among these
 abbrev pub picked : Bool → Marks → List Record → List Record
 picked true mine rs = rs
 picked false mine rs = filter (concerns mine) rs
@@ -54,11 +54,11 @@ picked false mine rs = filter (concerns mine) rs
 abbrev pub chosen : KeptRun → List Record → List Record
 chosen r rs = picked r.shows_all r.mine rs
 
--- what is written of records
+-- the text that is written for these records
 abbrev pub Tells : List Record → KeptRun → KeptRun → Type 0
 Tells more old new = new.report.text ≡ old.report.text ++ flat_map line_of (chosen old more)
 
--- from one moment to another: what happened was told, and no command came
+-- from one time to another: what happened was reported, and no command arrived
 pub record Goes (t u : ℕ) (old new : KeptRun) : Type 0 where
   pub spec : new.experiment.spec ≡ old.experiment.spec
   pub consumed : new.experiment.consumed ≡ old.experiment.consumed
@@ -67,7 +67,7 @@ pub record Goes (t u : ℕ) (old new : KeptRun) : Type 0 where
   pub tells : (earlier : List Record) → IsAt t earlier old →
       (more : List Record) × IsAt u (earlier ++ more) new × Tells more old new
 
--- what was recorded was told, and is forgotten
+-- the records were reported, and are discarded
 pub record Forgets (old new : KeptRun) : Type 0 where
   pub experiment : new.experiment ≡ record old.experiment { net = record old.experiment.net { log = new.experiment.net.log } }
   pub records : new.experiment.net.log.records ≡ []
@@ -82,7 +82,7 @@ pub record Forgets (old new : KeptRun) : Type 0 where
   pub waits : (t : ℕ) (earlier : List Record) (p : Pocket) → IsWaiting t earlier p old.experiment →
       IsWaiting t (earlier ++ old.experiment.net.log.records) p new.experiment
 
--- a command came, and was done or refused; what happened isn't told yet
+-- a command arrived, and was done or refused; what happened is not reported yet
 pub record Takes (c : Timed) (old new : KeptRun) : Type 0 where
   pub spec : new.experiment.spec ≡ old.experiment.spec
   pub consumed : new.experiment.consumed ≡ old.experiment.consumed ++ c ∷ []
@@ -92,7 +92,7 @@ pub record Takes (c : Timed) (old new : KeptRun) : Type 0 where
   pub at : (t : ℕ) (earlier : List Record) → IsAt t earlier old → t ≤ c.moment → new.experiment.ending ≡ None →
       IsAt c.moment earlier new
 
--- the state that is shown
+-- the state that the run shows
 abbrev pub state_of : KeptRun → State
 state_of r = view (own_pocket r.shelf) r.experiment
 
@@ -103,21 +103,21 @@ closing_of r = lines.counters_of (record (counters_of (view (own_pocket r.shelf)
   drops = r.report.drops;
 })
 
--- when the event is due that is due first; every due lies below 2 * 10^15 ns
+-- the time of the event that is due first; every event is due before 2 * 10^15 ns
 abbrev pub first_moment : KeptRun → ℕ
 first_moment r =
     let s : State = state_of r in
     (least_due (2 * 10 ^ 15) (dues_of s.clock s.net)).moment
 
--- how many packets were made
+-- the number of packets that were created
 abbrev pub made_of : KeptRun → ℕ
 made_of r = (state_of r).net.made
 
--- nothing is due below a moment
+-- nothing is due before a time
 abbrev pub IsQuiet : ℕ → KeptRun → Type 0
 IsQuiet t r = IsSettled t (state_of r)
 
--- no event was made that it goes on after: it has ended, or nothing is due below the moment to which time has come
+-- if no event occurred after which the run continues, it has ended, or time has reached the limit and nothing is due before it
 abbrev pub IsQuietAfter : ℕ → (Bool × ℕ) → KeptRun → Type 0
 IsQuietAfter limit (true, u) r = Unit {0}
 IsQuietAfter limit (false, u) r = IsSome r.experiment.ending ⊎ ((u ≡ limit) × IsQuiet limit r)

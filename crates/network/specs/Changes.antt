@@ -1,4 +1,4 @@
--- How a net changes.
+-- The changes of a net.
 use Rattle.std.specs.Prelude.{◌≡◌, ℕ, ◌+◌, ◌≤◌, List, ◌++◌, length}
 use Rattle.emu_model.specs.declared.records.Record.{Record}
 use Rattle.emu_model.specs.declared.commands.Command.{Command}
@@ -10,7 +10,7 @@ use Rattle.pipe_table.specs.Table.{pipe_keys}
 use Rattle.pipe_table.specs.Log.{Log}
 use Rattle.network.specs.Kept.{KeptNet, net_of, line_keys, IsHoused}
 
--- it is shown as m then, and at most c packets were made
+-- the view of the net is m afterwards, and at most c packets were created
 pub record Becomes (c : ℕ) (m : Net) (p q : Pocket) (old new : KeptNet) : Type 0 where
   pub shown : net_of q new ≡ m
   pub housed : IsHoused q new
@@ -18,25 +18,25 @@ pub record Becomes (c : ℕ) (m : Net) (p q : Pocket) (old new : KeptNet) : Type
   pub seed : new.table.seed ≡ old.table.seed
   pub made : new.made ≤ old.made + c
 
--- only room has changed
+-- only spare capacity has changed
 pub record IsStill (old new : KeptNet) : Type 0 where
   pub shown : (p : Pocket) → net_of p new ≡ net_of p old
   pub line : new.direct.line ≡ old.direct.line
   pub keys : pipe_keys new.table.pipes ≡ pipe_keys old.table.pipes
   pub seed : new.table.seed ≡ old.table.seed
 
--- these records came, and nothing else changed
+-- these records were appended, and nothing else changed
 pub record Notes (rs : List Record) (old new : KeptNet) : Type 0 where
   pub rest : new ≡ record old { log = new.log }
   pub records : new.log.records ≡ old.log.records ++ rs
   pub room : old.log.spare ≤ new.log.spare + length rs
 
--- these records came to a log
+-- these records were appended to a log
 pub record NotesIn (rs : List Record) (old new : Log) : Type 0 where
   pub records : new.records ≡ old.records ++ rs
   pub room : old.spare ≤ new.spare + length rs
 
--- it is shown as f makes of it, and its keys stay
+-- the view of the net changed by f, and its keys stayed
 pub record Turns (f : Net → Net) (old new : KeptNet) : Type 0 where
   pub shown : (p : Pocket) → net_of p new ≡ f (net_of p old)
   pub line : line_keys new.direct.line ≡ line_keys old.direct.line
@@ -44,11 +44,11 @@ pub record Turns (f : Net → Net) (old new : KeptNet) : Type 0 where
   pub seed : new.table.seed ≡ old.table.seed
   pub made : new.made ≡ old.made
 
--- a command is obeyed, whatever packets the net shows
+-- the command was obeyed, whatever packets the keys refer to
 abbrev pub Obeys : EventContext → ℕ → Command → KeptNet → KeptNet → Type 0
 Obeys at number command old new = (p : Pocket) → IsHoused p old →
     Becomes 1 (obey at number command (net_of p old)) p p old new
 
--- where only room has changed, the owner's packets are still just those that the keys name
+-- if only spare capacity has changed, the owner's packets are still exactly those that the keys refer to
 abbrev pub StillIsHoused : Type 0
 StillIsHoused = (p : Pocket) (old new : KeptNet) → IsHoused p old → IsStill old new → IsHoused p new

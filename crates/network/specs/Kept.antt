@@ -1,4 +1,4 @@
--- What is kept of an experiment's rules, pipes and sources, and the net that it shows.
+-- The stored rules, pipes and sources of an experiment, and the view of them as a net.
 use Rattle.std.specs.Prelude.{◌≡◌, ℕ, ◌≤◌, Bool, Option, List, ◌++◌, map, length}
 use Rattle.emu_model.specs.Moments.{IsMoment}
 use Rattle.emu_model.specs.Rules.{RuleBook}
@@ -15,9 +15,8 @@ use Rattle.pipe_table.specs.Log.{Log}
 use Rattle.traffic.specs.Kept.{KeptTraffic, states_of}
 use Rattle.network.specs.declared.flow_cache.CacheEntry.{CacheEntry}
 
--- the rules, the pipes, the link of `allow` with its packets' keys, the flows and trains, how many
--- packets were made, whether one that leaves a pipe is delivered at once, whether packets are traced,
--- what was recorded, and the routes that are remembered
+-- the rules, the pipes, the link of `allow` with its packets' keys, the flows and trains, the number of packets created, whether a packet that leaves
+-- a pipe is delivered at once, whether packets are traced, the records, and the cached routes
 pub record KeptNet : Type 0 where
   pub book : RuleBook
   pub table : Table
@@ -29,7 +28,7 @@ pub record KeptNet : Type 0 where
   pub log : Log
   pub flow_cache : List (Option CacheEntry)
 
--- the net that is shown over an owner's packets
+-- the view of a net over an owner's packets
 abbrev pub net_of : Pocket → KeptNet → Net
 net_of p n = record {
   book = n.book;
@@ -43,20 +42,20 @@ net_of p n = record {
   records = n.log.records;
 }
 
--- the keys that stand in a delay line, from its front
+-- the keys in a delay line, from its front
 abbrev pub line_keys : Line ℕ → List ℕ
 line_keys l = map (λ x. x.item) l.in_flight
 
--- the keys that stand in the link of `allow`, and in the pipes
+-- the keys in the link of `allow`, then those in the pipes
 abbrev pub net_keys : KeptNet → List ℕ
 net_keys n = line_keys n.direct.line ++ pipe_keys n.table.pipes
 
--- the owner's packets are just those that the keys name, each once
+-- the owner's packets are exactly those that the keys refer to, and each key occurs once
 pub record IsHoused (p : Pocket) (n : KeptNet) : Type 0 where
   pub each : (k : ℕ) → uses k (net_keys n) ≡ found (p.find k)
   pub count : p.count ≡ length (net_keys n)
 
--- a net at a moment at which an event may come
+-- the state of a net at a time at which an event may happen
 pub record Stands (at : EventContext) (p : Pocket) (n : KeptNet) : Type 0 where
   pub early : IsMoment at.now
   pub seed : at.seed ≡ n.table.seed

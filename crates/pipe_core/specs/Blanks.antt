@@ -1,4 +1,4 @@
--- What an instance is beside its keys: each of them is 0.
+-- Instances without their keys: each key is replaced by 0.
 use Rattle.std.specs.Prelude.{ℕ, option_map, map}
 use Rattle.emu_model.specs.DropTail.{Queued}
 use Rattle.emu_model.specs.Delay.{InFlight, Line}

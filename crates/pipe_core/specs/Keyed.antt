@@ -1,4 +1,4 @@
--- A pipe whose packets stand on a shelf, and the pipe that it shows.
+-- A pipe whose packets are on a shelf, and its view, in which each key is replaced by its packet.
 use Rattle.std.specs.Prelude.{◌≡◌, ℕ, ◌+◌, ◌≤◌, is_some, List, [], ◌∷◌, ◌++◌, map, length}
 use Rattle.emu_model.specs.declared.packets.Packet.{Packet}
 use Rattle.emu_model.specs.declared.pipes.PipeConfig.{PipeConfig}
@@ -12,7 +12,7 @@ use Rattle.pipe_core.specs.KeyedInstance.{seen, kept, keys_in, IsTuned}
 use Rattle.pipe_core.specs.declared.slot.Slot.{Slot}
 use Rattle.pipe_core.specs.Moves.{packet_at}
 
--- its instances, each beside its flow identifier, and how many more it can have without memory
+-- a pipe: its instances, each with its flow identifier, and the number of further instances that need no allocation
 pub record KeyedPipe : Type 0 where
   pub seed : ℕ
   pub number : ℕ
@@ -20,25 +20,25 @@ pub record KeyedPipe : Type 0 where
   pub slots : List Slot
   pub spare : ℕ
 
--- the instance of keys
+-- the instance in the form of the definitions, with keys instead of packets
 abbrev pub kept_slot : Slot → InstanceOf ℕ
 kept_slot s = kept s.id s.instance
 
 abbrev pub seen_slot : (ℕ → Packet) → Slot → Instance
 seen_slot f s = seen f (kept_slot s)
 
--- the pipe that is shown, where f names the packet of each key
+-- the view of a pipe, where f maps each key to its packet
 abbrev pub seen_pipe : (ℕ → Packet) → KeyedPipe → PipeState
 seen_pipe f p = record { number = p.number; config = p.config; instances = map (seen_slot f) p.slots }
 
--- the pipe that is shown over an owner's packets
+-- the view of a pipe over an owner's packets
 abbrev pub view : Pocket → KeyedPipe → PipeState
 view pocket p = seen_pipe (packet_at pocket.find) p
 
 abbrev pub ids_of : List Slot → List FlowId
 ids_of slots = map (λ s. s.id) slots
 
--- the numbers of an instance, as a listing has them
+-- the statistics of an instance, as a listing shows them
 abbrev pub shown_of : Instance → Shown
 shown_of i = record {
   waiting = length i.waiting;
@@ -48,12 +48,12 @@ shown_of i = record {
   drawn = shown_words i.drawn;
 }
 
--- the keys that stand in a pipe, by instance
+-- the keys in a pipe, instance by instance
 unfoldable pub keys_of : List Slot → List ℕ
 keys_of [] = []
 keys_of (s ∷ ss) = keys_in s.instance ++ keys_of ss
 
--- an instance of this pipe, by its number
+-- instance k of the pipe with this number, configuration and seed
 pub record IsSlot (config : PipeConfig) (seed number k : ℕ) (s : Slot) : Type 0 where
   pub tuned : IsTuned config s.instance
   pub seed_is : s.instance.draws.seed ≡ seed

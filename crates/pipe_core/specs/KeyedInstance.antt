@@ -1,5 +1,4 @@
--- An instance whose packets are kept elsewhere, under keys, and the instance that it shows once
--- each key is named.
+-- An instance that holds keys instead of packets, and its view, in which each key is replaced by its packet.
 use Rattle.std.specs.Prelude.{◌≡◌, ℕ, Option, option_map, List, map}
 use Rattle.emu_model.specs.declared.packets.Packet.{Packet}
 use Rattle.emu_model.specs.declared.pipes.PipeConfig.{PipeConfig}
@@ -14,7 +13,7 @@ use Rattle.loss_stream.specs.Draws.{Draws}
 abbrev pub KeyedQueue : Type 0
 KeyedQueue = DisciplinedQueue ℕ
 
--- the rate, and what is in service
+-- the rate in bit/s, and the key in service with its busy period, if any
 pub record KeyedService : Type 0 where
   pub bw : ℕ
   pub busy : Option (InService ℕ)
@@ -37,7 +36,7 @@ seen_line f l = record { in_flight = map (seen_leaving f) l.in_flight; last = l.
 abbrev pub seen_service : (ℕ → Packet) → InService ℕ → InService Packet
 seen_service f s = record { item = f s.item; period = s.period }
 
--- the instance that is shown, where f names the packet of each key
+-- the view of an instance, where f maps each key to its packet
 abbrev pub seen : (ℕ → Packet) → InstanceOf ℕ → Instance
 seen f i = record {
   id = i.id;
@@ -48,7 +47,7 @@ seen f i = record {
   drawn = i.drawn;
 }
 
--- the instance of keys
+-- the instance in the form of the definitions, with keys instead of packets
 abbrev pub kept : FlowId → KeyedInstance → InstanceOf ℕ
 kept id i = record {
   id = id;
@@ -62,17 +61,18 @@ kept id i = record {
 abbrev pub seen_instance : (ℕ → Packet) → FlowId → KeyedInstance → Instance
 seen_instance f id i = seen f (kept id i)
 
--- the keys that stand in an instance, whatever its flow: on their way, in service, waiting
+-- the keys in an instance, whatever its flow: those in flight, the one in service, and those that wait
 abbrev pub keys_in : KeyedInstance → List ℕ
 keys_in i = held_in (kept (record { proto = 0; src = 0; dst = 0; sport = 0; dport = 0 }) i)
 
--- the instance works by this configuration
+-- the instance has the queue limit, the discipline and the rate of this configuration
 pub record IsTuned (config : PipeConfig) (i : KeyedInstance) : Type 0 where
   pub limit : i.queue.limit ≡ config.queue
   pub discipline : i.queue.discipline ≡ config.discipline
   pub bw : i.service.bw ≡ config.bw
 
--- what no packet changes
+-- the parts that neither an accepted packet nor a finish changes: the limit, the discipline, the rate and the loss
+-- stream
 pub record IsSameSetting (old new : KeyedInstance) : Type 0 where
   pub limit : new.queue.limit ≡ old.queue.limit
   pub discipline : new.queue.discipline ≡ old.queue.discipline

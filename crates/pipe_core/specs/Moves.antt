@@ -1,5 +1,4 @@
--- What a call does to an owner's packets on a shelf, told by the keys that stand in a list before it
--- and after it.
+-- The effect of a call on an owner's packets on a shelf, stated by the keys in a list before and after it.
 use Rattle.std.specs.Prelude.{◌≡◌, ℕ, ◌+◌, ◌≤◌, Option, Some, None, IsSome, List, ◌++◌, length, unwrap_or, map}
 use Rattle.emu_model.specs.declared.packets.Packet.{Packet}
 use Rattle.emu_model.specs.declared.packets.Protocol.TheVariants.{Udp}
@@ -20,7 +19,7 @@ some_packet = record {
   place = record { number = 0; order = 0 };
 }
 
--- the packet that a key names
+-- the packet of a key, or `some_packet` if there is none
 abbrev pub packet_at : (ℕ → Option Packet) → ℕ → Packet
 packet_at find key = unwrap_or (find key) some_packet
 
@@ -28,20 +27,20 @@ abbrev pub found : Option Packet → ℕ
 found None = 0
 found (Some p) = 1
 
--- each key names a packet of the pocket, and stands once
+-- each key in the list is that of a packet in the pocket, and occurs once
 pub record AreNamed (pocket : Pocket) (keys : List ℕ) : Type 0 where
   pub each : (k : ℕ) → uses k keys ≤ found (pocket.find k)
   pub within : length keys ≤ pocket.count
 
--- what came into the list was put into the pocket, and what left it was taken; the owner's other
--- packets stay
+-- packets whose keys entered the list were put into the pocket, and those whose keys left it were taken; the owner's
+-- other packets stay
 pub record Keeps (p q : Pocket) (old new : List ℕ) : Type 0 where
   pub balance : (k : ℕ) → uses k new + found (p.find k) ≡ uses k old + found (q.find k)
   pub kept : (k : ℕ) → uses k old ≡ 0 → IsSome (p.find k) → q.find k ≡ p.find k
   pub count : q.count + length old ≡ p.count + length new
   pub budget : q.budget ≡ p.budget
 
--- these keys' packets were taken
+-- the packets of these keys were taken; the others stay
 pub record Takes (p q : Pocket) (keys : List ℕ) : Type 0 where
   pub gone : (k : ℕ) → uses k keys + found (q.find k) ≡ found (p.find k)
   pub kept : (k : ℕ) → uses k keys ≡ 0 → q.find k ≡ p.find k
@@ -49,8 +48,7 @@ pub record Takes (p q : Pocket) (keys : List ℕ) : Type 0 where
   pub count : q.count + length keys ≡ p.count
   pub budget : q.budget ≡ p.budget
 
--- of all these keys some are left; the packets of the others were taken, and stand in order in a list,
--- behind those that stood there before
+-- the packets of the keys in `all` before those in `left` were taken, and appended to a list, in order
 pub record Taking (p q : Pocket) (all left : List ℕ) (before now : List Packet) : Type 0 where
   pub gone : List ℕ
   pub whole : all ≡ gone ++ left

@@ -1,7 +1,7 @@
--- Sums over keys: how often one stands in a list, and how many there are.
+-- Sums over lists of keys: the occurrences of one key, and the number of keys.
 use Rattle.std.specs.Prelude.{ℕ, ◌+◌, ◌==◌, if◌then◌else◌, List, [], ◌∷◌}
 
--- the sum of what each key weighs
+-- the sum of the weights of the keys
 unfoldable pub total : (ℕ → ℕ) → List ℕ → ℕ
 total weight [] = 0
 total weight (x ∷ xs) = weight x + total weight xs
@@ -9,7 +9,7 @@ total weight (x ∷ xs) = weight x + total weight xs
 abbrev pub one_at : ℕ → ℕ → ℕ
 one_at k key = if key == k then 1 else 0
 
--- how often a key stands in a list
+-- the number of occurrences of a key in a list
 abbrev pub uses : ℕ → List ℕ → ℕ
 uses k keys = total (one_at k) keys
 

@@ -1,4 +1,4 @@
--- What is due first of each pipe, and an index of it.
+-- The earliest due of each pipe, and an index of these dues.
 use Rattle.std.specs.Prelude.{◌≡◌, ℕ, ◌≤◌, Option, List, map, length}
 use Rattle.std.specs.List.{All}
 use Rattle.emu_model.specs.declared.packets.Packet.{Packet}
@@ -13,7 +13,7 @@ use Rattle.pipe_table.specs.Table.{seen_pipes, IsPipeNumber}
 abbrev pub leaf_of : PipeState → Option Due
 leaf_of s = least_of (pipe_dues s)
 
--- the range of a pipe's number, and of how many instances it has
+-- the ranges of a pipe's number and of the number of its instances
 pub record IsFit (s : PipeState) : Type 0 where
   pub number : IsPipeNumber s.number
   pub few : length s.instances ≤ 256
@@ -22,6 +22,6 @@ pub record IsIndexed (ss : List PipeState) (x : Places) : Type 0 where
   pub leaves : x.leaves ≡ map leaf_of ss
   pub fit : All IsFit ss
 
--- the index of these pipes, whatever packets their keys name
+-- the index has the dues of these pipes, whatever packets their keys refer to
 abbrev pub AreIndexed : List KeyedPipe → Places → Type 0
 AreIndexed ps x = (f : ℕ → Packet) → IsIndexed (seen_pipes f ps) x

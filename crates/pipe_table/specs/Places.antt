@@ -1,4 +1,4 @@
--- Pipes by their places in the table, which they keep as long as no pipe is made and none goes.
+-- Pipes by their places in the table, which stay the same while no pipe is created or deleted.
 use Rattle.std.specs.Prelude.{◌≡◌, ℕ, ◌<◌, Option, Some, List, length, position, slice_get}
 use Rattle.emu_model.specs.declared.packets.Packet.{Packet}
 use Rattle.emu_model.specs.FlowIds.{flow_id, instance_of}
@@ -7,21 +7,21 @@ use Rattle.pipe_core.specs.Keyed.{KeyedPipe, ids_of}
 use Rattle.pipe_core.specs.Steps.{HasRoomAtSlot, HasLineRoomAt, IsFreeAt, IsPlainAt}
 use Rattle.pipe_table.specs.Table.{has_number}
 
--- the pipe of number k stands at this place
+-- the pipe with number k is at this place
 abbrev pub StandsAt : ℕ → ℕ → List KeyedPipe → Type 0
 StandsAt k place ps = Some place ≡ position (has_number k) ps
 
--- each pipe's number leads to its place
+-- the table `places` maps each pipe's number to its place
 abbrev pub AreLed : List KeyedPipe → List (Option ℕ) → Type 0
 AreLed ps places = (i : ℕ) (p : KeyedPipe) → slice_get ps i ≡ Some p → place_in places p.number ≡ Some i
 
--- there is an instance at this place of the pipe at that place
+-- the pipe at place `place` exists, and has an instance at place `instance`
 pub record IsInside (place instance : ℕ) (ps : List KeyedPipe) : Type 0 where
   pub pipe : KeyedPipe
   pub there : slice_get ps place ≡ Some pipe
   pub inside : instance < length pipe.slots
 
--- and it is this packet's in the pipe of number k
+-- the pipe at place `place` has number k, and its instance at place `instance` exists and is this packet's
 pub record IsRouted (k : ℕ) (packet : Packet) (place instance : ℕ) (ps : List KeyedPipe) : Type 0 where
   pub stands : StandsAt k place ps
   pub pipe : KeyedPipe
@@ -29,27 +29,27 @@ pub record IsRouted (k : ℕ) (packet : Packet) (place instance : ℕ) (ps : Lis
   pub inside : instance < length pipe.slots
   pub its : instance_of (ids_of pipe.slots) (flow_id pipe.config.mask packet) ≡ Some instance
 
--- a packet of this size can come to an instance without memory, where the shelf has room for it
+-- a packet of this size can arrive at an instance without an allocation, if the shelf has room for it
 abbrev pub HasRoomAtPlace : ℕ → ℕ → ℕ → List KeyedPipe → Type 0
 HasRoomAtPlace size place instance ps =
     (p : KeyedPipe) → slice_get ps place ≡ Some p → HasRoomAtSlot size instance p
 
--- the line of an instance has room
+-- the delay line of an instance has room
 abbrev pub HasLineRoomIn : ℕ → ℕ → List KeyedPipe → Type 0
 HasLineRoomIn place instance ps =
     (p : KeyedPipe) → slice_get ps place ≡ Some p → HasLineRoomAt instance p
 
--- a finish of an instance needs no memory, where the list of drops has this capacity
+-- a finish of an instance at this time needs no allocation if the list of drops has this capacity
 abbrev pub IsFreeIn : ℕ → ℕ → ℕ → ℕ → List KeyedPipe → Type 0
 IsFreeIn place instance now capacity ps =
     (p : KeyedPipe) → slice_get ps place ≡ Some p → IsFreeAt instance now capacity p
 
--- a finish of an instance at this moment drops nothing for sure
+-- a finish of an instance at this time is certain to drop nothing
 abbrev pub IsPlainIn : ℕ → ℕ → ℕ → List KeyedPipe → Type 0
 IsPlainIn place instance now ps =
     (p : KeyedPipe) → slice_get ps place ≡ Some p → IsPlainAt instance now p
 
--- each number has its place still, and each packet the instance that it had
+-- each number keeps its place, each instance stays, and each packet keeps its instance
 pub record KeepsPlaces (old new : List KeyedPipe) : Type 0 where
   pub places : (k : ℕ) → position (has_number k) new ≡ position (has_number k) old
   pub inside : (place instance : ℕ) → IsInside place instance old → IsInside place instance new

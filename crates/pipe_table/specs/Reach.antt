@@ -1,4 +1,4 @@
--- From a due to the least of it and others.
+-- The earliest of a due and other dues.
 use Rattle.std.specs.Prelude.{◌≡◌, ℕ, ◌+◌, ◌*◌, ◌≤◌, ◌++◌, option_and_then, option_map, option_to_list, slice_get, List}
 use Rattle.std.specs.List.{best_of}
 use Rattle.emu_model.specs.declared.packets.Packet.{Packet}
@@ -10,7 +10,7 @@ use Rattle.emu_model.specs.Events.{served_in}
 use Rattle.pipe_core.specs.Keyed.{KeyedPipe, seen_pipe}
 use Rattle.pipe_table.specs.Table.{IsExitDue, IsFinishDue, IsPiped}
 
--- the least of a first due and others, which may depend on the packets that keys name
+-- the earliest, `now`, of a due `first` and other dues, which may depend on the packets that the keys refer to
 pub record Reaches (ps : List KeyedPipe) (dues : (ℕ → Packet) → List Due) (first now : Due) : Type 0 where
   pub least : (f : ℕ → Packet) → now ≡ best_of is_before first (dues f)
   pub moment : now.moment ≤ first.moment

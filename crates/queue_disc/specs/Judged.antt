@@ -1,5 +1,5 @@
--- What a dequeue by CoDel drops and leaves, without the list: how many, and the state. A head's fate
--- rests on what is behind it, so the head itself isn't named.
+-- The plan of a dequeue by CoDel: the number of drops, and the state after it. The given state has already examined the
+-- head, so the given list begins with the item after it.
 use Rattle.std.specs.Prelude.{ℕ, ◌+◌, List, [], ◌∷◌, length, nat_lt, if◌then◌else◌}
 use Rattle.emu_model.specs.DropTail.{Queued}
 use Rattle.emu_model.specs.Codel.{Times, CodelState, Dequeued, count_up, enter_drop_state}
@@ -12,16 +12,16 @@ plan n c = record { drops = n; control = c }
 abbrev pub plan_of : {A : Type 0} → Dequeued A → DropPlan
 plan_of d = plan (length d.dropped) d.control
 
--- as dropping begins
+-- the plan when dropping begins
 abbrev pub drops_first : {A : Type 0} → Times → ℕ → CodelState → List (Queued A) → DropPlan
 drops_first times now c [] = plan 1 (enter_drop_state times now (look_empty c))
 drops_first times now c (v ∷ rest) = plan 1 (enter_drop_state times now (look times now c v rest))
 
--- after n drops
+-- a plan after n earlier drops
 abbrev pub after : ℕ → DropPlan → DropPlan
 after n v = plan (n + v.drops) v.control
 
--- while dropping
+-- the plan while dropping
 abbrev pub drops_on : {A : Type 0} → Times → ℕ → CodelState → List (Queued A) → DropPlan
 drops_on times now c [] =
     if nat_lt now c.drop_next then plan 0 c

@@ -1,15 +1,15 @@
--- What a receiver keeps, and what it stands for.
+-- The state of a receiver, and the set of segments that it represents.
 use Rattle.std.specs.Prelude.{◌≡◌, ℕ, zero, suc, ◌+◌, ◌-◌, ◌*◌, ◌^◌, ◌<◌, ◌≤◌, ⊤, Bool, false, ◌==◌, List, [], ◌∷◌, length, min}
 use Rattle.std.specs.List.{list_any}
 use Rattle.emu_model.specs.Reno.{with_segment}
 
--- the segments that came, and how many more can come without memory
+-- the segments that have arrived, by their first bytes, and how many more can arrive without an allocation
 pub record Reception : Type 0 where
   pub smss : ℕ
   pub came : List ℕ
   pub room : ℕ
 
--- the first n segments, and what came besides
+-- the first n segments, and the others that have arrived
 abbrev pub filled : ℕ → ℕ → List ℕ → List ℕ
 filled smss zero others = others
 filled smss (suc n) others = with_segment (n * smss) (filled smss n others)
@@ -17,7 +17,7 @@ filled smss (suc n) others = with_segment (n * smss) (filled smss n others)
 abbrev pub contains : ℕ → List ℕ → Bool
 contains v xs = list_any (λ x. x == v) xs
 
--- all of xs are above a number
+-- the number is less than every element of xs
 abbrev pub IsBelow : ℕ → List ℕ → Type 0
 IsBelow v [] = ⊤
 IsBelow v (x ∷ xs) = (v < x) × IsBelow v xs
@@ -26,15 +26,15 @@ abbrev pub Rises : List ℕ → Type 0
 Rises [] = ⊤
 Rises (x ∷ xs) = IsBelow x xs × Rises xs
 
--- none of others is one of the first n segments
+-- none of `others` is one of the first n segments
 abbrev pub IsApart : ℕ → ℕ → List ℕ → Type 0
 IsApart smss n others = (k : ℕ) → k < n → contains (k * smss) others ≡ false
 
--- how many segments a receiver takes, far above what a flow sends (our choice)
+-- the maximum number of segments that a receiver takes, far above what a flow sends (our choice)
 abbrev pub most_segments : ℕ
 most_segments = 2 ^ 32
 
--- how many more can come, where there are so many places
+-- how many more segments can arrive, if there are `places` places
 abbrev pub room_for : ℕ → ℕ → ℕ → ℕ
 room_for places n kept = min (places - kept) (most_segments - (n + kept))
 

@@ -1,8 +1,8 @@
--- What callers see of a sender.
+-- A sender as contracts see it.
 use Rattle.emu_model.specs.declared.sources.FlowSpec.{FlowSpec}
 use Rattle.emu_model.specs.Reno.{Sender}
 
--- a sender, beside the flow whose segments it sends
+-- a sender, and the flow whose segments it sends
 pub record Sending : Type 0 where
   pub flow : FlowSpec
   pub sender : Sender

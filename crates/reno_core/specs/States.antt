@@ -1,4 +1,4 @@
--- What a sender's data stand for.
+-- The state of a sender in the form of the definitions.
 use Rattle.std.specs.Prelude.{option_map}
 use Rattle.emu_model.specs.Reno.{Sender, Sample, Estimate}
 use Rattle.reno_core.specs.declared.state.State.{State}

@@ -1,8 +1,9 @@
--- Moments that have as many digits, and the same but for the last eight.
+-- Times that have the same number of digits, and differ only in the last eight.
 use Rattle.std.specs.Prelude.{◌≡◌, ℕ, ◌-◌, ◌<◌, ◌≤◌, List, ◌++◌, decimal, drop}
 use Rattle.report.specs.Words.{eight_of}
 
--- each moment from `first` to `last` is so many bytes less of these and of the eight digits of what it is past `base`
+-- each time from `first` to `last` is `front` and the eight digits of its difference to `base`, without the first
+-- `start` bytes
 abbrev pub AreAlike : ℕ → ℕ → ℕ → ℕ → List ℕ → Type 0
 AreAlike first last base start front =
     (m : ℕ) → first ≤ m → m ≤ last →

@@ -1,4 +1,4 @@
--- Records in sixteen bytes each. What doesn't fit so, or comes seldom, stands whole beside them (our choice).
+-- Records in sixteen bytes each. Those that don't fit, or are rare, are stored whole in a second list (our choice).
 use Rattle.std.specs.Prelude.{ℕ, zero, suc, ◌+◌, ◌*◌, ◌/◌, ◌%◌, ◌^◌, ◌<◌, List, length, slice_index_or}
 use Rattle.emu_model.specs.declared.packets.Load.TheVariants.{Plain, Seg, Ack}
 use Rattle.emu_model.specs.declared.records.DropCause.{DropCause}
@@ -48,11 +48,12 @@ cause_at (suc (suc (suc (suc (suc (suc zero)))))) = Codel
 cause_at (suc (suc (suc (suc (suc (suc (suc zero))))))) = Deleted
 cause_at (suc (suc (suc (suc (suc (suc (suc (suc n)))))))) = Budget
 
--- parts in two words: the tag and the moment, from the lowest bits on; the kind, the packet and the number
+-- the parts in two words: `tag` and `moment` in `high`, and `kind`, `packet` and `number` in `low`, from the lowest
+-- bits up
 abbrev pub words_of : Parts → Packed
 words_of p = record { high = p.moment * 2 ^ 16 + p.tag; low = p.number * 2 ^ 30 + (p.packet * 2 ^ 4 + rank p.kind) }
 
--- the parts of two words
+-- the parts in two words
 abbrev pub parts_in : Packed → Parts
 parts_in w = record {
   kind = kind_at (w.low % 2 ^ 4);
@@ -62,7 +63,7 @@ parts_in w = record {
   number = w.low / 2 ^ 30;
 }
 
--- the record of a kind
+-- the record of a kind, with these parts
 abbrev pub record_of_kind : Kind → ℕ → ℕ → ℕ → ℕ → Record
 record_of_kind Whole moment tag packet number = StepsSpent moment
 record_of_kind Done moment tag packet number = CommandDone moment number
@@ -79,7 +80,7 @@ record_of_kind Expired moment tag packet number = TimerExpired moment tag packet
 abbrev pub record_of : Parts → Record
 record_of p = record_of_kind p.kind p.moment p.tag p.packet p.number
 
--- flows and pipes are numbered from 1 on, and instances up to 255
+-- the ranges of a kind's tag and number: flows and pipes are numbered from 1, and instances up to 255
 abbrev pub Names : Kind → ℕ → ℕ → Type 0
 Names Whole tag number = ⊥
 Names Done tag number = Unit {0}
@@ -93,7 +94,7 @@ Names Dropped tag number = Unit {0}
 Names Window tag number = 0 < tag
 Names Expired tag number = 0 < tag
 
--- the record of two words, or the one that stands whole at their place
+-- the record in two words, or the whole record at the place that they contain
 abbrev pub entry_of_kind : Kind → List Record → Packed → Record
 entry_of_kind Whole others w = slice_index_or others w.high (StepsSpent 0)
 entry_of_kind kind others w = record_of (parts_in w)
@@ -101,7 +102,7 @@ entry_of_kind kind others w = record_of (parts_in w)
 abbrev pub entry_of : List Record → Packed → Record
 entry_of others w = entry_of_kind (parts_in w).kind others w
 
--- it names what there is, or stands whole where something stands
+-- the words have parts in range, or the place of a whole record
 abbrev pub IsEntryOfKind : Kind → List Record → Packed → Type 0
 IsEntryOfKind Whole others w = w.high < length others
 IsEntryOfKind kind others w = Names kind (parts_in w).tag (parts_in w).number

@@ -1,5 +1,5 @@
--- The text of a report: a line for the experiment's name, one for each record, one for the
--- counters (our choice). The fields of a line stand with one space between, and a line ends with LF.
+-- The text of a report: a line for the experiment's name, one for each record, one for the counters (our choice). The
+-- fields of a line are separated by one space, and a line ends with LF.
 use Rattle.std.specs.Prelude.{ℕ, Bool, true, false, List, [], ◌∷◌, ◌++◌, if◌then◌else◌, codes, decimal, filter}
 use Rattle.std.specs.List.{join_with_byte, flat_map}
 use Rattle.emu_model.specs.declared.records.Record.{Record}
@@ -93,7 +93,7 @@ heading_of name = codes "experiment " ++ name ++ codes "\n"
 abbrev pub behind_space : ℕ → List ℕ
 behind_space n = codes " " ++ decimal n
 
--- made, delivered, held, and the drops by cause
+-- the line of the counters: packets created, delivered and held, and the drops by cause
 abbrev pub counters_of : Counters → List ℕ
 counters_of counters =
     codes "counters"
@@ -104,7 +104,7 @@ abbrev pub report_of : List ℕ → List Record → Counters → List ℕ
 report_of name records counters =
     heading_of name ++ flat_map line_of records ++ counters_of counters
 
--- what a packet, a sender or a command that was done did, of which there are many
+-- the common records: events of packets and senders, and commands that were executed
 abbrev pub is_event : Record → Bool
 is_event (CommandDone moment command) = true
 is_event (PacketArrived moment packet pipe instance) = true
@@ -125,10 +125,10 @@ is_pipe_line (PipeLine pipe config) = true
 is_pipe_line (InstanceLine pipe instance waiting bytes busy in_flight drawn) = true
 is_pipe_line _ = false
 
--- what a show of the rules listed
+-- the lines of the rules that were listed
 abbrev pub rules_of : List Record → List ℕ
 rules_of records = flat_map line_of (filter is_rule_line records)
 
--- what a show of the pipes listed
+-- the lines of the pipes and instances that were listed
 abbrev pub pipes_of : List Record → List ℕ
 pipes_of records = flat_map line_of (filter is_pipe_line records)

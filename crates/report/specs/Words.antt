@@ -1,5 +1,4 @@
--- What stands in a line of a report: each as its bytes (our choice; rules and pipes in the words of
--- ipfw(8)).
+-- The parts of a report's lines, as bytes (our choice; rules and pipes in the words of ipfw(8)).
 use Rattle.std.specs.Prelude.{ℕ, ◌+◌, ◌/◌, ◌%◌, ◌^◌, ◌==◌, zero, suc, List, [], ◌∷◌, ◌++◌, Option, None, Some, if◌then◌else◌, codes, decimal, slice_index}
 use Rattle.std.specs.List.{join_with_byte}
 use Rattle.emu_model.specs.Spans.{AddressSpan, PortSpan}
@@ -21,23 +20,23 @@ use Rattle.emu_model.specs.declared.records.DropCause.TheVariants.{Denied, NoPip
 use Rattle.emu_model.specs.declared.records.Refusal.{Refusal}
 use Rattle.emu_model.specs.declared.records.Refusal.TheVariants.{BadNumber, BadSkip, RulesFull, NoRule, NoSuchPipe, MaskFixed, FlowThere, NoFlow, TooManyPipes, TooManyFlows}
 
--- the `count` lowest digits of a number in a base up to 16, zeros in front
+-- the `count` lowest digits of a number in a base of at most 16, with leading zeros
 unfoldable pub places : ℕ → ℕ → ℕ → List ℕ
 places base zero n = []
 places base (suc count) n =
     places base count (n / base) ++ slice_index (codes "0123456789abcdef") (n % base) ∷ []
 
--- the two digits of a number below 100, a zero in front
+-- the two digits of a number below 100, with a leading zero
 abbrev pub pair_of : ℕ → List ℕ
 pair_of n = (48 + n / 10) ∷ (48 + n % 10) ∷ []
 
--- the eight digits of a number below 100000000, zeros in front
+-- the eight digits of a number below 100000000, with leading zeros
 abbrev pub eight_of : ℕ → List ℕ
 eight_of n =
     (pair_of (n / 10000 / 100) ++ pair_of (n / 10000 % 100))
     ++ (pair_of (n % 10000 / 100) ++ pair_of (n % 10000 % 100))
 
--- N.I, the pipe and the instance
+-- the name of an instance: its pipe's number, a dot, and its own number
 abbrev pub instance_name : ℕ → ℕ → List ℕ
 instance_name pipe instance = decimal pipe ++ codes "." ++ decimal instance
 
@@ -85,7 +84,7 @@ abbrev pub transport_of : Protocol → List ℕ
 transport_of Tcp = codes "tcp"
 transport_of Udp = codes "udp"
 
--- the four bytes of an address, with points between
+-- the four bytes of an address, separated by dots
 abbrev pub dotted : ℕ → List ℕ
 dotted address =
     join_with_byte
@@ -96,39 +95,38 @@ dotted address =
     ∷ decimal (address % 256)
     ∷ [])
 
--- an address and a port
 abbrev pub address_and_port : ℕ → ℕ → List ℕ
 address_and_port address port = dotted address ++ codes " " ++ decimal port
 
--- what stands in a packet's header: protocol, where it comes from, where it goes to, and its size
+-- the fields of a packet's header: protocol, source, destination and size
 abbrev pub header_of : Protocol → ℕ → ℕ → ℕ → ℕ → ℕ → List ℕ
 header_of proto src sport dst dport size =
     transport_of proto ++ codes " " ++ address_and_port src sport ++ codes " " ++ address_and_port dst dport
     ++ codes " " ++ decimal size
 
--- `any`, one address, or an address with its length
+-- `any`, one address, or an address with a prefix length
 abbrev pub prefix_of : AddressSpan → List ℕ
 prefix_of span =
     if span.len == 0 then codes "any" else
     (if span.len == 32 then dotted span.address else dotted span.address ++ codes "/" ++ decimal span.len)
 
--- one port, or the first and the last
+-- one port, or the first and the last port of a range
 abbrev pub ports_of : PortSpan → List ℕ
 ports_of span =
     if span.first == span.last then decimal span.first else
     decimal span.first ++ codes "-" ++ decimal span.last
 
--- where a packet comes from or goes to: addresses, and the ports where the rule names some
+-- the source or destination of a rule: its addresses, and its ports if the rule has any
 abbrev pub end_of : AddressSpan → Option PortSpan → List ℕ
 end_of span None = prefix_of span
 end_of span (Some ports) = prefix_of span ++ codes " " ++ ports_of ports
 
--- slots, or a number of KBytes
+-- the limit of a queue: a number of slots or of KBytes
 abbrev pub queue_of : QueueLimit → List ℕ
 queue_of (Slots limit) = decimal limit
 queue_of (KBytes limit) = decimal limit ++ codes "KBytes"
 
--- protocol, addresses and ports in hexadecimal
+-- a mask: its protocol, addresses and ports in hexadecimal
 abbrev pub mask_of : Mask → List ℕ
 mask_of mask =
     join_with_byte
@@ -140,7 +138,7 @@ mask_of mask =
     ∷ places 16 4 mask.dport
     ∷ [])
 
--- CoDel with its times in ns
+-- a discipline; CoDel with its times in ns
 abbrev pub discipline_of : Discipline → List ℕ
 discipline_of TailDrop = codes "droptail"
 discipline_of (ControlledDelay target interval) =

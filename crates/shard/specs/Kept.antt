@@ -1,4 +1,4 @@
--- What an experiment that stands somewhere keeps over its packets.
+-- What holds of a resident or a parcel over its packets.
 use Rattle.std.specs.Prelude.{◌≡◌, ℕ, ◌≤◌, ◌<◌, Option, None, [], length, take}
 use Rattle.emu_model.specs.declared.commands.Spec.{Spec}
 use Rattle.emu_model.specs.Step.{initial_state}
@@ -10,7 +10,7 @@ use Rattle.experiment.specs.Dues.{next_due_in}
 use Rattle.shard.specs.Seen.{Seen}
 use Rattle.shard.specs.Stand.{Stand, heard_from}
 
--- an experiment over its packets, as it stands
+-- an experiment over its packets, as a contract sees it
 abbrev pub stand_of : {M : Type 0} → Pocket → ℕ → KeptExperiment → ℕ → M → Stand M
 stand_of p name e published mail = record {
   name = name;
@@ -31,16 +31,16 @@ pub record IsKept {M : Type 0} (seen : M → Seen) (p : Pocket) (e : KeptExperim
   pub heard : e.consumed ≡ heard_from [] (seen mail).given
   pub few : e.steps ≤ e.spec.budget.steps
 
--- what comes next doesn't rest on packets, so any pocket serves
+-- the next event, which does not depend on packets, so any pocket will do
 abbrev pub next_kept : KeptExperiment → Option Due
 next_kept e = next_due_in (view (empty_pocket 0) e)
 
--- one that goes on
+-- an experiment that has not ended
 pub record IsGoing {M : Type 0} (seen : M → Seen) (p : Pocket) (e : KeptExperiment) (published : ℕ) (mail : M) : Type 0 where
   pub kept : IsKept seen p e published mail
   pub going : e.ending ≡ None
 
--- one to which no command came
+-- an experiment to which no command has come
 pub record IsNew (spec : Spec) (e : KeptExperiment) : Type 0 where
   pub shown : (p : Pocket) → view p e ≡ initial_state spec []
   pub alone : (p : Pocket) → IsAlone p e

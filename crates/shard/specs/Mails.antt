@@ -1,4 +1,4 @@
--- What a contract sees of a mail of two lists.
+-- A contract's view of a mail that consists of two lists.
 use Rattle.std.specs.Prelude.{◌++◌, ◌==◌, List, length, map}
 use Rattle.emu_model.specs.declared.commands.Timed.{Timed}
 use Rattle.emu_model.specs.declared.records.Record.{Record}
@@ -6,18 +6,18 @@ use Rattle.shard.specs.declared.list_mail.Posted.{Posted}
 use Rattle.shard.specs.declared.list_mail.News.{News}
 use Rattle.shard.specs.Seen.{Seen}
 
--- the commands that it gave, those that wait, the letters that were read, and those that weren't
+-- the commands that it has delivered, the commands that wait, the letters that were read, and the unread letters
 pub record MailBook : Type 0 where
   pub given : List Timed
   pub waiting : List Timed
   pub read : List Record
   pub unread : List Record
 
--- all letters that it took
+-- all letters that it has accepted
 abbrev pub letters_of : MailBook → List Record
 letters_of m = m.read ++ m.unread
 
--- all commands that were put into it
+-- all commands that were posted to it
 abbrev pub posted_of : MailBook → List Timed
 posted_of m = m.given ++ m.waiting
 

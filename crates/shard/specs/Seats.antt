@@ -19,7 +19,7 @@ module _ {M : Type 0} where
   abbrev pub standing : Pocket → Resident M → Stand M
   standing p r = stand_of p r.name r.experiment r.published r.mail
 
-  -- what is left of a resident that has ended
+  -- the dossier of a resident that has ended
   pub record IsDossierOf (p : Pocket) (r : Resident M) (d : Final M) : Type 0 where
     pub ending : r.experiment.ending ≡ Some d.ending
     pub rest : let s = view p r.experiment in d ≡ record {
@@ -43,7 +43,7 @@ module _ {M : Type 0} where
   unfoldable pub seats_of : (ℕ → Pocket) → List (Option (Resident M)) → List (Option (Seat M))
   seats_of pockets slots = map (seat_of pockets) slots
 
-  -- a resident over its packets and its row of the agenda
+  -- a resident with its packets and its row of the agenda
   pub record IsSeated (seen : M → Seen) (p : Pocket) (row : Row) (clock : ℕ) (r : Resident M) : Type 0 where
     pub going : IsGoing seen p r.experiment r.published r.mail
     pub entries : (s : Source) → row s ≡ entries_of r.offset (next_kept r.experiment) s
@@ -55,7 +55,7 @@ module _ {M : Type 0} where
   Fits seen pockets row clock None = (s : Source) → row s ≡ None
   Fits seen pockets row clock (Some r) = IsSeated seen (pockets r.owner) row clock r
 
-  -- residents have different owners
+  -- the owners of two residents differ
   abbrev pub AreApart : Option (Resident M) → Option (Resident M) → Type 0
   AreApart None o = Unit {0}
   AreApart (Some r) None = Unit {0}
@@ -67,7 +67,7 @@ module _ {M : Type 0} where
     pub long : length slots ≡ 256
     pub early : clock < 2 ^ 62 + end_of_time
 
-  -- a time begins anew, and so many slots have their entries by it; who had an entry has one
+  -- the agenda is being rewound, and the first `n` slots have their new entries; a resident that had an entry still has one
   pub record HasBegun (seen : M → Seen) (pockets : ℕ → Pocket) (rows : ℕ → Row) (clock : ℕ) (old now : List (Option (Resident M))) (n : ℕ) : Type 0 where
     pub shard : IsShard seen pockets rows clock now
     pub stands : stands_of (seats_of pockets now) ≡ stands_of (seats_of pockets old)

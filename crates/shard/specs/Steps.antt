@@ -1,4 +1,4 @@
--- What a step does to a resident.
+-- The effect of a step on a resident.
 use Rattle.std.specs.Prelude.{◌≡◌, ℕ, ◌+◌, ◌^◌, ◌<◌, ◌≤◌, Bool, Some, IsSome, IfSome}
 use Rattle.emu_model.specs.Moments.{end_of_time}
 use Rattle.emu_model.specs.declared.records.Ending.{Ending}
@@ -15,7 +15,7 @@ use Rattle.shard.specs.Kept.{IsKept, IsGoing, next_kept}
 use Rattle.shard.specs.Seats.{standing, IsSeated}
 use Rattle.shard.specs.Turns.{IsTurn, AreTurns, Heard, SaidYes, LeavesOff, last_state}
 
--- who watches said yes to so many turns, but perhaps to the last one where the resident goes on
+-- the watcher has returned true for this many turns, except perhaps for the last one if the resident continues
 abbrev pub HeardAt : {W : Type 0} → (ℕ → Bool → W → W → Type 0) → Event → ℕ → ℕ → W → W → Type 0
 HeardAt {W} hears Ran name n v w = Heard hears name n v w
 HeardAt {W} hears Ended name n v w = SaidYes hears name n v w
@@ -23,7 +23,7 @@ HeardAt {W} hears Halted name n v w = SaidYes hears name n v w
 HeardAt {W} hears Still name n v w = SaidYes hears name n v w
 
 module _ {M : Type 0} where
-  -- a resident whose entry is the least of the agenda
+  -- a resident whose entry is the first of the agenda
   pub record IsLeast (seen : M → Seen) (p : Pocket) (row : Row) (clock : ℕ) (r : Resident M) : Type 0 where
     pub going : IsGoing seen p r.experiment r.published r.mail
     pub next : IsSome r.experiment.next
@@ -32,7 +32,7 @@ module _ {M : Type 0} where
     pub late : IfSome r.offset (λ o. o ≤ clock)
     pub early : clock < 2 ^ 62 + end_of_time
 
-  -- a resident that has made a step, and whose entry is still that from before it
+  -- a resident that has made a step, and whose entry is still the one from before the step
   pub record IsStale (seen : M → Seen) (p : Pocket) (row : Row) (clock : ℕ) (r : Resident M) : Type 0 where
     pub going : IsGoing seen p r.experiment r.published r.mail
     pub was : ℕ
@@ -53,7 +53,7 @@ module _ {M : Type 0} where
     pub mail : IsToldMore seen old.mail new.mail
     pub published : IsPublished seen new.experiment.net.log.records new.mail
 
-  -- a step, which leaves the entry as it was
+  -- a step, which leaves the entry unchanged
   abbrev pub Advances : (M → Seen) → Event → Pocket → Resident M → Pocket → Resident M → Type 0
   Advances seen Ran p old q new =
       IsGoing seen q new.experiment new.published new.mail × IsTurn seen (standing p old) (standing q new)
@@ -61,14 +61,14 @@ module _ {M : Type 0} where
   Advances seen Halted p old q new = (e : Ending) × IsLeaving seen p q e old new
   Advances seen Still p old q new = ⊥
 
-  -- it made n turns and stays; so many more than one were asked for
+  -- it made n turns and is still a resident; `more` turns after the first were requested
   pub record HasStayed (seen : M → Seen) (may_refuse : Bool) (more n : ℕ) (p : Pocket) (old : Resident M) (q : Pocket) (new : Resident M) : Type 0 where
     pub some : 1 ≤ n
     pub few : n ≤ more + 1
     pub left_off : LeavesOff may_refuse more n (standing q new)
     pub turns : AreTurns seen n (standing p old) (standing q new)
 
-  -- it made n turns, after which it was `last`, and ended in the next one
+  -- it made n turns, after which it was `last`, and ended in the next turn
   pub record HasLeft (seen : M → Seen) (more n : ℕ) (p : Pocket) (old : Resident M) (q : Pocket) (new : Resident M) : Type 0 where
     pub few : n ≤ more
     pub pocket : Pocket
@@ -78,7 +78,7 @@ module _ {M : Type 0} where
     pub ending : Ending
     pub leaving : IsLeaving seen pocket q ending last new
 
-  -- many turns, which leave the entry as it was
+  -- many turns, which leave the entry unchanged
   abbrev pub RunsOn : (M → Seen) → Bool → ℕ → ℕ → Event → Pocket → Resident M → Pocket → Resident M → Type 0
   RunsOn seen may_refuse more n Ran p old q new =
       HasStayed seen may_refuse more n p old q new × IsGoing seen q new.experiment new.published new.mail
@@ -86,7 +86,7 @@ module _ {M : Type 0} where
   RunsOn seen may_refuse more n Halted p old q new = HasLeft seen more n p old q new
   RunsOn seen may_refuse more n Still p old q new = ⊥
 
-  -- many turns, after which the entry is what comes next; it is there where a command is
+  -- many turns, after which the entry is that of the next event; there is an entry if there is a next command
   abbrev pub Runs : (M → Seen) → Bool → ℕ → ℕ → Event → Pocket → Resident M → Pocket → Row → ℕ → Resident M → Type 0
   Runs seen may_refuse more n Ran p old q row clock new =
       HasStayed seen may_refuse more n p old q new × IsSeated seen q row clock new × (new.owner ≡ old.owner)

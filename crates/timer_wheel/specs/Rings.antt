@@ -1,4 +1,4 @@
--- Keys in circles.
+-- Lists of keys, as circles of links.
 use Rattle.std.specs.Prelude.{◌≡◌, ℕ, ◌<◌, ◌≤◌, ◌⊎◌, List, length, map, drop, slice_index_or}
 use Rattle.timer_wheel.specs.declared.ring.Link.{Link}
 
@@ -14,12 +14,12 @@ prev_of links q = (slice_index_or links q blank).prev
 abbrev pub list_of : List Link → ℕ → ℕ
 list_of links q = (slice_index_or links q blank).list
 
--- the list of each key: the keys stand behind the heads
+-- the list of each key; the keys are stored after the heads
 unfoldable pub lists_in : List Link → List ℕ
 lists_in links = drop 2051 (map (λ (l : Link). l.list) links)
 
--- each list is a circle through its head. So many links, by what comes behind and before each, its list
--- and its height, by which each key is below the one before it
+-- `len` links, in which each list is a circle through its head. Each link has a successor, a predecessor and a list;
+-- each key has a height, which is less than that of the key before it
 pub record AreLinked (len : ℕ) (next prev list height : ℕ → ℕ) (top : ℕ) : Type 0 where
   pub long : 2051 ≤ len
   pub next_in : (q : ℕ) → q < len → next q < len

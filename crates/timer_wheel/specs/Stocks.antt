@@ -1,17 +1,17 @@
--- What keys hold.
+-- The entries of keys.
 use Rattle.std.specs.Prelude.{◌≡◌, ◌≢◌, ℕ, ◌≤◌, ◌%◌, ◌==◌, cond, ◌⊎◌, List, Option, Some, None, length, slice_get, count_by, min}
 use Rattle.emu_model.specs.declared.sources.Source.{Source}
 use Rattle.timer_wheel.specs.declared.Entry.{Entry}
 use Rattle.timer_wheel.specs.Index.{IndexBook, key_in}
 
--- what a contract sees of a stock: the entry, the list and the list by owner of each key, and the index
+-- a stock as contracts see it: the entry, the list and the list by owner of each key, and the index
 pub record StockBook : Type 0 where
   pub entries : List Entry
   pub slots : List ℕ
   pub owners : List ℕ
   pub index : IndexBook
 
--- a key holds an entry in a list; list 2050 has the keys that hold nothing
+-- key k has entry e, and is in list p; list 2050 has the keys without an entry
 pub record Holds (entries : List Entry) (slots : List ℕ) (k : ℕ) (e : Entry) (p : ℕ) : Type 0 where
   pub entry : slice_get entries k ≡ Some e
   pub slot : slice_get slots k ≡ Some p
@@ -25,11 +25,11 @@ abbrev pub due_by : List Entry → Option ℕ → Option ℕ
 due_by entries None = None
 due_by entries (Some k) = due_if (slice_get entries k)
 
--- the due of each owner's source
+-- the due of a source of an owner, if it has one
 unfoldable pub due_of : StockBook → ℕ → Source → Option ℕ
 due_of b o s = due_by b.entries (key_in b.index.keys o s)
 
--- each entry is found by its source and stands in a list by its owner, and nothing else does
+-- each entry is found by its source and is in a list by its owner, and no other key is found or listed
 pub record IsStock (b : StockBook) : Type 0 where
   pub entries_long : length b.slots ≤ length b.entries
   pub owners_long : length b.slots ≤ length b.owners
@@ -39,12 +39,12 @@ pub record IsStock (b : StockBook) : Type 0 where
   pub owned : (k : ℕ) (e : Entry) (p : ℕ) → Holds b.entries b.slots k e p → (slice_get b.owners k ≡ Some (e.owner % 2048)) ⊎ (slice_get b.owners k ≡ Some 2049)
   pub listed : (k l : ℕ) → slice_get b.owners k ≡ Some l → l ≢ 2050 → (e : Entry) × (p : ℕ) × Holds b.entries b.slots k e p
 
--- a list with more behind it
+-- a list with further elements after it
 pub record IsMore {X : Type 0} (old new : List X) : Type 0 where
   pub kept : (k : ℕ) (x : X) → slice_get old k ≡ Some x → slice_get new k ≡ Some x
   pub long : length old ≤ length new
 
--- keys more, which hold nothing
+-- the lists with further keys, which have no entry
 pub record IsGrown (entries : List Entry) (slots owners : List ℕ) (entries' : List Entry) (slots' owners' : List ℕ) : Type 0 where
   pub entries_more : IsMore entries entries'
   pub slots_more : IsMore slots slots'
@@ -55,17 +55,17 @@ pub record IsGrown (entries : List Entry) (slots owners : List ℕ) (entries' : 
   pub owners_long : length slots' ≤ length owners'
   pub free : count_by (λ l. l == 2050) slots ≤ count_by (λ l. l == 2050) slots'
 
--- how many entries more need no memory
+-- the number of further entries that need no allocation
 abbrev pub room_of : StockBook → ℕ
 room_of b = min (count_by (λ l. l == 2050) b.slots) b.index.room
 
--- entries of one owner went, and nothing else
+-- entries of one owner were removed, and nothing else
 pub record IsThinned (owner : ℕ) (old new : StockBook) : Type 0 where
   pub holds : (k : ℕ) (e : Entry) (p : ℕ) → Holds new.entries new.slots k e p → Holds old.entries old.slots k e p
   pub others : (o : ℕ) (s : Source) → o ≢ owner → due_of new o s ≡ due_of old o s
   pub room : room_of old ≤ room_of new
 
--- the keys of list 2049 went to lists that are right for their entries
+-- the keys of list 2049 moved to lists that are right for their entries
 pub record IsSpread (right : ℕ → Entry → Type 0) (old new : StockBook) : Type 0 where
   pub same : new ≡ record old { slots = new.slots }
   pub stayed : (k p : ℕ) → p ≢ 2049 → slice_get old.slots k ≡ Some p → slice_get new.slots k ≡ Some p
@@ -75,6 +75,6 @@ pub record IsSpread (right : ℕ → Entry → Type 0) (old new : StockBook) : T
   pub none : (k : ℕ) → slice_get new.slots k ≡ Some 2049 → ⊥
   pub room : room_of new ≡ room_of old
 
--- where a slot is emptied onto list 2049
+-- the list of a key after slot `from` was emptied into list 2049
 abbrev pub unless : ℕ → ℕ → ℕ
 unless from p = cond (p == from) 2049 p

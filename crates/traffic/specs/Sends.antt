@@ -1,4 +1,4 @@
--- What sources send, and when.
+-- The packets that sources send, and when they are due.
 use Rattle.std.specs.Prelude.{◌≡◌, ℕ, Bool, true, false, nat_lt, if◌then◌else◌, Option, Some, option_map, List, ◌++◌, flat_map}
 use Rattle.std.specs.Option.{option_map_or}
 use Rattle.emu_model.specs.declared.sources.SendSpec.{SendSpec}
@@ -9,15 +9,15 @@ use Rattle.emu_model.specs.Net.{Net, FlowState, TrainState, find_flow, find_trai
 use Rattle.emu_model.specs.Dues.{flow_dues, train_dues}
 use Rattle.traffic.specs.Kept.{KeptTraffic, with_traffic, IsNumber}
 
--- a flow isn't stopped, and may send a segment
+-- a flow that is not stopped, and may send a segment
 abbrev pub may_send : FlowState → Bool
 may_send f = if f.stopped then false else may_emit f.flow f.sender
 
--- a train has packets left
+-- a train that has packets left
 abbrev pub has_left : TrainState → Bool
 has_left t = nat_lt t.sent t.train.count
 
--- the source of this number may send
+-- the source with this number may send
 abbrev pub is_emitting : ℕ → Net → Bool
 is_emitting k n =
     option_map_or has_left (find_train k n) (option_map_or may_send (find_flow k n) false)
@@ -25,23 +25,23 @@ is_emitting k n =
 abbrev pub IsEmitting : ℕ → KeptTraffic → Type 0
 IsEmitting k t = (n : Net) → is_emitting k (with_traffic t n) ≡ true
 
--- an emission is due of a source that may send
+-- a due that, if it is an emission, is that of a source that may send
 abbrev pub IsAllowed : KeptTraffic → Due → Type 0
 IsAllowed t d = d.source.class ≡ Emission → IsEmitting d.source.number t
 
--- what is due of a flow or a train has the number of one
+-- a due that, if it is an expiry or an emission, has a number in the range of sources
 abbrev pub IsNumbered : Due → Type 0
 IsNumbered d =
     (d.source.class ≡ Expiry → IsNumber d.source.number)
     × (d.source.class ≡ Emission → IsNumber d.source.number)
 
--- the header of what the source of this number sends
+-- the header of the next packet of the source with this number
 abbrev pub next_send : ℕ → Net → Option SendSpec
 next_send k n =
     option_map_or (λ t. Some t.train.packet) (find_train k n)
     (option_map (λ f. data_send f.flow) (find_flow k n))
 
--- the header of what this flow's receiver answers
+-- the header of the acknowledgements of this flow's receiver
 abbrev pub reply_send : ℕ → Net → Option SendSpec
 reply_send k n = option_map (λ f. ack_send f.flow) (find_flow k n)
 

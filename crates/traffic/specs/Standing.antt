@@ -1,4 +1,4 @@
--- Where sources stand, and what never changes of them.
+-- The places of sources, and the parts of them that never change.
 use Rattle.std.specs.Prelude.{◌≡◌, ℕ, ◌<◌, ◌==◌, Option, Some, option_map, List, map, length, position, slice_get}
 use Rattle.std.specs.Option.{option_map_or}
 use Rattle.emu_model.specs.declared.sources.FlowSpec.{FlowSpec}
@@ -10,30 +10,30 @@ use Rattle.traffic.specs.declared.sources.SourcePlace.TheVariants.{Flow, Train}
 use Rattle.traffic.specs.Kept.{KeptTraffic}
 use Rattle.traffic.specs.Sends.{IsEmitting}
 
--- where the flow, and the train, of a number stands
+-- the place of the flow with a number; `train_place` has that of the train
 abbrev pub flow_place : ℕ → KeptTraffic → Option ℕ
 flow_place k t = position (λ f. f.state.number == k) t.flows
 
 abbrev pub train_place : ℕ → KeptTraffic → Option ℕ
 train_place k t = position (λ u. u.number == k) t.trains
 
--- where the source of a number stands
+-- the place of the source with a number
 abbrev pub source_place : ℕ → KeptTraffic → Option SourcePlace
 source_place k t =
     option_map_or (λ i. Some (Flow i)) (flow_place k t) (option_map Train (train_place k t))
 
--- a source stands there
+-- there is a source at this place
 abbrev pub IsThere : SourcePlace → KeptTraffic → Type 0
 IsThere (Flow i) t = i < length t.flows
 IsThere (Train i) t = i < length t.trains
 
--- the source there may send
+-- the source at this place may send
 pub record MaySendAt (p : SourcePlace) (t : KeptTraffic) : Type 0 where
   pub number : ℕ
   pub place : source_place number t ≡ Some p
   pub may : IsEmitting number t
 
--- what never changes of a flow and of a train
+-- the parts of a flow that never change; `TrainHead` has those of a train
 pub record FlowHead : Type 0 where
   pub number : ℕ
   pub flow : FlowSpec
@@ -46,12 +46,12 @@ pub record Heads : Type 0 where
   pub flows : List FlowHead
   pub trains : List TrainHead
 
--- the header of what is sent from a place, and of what the receiver of the flow at a place answers
+-- the header of the packets that the source at a place sends
 abbrev pub send_at : SourcePlace → Heads → Option SendSpec
 send_at (Flow i) h = option_map (λ f. data_send f.flow) (slice_get h.flows i)
 send_at (Train i) h = option_map (λ u. u.train.packet) (slice_get h.trains i)
 
--- what never changes of the sources that are there, in their places
+-- the parts of the sources that never change, by place
 abbrev pub heads_of : KeptTraffic → Heads
 heads_of t = record {
   flows = map (λ f. record { number = f.state.number; flow = f.state.flow }) t.flows;

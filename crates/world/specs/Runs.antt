@@ -15,7 +15,7 @@ use Rattle.world.specs.Places.{Places, tenant_at}
 use Rattle.world.specs.Steps.{IsRegistered, IsPost, IsRead, IsAdmission, IsOffer, IsBringing}
 use Rattle.world.specs.Steps.{IsWorldTurn, IsWorldPoll, IsWorldRebase}
 
--- one step, with its answer
+-- one step, with its result
 abbrev pub Does : Step → Did → Places → Places → Type 0
 Does (Registered spec) did old new = IsRegistered spec did old new
 Does (Post n timed) did old new = IsPost n timed did old new
@@ -28,13 +28,13 @@ Does (Adopt i from) did old new = IsBringing i from did old new
 Does (Rebase i) did old new = IsWorldRebase i did old new
 Does (ReadLetter n) did old new = IsRead n did old new
 
--- 1 for want of memory
+-- 1 if memory ran out
 abbrev pub refusals_of : Did → ℕ
 refusals_of Done = 0
 refusals_of Still = 0
 refusals_of NoMemory = 1
 
--- the composition of the steps, in order, and how many met want of memory
+-- the composition of the steps, in order, and the number of steps in which memory ran out
 abbrev pub Runs : List Step → ℕ → Places → Places → Type 0
 Runs [] n old new = (n ≡ 0) × (new ≡ old)
 Runs (step ∷ steps) n old new =
@@ -60,7 +60,7 @@ commands_shown (Some t) = (shown t.life).commands
 abbrev pub consumed_at : Places → ℕ → List Timed
 consumed_at w n = commands_shown (tenant_at w n)
 
--- what sits in a slot
+-- the records of the resident of a slot
 abbrev pub stand_records : Option (Stand MailBook) → List Record
 stand_records None = []
 stand_records (Some s) = s.state.net.records

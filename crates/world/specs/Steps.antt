@@ -1,4 +1,4 @@
--- One step of a world, by cases: which name changed and how, and that nothing else did.
+-- One step of a world, by cases: the name that changed, how it changed, and that nothing else did.
 use Rattle.std.specs.Prelude.{◌≡◌, ◌≢◌, ℕ, ◌^◌, ◌<◌, ◌≤◌, ◌⊎◌, false, Some, None, IsSome}
 use Rattle.std.specs.Prelude.{List, [], ◌∷◌, ◌++◌, length, slice_set, slice_get}
 use Rattle.emu_model.specs.declared.commands.Spec.{Spec}
@@ -24,20 +24,20 @@ use Rattle.world.specs.declared.home.Place.TheVariants.{HandedOut, Resident, InD
 use Rattle.world.specs.Tenants.{Life, Standing, Over, Tenant, shown, with_mail, with_post, IsPostable, IsRefused}
 use Rattle.world.specs.Places.{Places, shard_at, deque_at, tenant_at}
 
--- what one name's tenant was and is, and that everybody else's stayed
+-- the tenant of one name before and after, while all others did not change
 pub record Changed (old new : Places) (n : ℕ) (s t : Tenant) : Type 0 where
   pub was : tenant_at old n ≡ Some s
   pub is : tenant_at new n ≡ Some t
   pub others : (m : ℕ) → m ≢ n → tenant_at new m ≡ tenant_at old m
 
--- the same at another place
+-- the same tenant at another place
 abbrev pub at_place : Tenant → Place → Tenant
 at_place t place = record t { place = place }
 
 abbrev pub with_life : Tenant → Life → Tenant
 with_life t life = record t { life = life }
 
--- the desk of a name that was just made
+-- the desk of a name that was just registered
 abbrev pub opened_desk : ℕ → Spec → Desk
 opened_desk n spec = record {
   home = Handed (opened_stand n spec (record { given = []; waiting = []; read = []; unread = [] }));
@@ -45,7 +45,7 @@ opened_desk n spec = record {
   last = 0;
 }
 
--- the next name is handed out; no other changes
+-- the next name is handed out, and no other name changes
 pub record Registers (spec : Spec) (old new : Places) : Type 0 where
   pub few : length old.desks < 10 ^ 6
   pub rest : new ≡ record old { desks = old.desks ++ opened_desk (length old.desks) spec ∷ [] }
@@ -63,7 +63,7 @@ Puts timed old new = (length old.waiting < 64) × (new ≡ with_command old time
 abbrev pub ReadsOne : MailBook → MailBook → Type 0
 ReadsOne old new = (r : Record) × Reads (Some r) old new
 
--- the mail of one experiment changed so, wherever that is
+-- the mail of one experiment changed by `R`, wherever the experiment is
 abbrev pub Mailed : (MailBook → MailBook → Type 0)
     → Home → List (Seating MailBook) → Home → List (Seating MailBook) → Type 0
 Mailed R (Handed p) before home after =
@@ -76,7 +76,7 @@ Mailed R (Queued i p) before home after =
 Mailed R (Left d) before home after =
     (mail : MailBook) × R d.mail mail × (home ≡ Left (record d { mail = mail })) × (after ≡ before)
 
--- one name's mail changed so
+-- the mail of one name changed by `R`
 pub record MailsTo (R : MailBook → MailBook → Type 0) (old new : Places) (n : ℕ) (d : Desk) (e : Desk) : Type 0 where
   pub mailed : Mailed R d.home old.shards e.home new.shards
   pub rest : new ≡ record old { desks = slice_set old.desks n e; shards = new.shards }
@@ -87,7 +87,7 @@ pub record Posts (timed : Timed) (old new : Places) (n : ℕ) (d e : Desk) (s : 
   pub changed : Changed old new n s (with_post s timed)
   pub mails : MailsTo (Puts timed) old new n d e
 
--- a post: refused where an `end` was posted, the moment is too late or below the last, or 64 commands wait
+-- a post: it fails if an `end` was posted, the time is too late or before that of the last post, or 64 commands wait
 abbrev pub IsPost : ℕ → Timed → Did → Places → Places → Type 0
 IsPost n timed Done old new = (d e : Desk) × (s : Tenant) × Posts timed old new n d e s
 IsPost n timed Still old new =
@@ -107,19 +107,18 @@ IsRead n Still old new =
     (new ≡ old) × ((s : Tenant) → tenant_at old n ≡ Some s → (shown s.life).mail.unread ≡ [])
 IsRead n NoMemory old new = ⊥
 
--- a slot is free
 abbrev pub HasVacancy : Seating MailBook → Type 0
 HasVacancy sh = (k : ℕ) × (k < 256) × (seat_at sh.seats k ≡ None)
 
--- a parcel came to a shard's least vacant slot, or stays in the caller's hands: no slot is vacant, or memory was
--- refused
+-- a parcel was taken in at a shard's first vacant slot, or remains with the caller: no slot is vacant, or memory
+-- ran out
 abbrev pub Houses : Stand MailBook → ℕ → Did → Home → Seating MailBook → Seating MailBook → Type 0
 Houses p i Done home old new = (slot : ℕ) × (s : Seat MailBook) × TakenIn p old new slot s × (home ≡ Seated i slot)
 Houses p i Still home old new =
     (home ≡ Handed p) × (new ≡ old) × ((k : ℕ) → k < 256 → IsSome (seat_at old.seats k))
 Houses p i NoMemory home old new = (home ≡ Handed p) × (new ≡ old) × HasVacancy old
 
--- one that was handed out is resident
+-- an experiment that was handed out becomes a resident
 pub record Admits (i : ℕ) (old new : Places) (n slot : ℕ) (s : Tenant)
     (sh : Seating MailBook) (p : Stand MailBook) (seat : Seat MailBook) : Type 0 where
   pub handed : s.place ≡ HandedOut
@@ -128,7 +127,7 @@ pub record Admits (i : ℕ) (old new : Places) (n slot : ℕ) (s : Tenant)
   pub shards : new.shards ≡ slice_set old.shards i sh
   pub deques : new.deques ≡ old.deques
 
--- why nobody can be admitted: no such shard, not handed out, or no vacant slot
+-- why nothing can be admitted: no such shard, the name is not handed out, or no slot is vacant
 abbrev pub IsNotAdmitted : ℕ → ℕ → Places → Type 0
 IsNotAdmitted n i w =
     (length w.shards ≤ i)
@@ -145,7 +144,7 @@ IsAdmission n i NoMemory old new =
     × ((d : Desk) × (p : Stand MailBook) × (slice_get old.desks n ≡ Some d) × (d.home ≡ Handed p))
     × HasVacancy (shard_at old.shards i)
 
--- a resident went to the back of its shard's deque, or is handed out where that is refused
+-- a resident moved to the back of its shard's deque, or is handed out if the deque refuses it
 pub record Offers (i slot : ℕ) (old new : Places) (n : ℕ) (place : Place) (s : Tenant)
     (sh : Seating MailBook) (p : Stand MailBook) (seat : Seat MailBook) : Type 0 where
   pub resident : s.place ≡ Resident i slot
@@ -164,20 +163,20 @@ IsOffer i slot NoMemory old new =
     ⊎ ((n : ℕ) × (s : Tenant) × (sh : Seating MailBook) × (p : Stand MailBook) × (seat : Seat MailBook)
     × Offers i slot old new n HandedOut s sh p seat × (new.deques ≡ old.deques))
 
--- what bringing somebody is who was taken in so: one who is refused is handed out
+-- the result of bringing a parcel, by the result of taking it in: if no slot is vacant, the parcel is handed out
 abbrev pub did_bring : Did → Did
 did_bring Done = Done
 did_bring Still = Done
 did_bring NoMemory = NoMemory
 
--- the front of a deque left it
+-- the front of a deque was removed from it
 pub record Brings (from : ℕ) (old new : Places) (n : ℕ) (place : Place) (s : Tenant) (names : List ℕ) : Type 0 where
   pub queued : s.place ≡ InDeque from
   pub changed : Changed old new n s (at_place s place)
   pub front : deque_at old.deques from ≡ n ∷ names
   pub deques : new.deques ≡ slice_set old.deques from names
 
--- the front of a deque is resident of a shard, or is handed out where that is crowded or memory is refused
+-- the front of a deque becomes a resident of a shard, or is handed out if the shard is full or memory runs out
 abbrev pub IsBringing : ℕ → ℕ → Did → Places → Places → Type 0
 IsBringing i from Done old new =
     (n : ℕ) × (s : Tenant) × (names : List ℕ)
@@ -207,7 +206,7 @@ pub record Ends (i : ℕ) (old new : Places) (n slot : ℕ) (s : Tenant)
   pub end : IsEnd mail_seen a d
   pub changed : Changed old new n s (record s { place = Ended; life = Over d })
 
--- what one name did where its shard answers so
+-- the effect on one name of a shard's turn with this result
 abbrev pub TurnsOne : Turned MailBook → ℕ → Places → Places → Type 0
 TurnsOne (Ran name) i old new =
     (slot : ℕ) × (s : Tenant) × (a b : Stand MailBook) × Steps i old new name slot s a b
@@ -215,20 +214,20 @@ TurnsOne (Gone d) i old new =
     (slot : ℕ) × (s : Tenant) × (a : Stand MailBook) × Ends i old new d.name slot s a d
 TurnsOne Idle i old new = (m : ℕ) → tenant_at new m ≡ tenant_at old m
 
--- one turn of a shard, of which everything but the name's home stays
+-- one turn of a shard; the deques and the other shards do not change
 pub record TurnsAt (i : ℕ) (answer : Turned MailBook) (old new : Places) (sh : Seating MailBook) : Type 0 where
   pub turned : TurnsSettled mail_seen answer (shard_at old.shards i) sh
   pub one : TurnsOne answer i old new
   pub shards : new.shards ≡ slice_set old.shards i sh
   pub deques : new.deques ≡ old.deques
 
--- one that was halted met want of memory
+-- the result of a turn that ends an experiment; a halt means that memory ran out
 abbrev pub did_end : Ending → Did
 did_end ByEnd = Done
 did_end Spent = Done
 did_end Halted = NoMemory
 
--- what a step is that has this answer of a shard
+-- the result of a step, by the result of the shard's turn
 abbrev pub did_turn : Turned MailBook → Did
 did_turn (Ran name) = Done
 did_turn (Gone d) = did_end d.ending
@@ -262,7 +261,7 @@ IsWorldPoll i slot did old new =
     ⊎ ((answer : Polled) × (n : ℕ) × (s : Tenant) × (a b : Seat MailBook) × (sh : Seating MailBook)
     × (did ≡ did_poll answer) × PollsOne i slot answer old new n s a b sh)
 
--- the time of a shard began anew, and everybody stayed
+-- the agenda of a shard was rewound, and no tenant changed
 pub record Rebases (i : ℕ) (old new : Places) (sh : Seating MailBook) : Type 0 where
   pub rebased : IsRebased (shard_at old.shards i) sh
   pub same : (m : ℕ) → tenant_at new m ≡ tenant_at old m

@@ -1,4 +1,4 @@
--- What a contract sees of a name.
+-- A contract's view of a name.
 use Rattle.std.specs.Prelude.{◌≡◌, ℕ, ◌^◌, ◌<◌, ◌≤◌, ◌⊎◌, Bool, true, false, List}
 use Rattle.emu_model.specs.declared.commands.Spec.{Spec}
 use Rattle.emu_model.specs.declared.commands.Timed.{Timed}
@@ -14,20 +14,20 @@ use Rattle.world.specs.declared.home.Home.TheVariants.{Handed, Seated, Queued, L
 use Rattle.world.specs.declared.home.Place.{Place}
 use Rattle.world.specs.declared.home.Place.TheVariants.{HandedOut, Resident, InDeque, Ended}
 
--- an experiment that goes on, or what is left of one
+-- an experiment that has not ended, or what an ended one leaves
 pub data Life : Type 0 where
   Standing : Stand MailBook → Life
   Over : Final MailBook → Life
 
--- a name's place and experiment, whether an `end` was posted to it, and the moment of the last post
+-- a name's place and experiment, whether an `end` was posted to it, and the time of the last post
 pub record Tenant : Type 0 where
   pub place : Place
   pub life : Life
   pub closed : Bool
   pub last : ℕ
 
--- what is shown of an experiment: what it was given, the commands that came, how many steps it made, what it
--- recorded, its packets, and its mail
+-- what an experiment shows: its spec, the commands that came, the number of steps that it made, its records, its
+-- counters, and its mail
 pub record Shown : Type 0 where
   pub spec : Spec
   pub commands : List Timed
@@ -58,7 +58,7 @@ abbrev pub name_of : Life → ℕ
 name_of (Standing s) = s.name
 name_of (Over d) = d.name
 
--- the same with another mail
+-- the same experiment with another mail
 abbrev pub with_mail : Life → MailBook → Life
 with_mail (Standing s) mail = Standing (record s { mail = mail })
 with_mail (Over d) mail = Over (record d { mail = mail })
@@ -69,7 +69,7 @@ place_of (Seated shard slot) = Resident shard slot
 place_of (Queued shard p) = InDeque shard
 place_of (Left d) = Ended
 
--- no `end` was posted, and the moment is neither too late nor below the last
+-- no `end` was posted, and the time is neither too late nor before that of the last post
 pub record IsPostable (closed : Bool) (last : ℕ) (timed : Timed) : Type 0 where
   pub open_yet : closed ≡ false
   pub in_time : timed.moment ≤ 10 ^ 15
@@ -78,7 +78,7 @@ pub record IsPostable (closed : Bool) (last : ℕ) (timed : Timed) : Type 0 wher
 abbrev pub IsRefused : Bool → ℕ → Timed → Type 0
 IsRefused closed last timed = (closed ≡ true) ⊎ (10 ^ 15 < timed.moment) ⊎ (timed.moment < last)
 
--- one more command waits in its mail
+-- the tenant after a post, with one more command in its mail
 abbrev pub with_post : Tenant → Timed → Tenant
 with_post t timed = record {
   place = t.place;
