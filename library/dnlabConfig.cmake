@@ -1,5 +1,5 @@
-# find_package(dnlab CONFIG): the targets dnlab::dnlab (shared) and dnlab::static. The library is two folders above this
-# file, and the headers are beside its folder, or beside the one above it where libraries have a folder for each machine.
+# find_package(dnlab CONFIG) defines the targets dnlab::dnlab (shared) and dnlab::static. The library is two folders above
+# this file. The folder include/ is next to the library's folder, or one level higher if lib/ has a folder for each machine.
 get_filename_component(_dnlab_lib "${CMAKE_CURRENT_LIST_DIR}/../.." ABSOLUTE)
 find_path(_dnlab_include dnlab.h HINTS "${_dnlab_lib}/../include" "${_dnlab_lib}/../../include" NO_DEFAULT_PATH)
 foreach(_dnlab_kind IN ITEMS dnlab static)

@@ -1,7 +1,7 @@
-/* link.h - what the programs of this folder share: their words, and the link that they make of them.
+/* link.h - code that the programs of this folder share: their options, and the link that the options describe.
 
-   PROGRAM SCENARIO REPORT [NAME=VALUE ..], where DNLAB names the program dnlab (else it is found on the PATH). SCENARIO gets the
-   transcript and REPORT the report; `-` is none. */
+   PROGRAM SCENARIO REPORT [NAME=VALUE ..]. The variable DNLAB names the program dnlab (default: `dnlab` on the PATH). The
+   transcript is written to SCENARIO and the report to REPORT; `-` writes no file. */
 #ifndef LINK_H
 #define LINK_H
 #include "live.h"
@@ -9,13 +9,14 @@
 
 typedef struct word { const char *name, *value, *about; } word;
 
-/* The words that make the link: two pipes, there and back. */
+/* The options of the link, which has two pipes: one in the direction of the data (forward), and one back. */
 #define LINK_WORDS \
-  {"mbytes", "10", "how much goes over, in MB (10^6 bytes)"}, {"bw", "10Mbit/s", "rate of the way there"}, \
-  {"delay", "20", "ms, each way"}, {"queue", "100 codel", "of the way there"}, {"plr", "0", "share lost on the way there"}, \
-  {"seed", "1", "of the link's chances"}, {"reno", "0", "1: a built-in Reno flow goes the same way"}, \
-  {"trace", "0", "1: the report has a line for each packet's making and arrival, as tools/pcap needs"}, \
-  {"hold", "1", "ns for which deliveries are gathered (a network card's coalescing)"}
+  {"mbytes", "10", "data to transfer, in MB (10^6 bytes)"}, {"bw", "10Mbit/s", "rate of the forward pipe"}, \
+  {"delay", "20", "delay in each direction, in ms"}, {"queue", "100 codel", "queue of the forward pipe"}, \
+  {"plr", "0", "share of packets that the forward pipe loses"}, \
+  {"seed", "1", "seed of the link's random numbers"}, {"reno", "0", "1: add a built-in Reno flow in the same direction"}, \
+  {"trace", "0", "1: report when each packet is created and arrives, as tools/pcap needs"}, \
+  {"hold", "1", "time in ns for which deliveries are collected (a network card's coalescing)"}
 
 static inline void stop(int status, const char *what, const char *more) {
   fprintf(stderr, "%s%s%s\n", what, more[0] ? ": " : "", more);
@@ -28,19 +29,19 @@ static inline const char *value_of(const word *words, const char *name) {
 }
 
 static inline void usage(const char *program, const word *words) {
-  fprintf(stderr, "usage: %s SCENARIO REPORT [NAME=VALUE ..]   (- is no file; DNLAB names the program dnlab)\n", program);
+  fprintf(stderr, "usage: %s SCENARIO REPORT [NAME=VALUE ..]   (- writes no file; DNLAB names the program dnlab)\n", program);
   for (; words->name; words++) fprintf(stderr, "  %s=%s  %s\n", words->name, words->value, words->about);
   exit(2);
 }
 
-/* Takes NAME=VALUE for each word of the command line from the third on. */
+/* Sets the options from the arguments NAME=VALUE, from the third argument on. Exits with 2 after an unknown option. */
 static inline void take_words(int argc, char **argv, word *words) {
   if (argc < 3) usage(argv[0], words);
   for (int i = 3; i < argc; i++) {
     char *sign = strchr(argv[i], '=');
     word *it = words;
     while (it->name && !(sign && strlen(it->name) == (size_t)(sign - argv[i]) && strncmp(it->name, argv[i], strlen(it->name)) == 0)) it++;
-    if (!it->name) { fprintf(stderr, "%s: no such word: %s\n", argv[0], argv[i]); usage(argv[0], words); }
+    if (!it->name) { fprintf(stderr, "%s: no such option: %s\n", argv[0], argv[i]); usage(argv[0], words); }
     it->value = sign + 1;
   }
 }
@@ -51,10 +52,10 @@ static inline FILE *file_of(const char *name) {
   return file;
 }
 
-/* Ends this program where a call of live.h says that something is wrong. */
+/* Exits with an error message if a call of live.h failed. */
 static inline void must(live *l, int status) { if (status) stop(l->is_lost ? 3 : 2, "link", live_error(l)); }
 
-/* The link of a command line: pipe 1 from 10.0.0.0/24 to 10.0.1.0/24, pipe 2 back. */
+/* Creates the link that the arguments describe: pipe 1 from 10.0.0.0/24 to 10.0.1.0/24, and pipe 2 back. */
 static inline live *link_of(char **argv, const char *name, const word *words) {
   char line[400];
   const char *program = getenv("DNLAB");
@@ -76,14 +77,15 @@ static inline live *link_of(char **argv, const char *name, const word *words) {
   return l;
 }
 
-/* What is sent over the link: a datagram, which stays in this program. */
+/* A datagram that is sent over the link. Its bytes stay in this program. */
 typedef struct datagram { void *to; size_t bytes; uint8_t data[1500]; } datagram;
 
-/* A datagram goes over the link, with 28 bytes of IPv4 and UDP: 0 where it is too big for it, as sendto says EMSGSIZE. */
+/* Sends a datagram over the link, with 28 bytes of IPv4 and UDP headers. Returns 1, or 0 if it is larger than the MTU of 1500
+   bytes (sendto fails with EMSGSIZE then). */
 static inline int send_datagram(live *l, const char *header, void *to, const uint8_t *data, size_t bytes) {
   datagram *it;
   if (bytes + 28 > 1500) return 0;
-  if ((it = (datagram *)malloc(sizeof *it)) == NULL) stop(3, "no memory", "");
+  if ((it = (datagram *)malloc(sizeof *it)) == NULL) stop(3, "out of memory", "");
   it->to = to;
   it->bytes = bytes;
   memcpy(it->data, data, bytes);
@@ -97,12 +99,12 @@ static inline double seconds_since(const struct timespec *begin) {
   return (double)(now.tv_sec - begin->tv_sec) + (double)(now.tv_nsec - begin->tv_nsec) / 1e9;
 }
 
-/* The experiment ends, and what it was is said; the files are closed. */
+/* Ends the experiment, prints its counters, and closes the files. */
 static inline void close_link(live *l, const struct timespec *begin) {
   must(l, live_end(l));
   printf("link: %s (made, delivered, held; dropped: denied, nopipe, noinstance, lost, full, codel, deleted, budget)\n", l->counters);
   fprintf(stderr, "%lu packets, %lu round trips, %.2f s of real time\n", l->sends, l->round_trips, seconds_since(begin));
   if ((l->transcript && fclose(l->transcript)) || (l->report && fclose(l->report))) stop(3, "a file can't be written", strerror(errno));
-  if (live_close(l)) stop(3, "dnlab didn't end as it should", "");
+  if (live_close(l)) stop(3, "dnlab ended with an error", "");
 }
 #endif

@@ -1,7 +1,7 @@
-/* live.h - a link of dnlab that a C program drives: a session with `dnlab live`, of one experiment.
+/* live.h - drives a link of dnlab from a C program: a session of `dnlab live` with one experiment.
 
-   Packets go in at moments that the program chooses, and it is told what became of them. What they carry stays in the
-   program: only sizes go over. Simulated time stands still but for live_until, live_until_mine and live_end.
+   The program sends packets at times that it chooses, and learns when each packet is delivered or dropped. Payloads stay in
+   the program, because the link only sees sizes. Only live_until, live_until_mine and live_end advance simulated time.
 
        live *l = live_open("dnlab");
        if (l == NULL || live_experiment(l, "mine", 1, 1000, 1000000)
@@ -12,13 +12,13 @@
        for (size_t i = 0; i < l->count; i++) ...  l->events[i].moment, .payload, .cause ...
        live_clear(l);
 
-   Each call that answers an int answers 0, or -1 where something is wrong: live_error then says what, with the line. A line that
-   was not taken, or a refused command, ends nothing; where the program has ended (l->is_lost) all later calls answer -1.
-   Moments are nanoseconds, sizes bytes (40 to 1500, headers included). There is no global state: a process can have many
-   sessions, each used by one thread at a time. It needs C99 and POSIX (define _POSIX_C_SOURCE 200809L with -std=c99).
+   Each call that returns an int returns 0 on success and -1 on failure; then live_error returns the cause and the line. The
+   session continues after a rejected line or a refused command. Once the program has ended (l->is_lost), all later calls return -1.
+   Times are in nanoseconds and sizes in bytes (40 to 1500, headers included). There is no global state: a process can have
+   many sessions, each used by one thread at a time. It needs C99 and POSIX (define _POSIX_C_SOURCE 200809L with -std=c99).
 
-   With LIVE_LIBRARY defined the session is in this process, by libdnlab (dnlab.h, -ldnlab): all else stays the same, and what
-   names the program isn't looked at.
+   If you define LIVE_LIBRARY, the session runs in this process, in libdnlab (dnlab.h, -ldnlab). Everything else stays the same,
+   and live_open ignores its argument.
 
    Licence: MIT or Apache-2.0, as dnlab. */
 #ifndef DNLAB_LIVE_H
@@ -40,11 +40,12 @@
 #include <unistd.h>
 #endif
 
-#define LIVE_LATEST UINT64_C(1000000000000000) /* the latest moment */
-#define LIVE_LINE 512                          /* what a line has at most */
-#define LIVE_GATHERED 32768                    /* bytes that are gathered before they are sent unasked */
+#define LIVE_LATEST UINT64_C(1000000000000000) /* the latest time, in ns */
+#define LIVE_LINE 512                          /* maximum length of a line, in bytes */
+#define LIVE_GATHERED 32768                    /* size of a batch, in bytes; a longer one is sent without waiting for a call */
 
-/* What became of a packet: delivered (cause is "") or dropped at a moment, for a cause of docs/reference/report.md. */
+/* The fate of a packet: when it was delivered (cause is ""), or when and why it was dropped (docs/reference/report.md has the
+   causes). The payload is the pointer that live_send received. */
 typedef struct live_event {
   uint64_t moment;
   void *payload;
@@ -52,18 +53,18 @@ typedef struct live_event {
 } live_event;
 
 typedef struct live {
-  /* To be read. */
-  uint64_t now;         /* the least moment at which something can be done */
-  int is_over;          /* the experiment has ended: by its end, or since its steps are spent */
+  /* The caller reads these. */
+  uint64_t now;         /* simulated time (ns): the earliest time of a command or a packet */
+  int is_over;          /* the experiment has ended: at its `end`, or because its steps ran out */
   int is_lost;          /* the program has ended */
-  live_event *events;   /* since live_clear */
+  live_event *events;   /* the events since live_clear */
   size_t count;
   char counters[256];   /* the report's line of counters, once the experiment has ended */
   unsigned long sends, round_trips;
-  /* To be set before live_experiment, where they are wanted. */
-  FILE *transcript;     /* gets the scenario that `dnlab alone` runs to the same report */
-  FILE *report;         /* gets the report; without it only what concerns the packets that are sent is told */
-  /* The header's own. */
+  /* Optional. The caller sets these before live_experiment. */
+  FILE *transcript;     /* receives the scenario from which `dnlab alone` writes the same report */
+  FILE *report;         /* receives the report; without it, the session only reports on packets that were sent */
+  /* Private. */
 #ifdef LIVE_LIBRARY
   dnlab_session session;
 #else
@@ -72,32 +73,33 @@ typedef struct live {
 #endif
   char error[LIVE_LINE + 200];
   size_t event_room;
-  char *posted;         /* lines that aren't answered yet; those up to `sent` have gone out */
+  char *posted;         /* lines without a reply yet; the bytes before `sent` have been sent */
   size_t posted_bytes, posted_room, sent, answered_bytes;
   unsigned long unanswered;
-  void **unnamed;       /* payloads of packets whose numbers aren't told yet, from `named` on */
+  void **unnamed;       /* payloads of packets whose numbers are not known yet, from index `named` on */
   size_t named, unnamed_count, unnamed_room;
-  void **flying;        /* payloads by number */
+  void **flying;        /* payloads of packets in flight, by number */
   char *is_flying;
   size_t flying_room, is_flying_room;
-  uint64_t dropped_at, dropped_number; /* a packet that was dropped as it came: this is told before its number */
+  uint64_t dropped_at, dropped_number; /* a packet that was dropped on arrival: its drop is reported before its number */
   char dropped_cause[12];
   uint64_t next;
-  int adds_next, has_next, is_wrong; /* whether answers say when the next event is due, and whether one is */
-  char *said;           /* what was read of lines that aren't whole */
+  int adds_next, has_next, is_wrong; /* replies have the time of the next event; there is a next event; a line failed */
+  char *said;           /* bytes that were read and not processed yet */
   size_t said_bytes, said_room;
 } live;
 
-/* Says what is wrong; always -1. */
+/* Sets the text of live_error. Returns -1. */
 static inline int live_fail(live *l, const char *what, const char *more) {
   snprintf(l->error, sizeof l->error, "%.200s%s%.500s", what, more[0] ? ": " : "", more);
   return -1;
 }
 
-/* What was wrong the last time; "" where nothing was. Of a session that isn't there the system's words. */
+/* Returns the cause of the last failure, or "" if there is none. For NULL it returns the system's text for errno. */
 static inline const char *live_error(const live *l) { return l ? l->error : strerror(errno); }
 
-/* Room for `want` things of a size at a place: -1 where there is no memory. What is new is zero. */
+/* Grows an array to at least `want` elements of a size; new elements are zero. `place` is the address of the pointer to it.
+   Returns 0, or -1 if memory runs out. */
 static inline int live_room(live *l, void *place, size_t *room, size_t want, size_t size) {
   void *found;
   size_t more = *room ? *room : 256;
@@ -105,7 +107,7 @@ static inline int live_room(live *l, void *place, size_t *room, size_t want, siz
   while (more < want) more *= 2;
   memcpy(&found, place, sizeof found);
   found = realloc(found, more * size);
-  if (found == NULL) return live_fail(l, "no memory", "");
+  if (found == NULL) return live_fail(l, "out of memory", "");
   memset((char *)found + *room * size, 0, (more - *room) * size);
   memcpy(place, &found, sizeof found);
   *room = more;
@@ -113,7 +115,7 @@ static inline int live_room(live *l, void *place, size_t *room, size_t want, siz
 }
 
 #ifdef LIVE_LIBRARY
-/* Begins a session in this process; NULL with errno where there is no memory for it. */
+/* Opens a session in this process. Returns NULL and sets errno if memory runs out. */
 static inline live *live_open(const char *program) {
   dnlab_answer answer;
   live *l = (live *)calloc(1, sizeof *l);
@@ -125,18 +127,19 @@ static inline live *live_open(const char *program) {
   return l;
 }
 #else
-/* Begins a session with a program `dnlab`, by its path or its name on the PATH; NULL with errno where that can't be. */
+/* Opens a session with a program `dnlab`, given by its path or its name on the PATH. Returns NULL and sets errno on failure. If
+   there is no such program, a later call fails. */
 static inline live *live_open(const char *program) {
   int ends[2];
   live *l = (live *)calloc(1, sizeof *l);
   if (l == NULL) return NULL;
-  /* A socket, since writing to a pipe that nobody reads would send SIGPIPE to the caller. */
+  /* This is a socket, because a write to a pipe that nobody reads would send SIGPIPE to the caller. */
   if (socketpair(AF_UNIX, SOCK_STREAM, 0, ends)) { free(l); return NULL; }
   fcntl(ends[0], F_SETFD, FD_CLOEXEC);
   l->pid = fork();
   if (l->pid < 0) { close(ends[0]); close(ends[1]); free(l); return NULL; }
   if (l->pid == 0) {
-    /* A group of its own: Ctrl-C comes to the caller, and the program ends with its input. */
+    /* The program has its own process group: Ctrl-C reaches only the caller, and the program ends at the end of its input. */
     setpgid(0, 0);
     if (dup2(ends[1], 0) >= 0 && dup2(ends[1], 1) >= 0) {
       if (ends[1] > 1) close(ends[1]);
@@ -161,7 +164,7 @@ static inline int live_event_add(live *l, uint64_t moment, void *payload, const 
   return 0;
 }
 
-/* What is told of a packet: MOMENT deliver P plain, MOMENT drop P plain CAUSE. */
+/* Reads the fate of a packet: `TIME deliver P plain` or `TIME drop P plain CAUSE`. Ignores other lines. */
 static inline int live_fate(live *l, const char *line) {
   char *rest;
   int is_drop;
@@ -183,21 +186,21 @@ static inline int live_fate(live *l, const char *line) {
   return 0;
 }
 
-/* A line of the report, without its line feed. */
+/* Processes a line of the report, without its line feed. */
 static inline int live_told(live *l, const char *line) {
   if (l->report && fprintf(l->report, "%s\n", line) < 0) return live_fail(l, "the report can't be written", strerror(errno));
   if (strncmp(line, "counters ", 9) == 0) snprintf(l->counters, sizeof l->counters, "%.255s", line);
   return live_fate(l, line);
 }
 
-/* What the packet carries that was sent first of those without a number. */
+/* Removes and returns the payload of the first packet whose number is not known yet. */
 static inline void *live_payload(live *l) {
   void *payload = l->unnamed[l->named++];
   if (l->named == l->unnamed_count) l->named = l->unnamed_count = 0;
   return payload;
 }
 
-/* That packet has a number. */
+/* Assigns a number to that packet. */
 static inline int live_name(live *l, uint64_t number) {
   void *payload = live_payload(l);
   if (l->dropped_number == number) return live_event_add(l, l->dropped_at, payload, l->dropped_cause);
@@ -208,13 +211,13 @@ static inline int live_name(live *l, uint64_t number) {
   return 0;
 }
 
-/* What is said to the line that was posted first of those without an answer. */
+/* Processes the reply to the first line that has none yet. */
 static inline int live_answered(live *l, const char *answer) {
   char *line = l->posted + l->answered_bytes, *end = strchr(line, '\n');
   const char *next = strstr(answer, "next ");
   size_t bytes = end ? (size_t)(end - line) : 0;
   int status = 0;
-  if (end == NULL) return live_fail(l, "an answer to nothing", answer);
+  if (end == NULL) return live_fail(l, "a reply without a request", answer);
   *end = 0;
   if (strncmp(answer, "fault ", 6) == 0 || strncmp(answer, "refused ", 8) == 0) {
     if (!l->is_wrong) live_fail(l, answer, line);
@@ -222,7 +225,7 @@ static inline int live_answered(live *l, const char *answer) {
   }
   if (strncmp(answer, "now ", 4) == 0) l->now = strtoull(answer + 4, NULL, 10);
   else if (strncmp(answer, "packet ", 7) == 0) status = live_name(l, strtoull(answer + 7, NULL, 10));
-  else if (strstr(line, " inject ")) live_payload(l); /* it isn't on the link: a fault, or all is over */
+  else if (strstr(line, " inject ")) live_payload(l); /* the packet did not enter the link: a fault, or the experiment is over */
   if (strncmp(answer, "over ", 5) == 0) { l->is_over = 1; l->has_next = 0; l->now = strtoull(answer + 5, NULL, 10); }
   if (next) { l->has_next = next[5] != 'n'; l->next = strtoull(next + 5, NULL, 10); }
   if (l->transcript && line[0] != '#' && strncmp(answer, "fault ", 6) && fprintf(l->transcript, "%s\n", line) < 0)
@@ -234,14 +237,14 @@ static inline int live_answered(live *l, const char *answer) {
 }
 
 #ifdef LIVE_LIBRARY
-/* Memory was refused: the session takes no more lines. */
+/* Notes that memory ran out, so the session accepts no more lines. Returns -1. */
 static inline int live_lost(live *l) {
-  if (!l->is_lost) live_fail(l, "no memory", "");
+  if (!l->is_lost) live_fail(l, "out of memory", "");
   l->is_lost = 1;
   return -1;
 }
 
-/* Has the session take the next line that was posted. */
+/* Passes the next posted line to the session, and appends the result to `said`. */
 static inline int live_turn(live *l) {
   const char *line = l->posted + l->sent, *end = (const char *)memchr(line, '\n', l->posted_bytes - l->sent);
   size_t bytes = end ? (size_t)(end - line) : 0, room = 65536;
@@ -249,7 +252,7 @@ static inline int live_turn(live *l) {
   do {
     if (live_room(l, &l->said, &l->said_room, l->said_bytes + room, 1)) return -1;
     dnlab_take(&l->session, (const uint8_t *)line, bytes, (uint8_t *)l->said + l->said_bytes, l->said_room - l->said_bytes, &answer);
-    /* Where the room is too small the line was taken, and what it said is kept. */
+    /* If the room was too small, the line was processed, and the session kept the result: fetch it with an empty line. */
     l->sent += bytes ? bytes + 1 : 0;
     bytes = 0;
     room = (size_t)answer.length;
@@ -259,7 +262,7 @@ static inline int live_turn(live *l) {
   return 0;
 }
 #else
-/* The program has ended. */
+/* Notes that the program has ended, and how. Returns -1. */
 static inline int live_lost(live *l) {
   char how[60] = "";
   int status = 0;
@@ -274,7 +277,7 @@ static inline int live_lost(live *l) {
   return -1;
 }
 
-/* Sends what there is room for, and reads what there is; waits for one of both. */
+/* Sends as many bytes as the socket accepts, and reads the bytes that are available. Waits until it can do one of the two. */
 static inline int live_turn(live *l) {
   struct pollfd wanted = {0, 0, 0};
   ssize_t bytes;
@@ -283,7 +286,7 @@ static inline int live_turn(live *l) {
   if (l->sent < l->posted_bytes) {
     bytes = send(l->socket, l->posted + l->sent, l->posted_bytes - l->sent, MSG_NOSIGNAL | MSG_DONTWAIT);
     if (bytes > 0) l->sent += (size_t)bytes;
-    else if (bytes < 0 && errno == EPIPE) l->sent = l->posted_bytes; /* what it said before is read yet */
+    else if (bytes < 0 && errno == EPIPE) l->sent = l->posted_bytes; /* its last output is still to be read */
     else if (bytes < 0 && errno != EAGAIN && errno != EWOULDBLOCK && errno != EINTR) return live_fail(l, "write", strerror(errno));
     if (l->sent < l->posted_bytes) {
       if (poll(&wanted, 1, -1) < 0 && errno != EINTR) return live_fail(l, "poll", strerror(errno));
@@ -299,7 +302,7 @@ static inline int live_turn(live *l) {
 }
 #endif
 
-/* Takes the whole lines that were read. */
+/* Processes the complete lines that were read. */
 static inline int live_take(live *l) {
   char *line = l->said, *end = l->said + l->said_bytes, *feed;
   int status = 0;
@@ -314,7 +317,8 @@ static inline int live_take(live *l) {
   return status;
 }
 
-/* Sends what was posted, and reads until each line has its answer. Neither side waits for the other for ever. */
+/* Sends the posted lines, and reads until each line has its reply. It reads while it sends, so neither side can block the
+   other for ever. */
 static inline int live_exchange(live *l) {
   if (l->is_lost) return -1;
   l->error[0] = 0;
@@ -326,7 +330,7 @@ static inline int live_exchange(live *l) {
   return l->is_wrong ? -1 : 0;
 }
 
-/* Posts a line of three parts; it goes out with the next exchange. */
+/* Appends a line, which has three parts, to the batch. The next exchange sends it. */
 static inline int live_post(live *l, const char *begin, const char *middle, const char *rest) {
   size_t bytes = strlen(begin) + strlen(middle) + strlen(rest);
   if (l->is_lost) return -1;
@@ -337,8 +341,8 @@ static inline int live_post(live *l, const char *begin, const char *middle, cons
   return l->posted_bytes > LIVE_GATHERED ? live_exchange(l) : 0;
 }
 
-/* Begins the experiment: its seed, how many packets there can be at once (1 to 65535), and after how many steps it is over (1
-   to 10^7). Once in a session. */
+/* Starts the experiment, with its seed, the maximum number of packets at the same time (1 to 65535), and the maximum number of
+   steps (1 to 10^7). Call it once in a session. */
 static inline int live_experiment(live *l, const char *name, uint64_t seed, unsigned budget, unsigned long steps) {
   char rest[120];
   snprintf(rest, sizeof rest, " seed %" PRIu64 " budget %u steps %lu", seed, budget, steps);
@@ -347,19 +351,19 @@ static inline int live_experiment(live *l, const char *name, uint64_t seed, unsi
   return live_exchange(l);
 }
 
-/* A command now, in the words of a scenario without its moment. */
+/* Runs a command now. It is written as in a scenario, without its time. */
 static inline int live_command(live *l, const char *words) {
   char begin[40];
   snprintf(begin, sizeof begin, "@%" PRIu64 " ", l->now);
   return live_post(l, begin, words, "") ? -1 : live_exchange(l);
 }
 
-/* A packet comes to the link now: its header "udp 10.0.0.1 1000 10.0.1.1 2000", its size, and what the events give back. It goes
-   out with the next call that asks something; what is wrong with it is said there. */
+/* Sends a packet now, with a header like "udp 10.0.0.1 1000 10.0.1.1 2000", a size in bytes, and the payload that its event will
+   have. The next call that waits for a reply sends the line and reports its errors. */
 static inline int live_send(live *l, const char *header, unsigned size, void *payload) {
   char begin[50], rest[20];
   if (l->is_over) return live_fail(l, "the experiment is over", header);
-  if (strlen(header) > 100 || strchr(header, '\n')) return live_fail(l, "no header", header);
+  if (strlen(header) > 100 || strchr(header, '\n')) return live_fail(l, "not a header", header);
   if (live_room(l, &l->unnamed, &l->unnamed_room, l->unnamed_count + 1, sizeof *l->unnamed)) return -1;
   l->unnamed[l->unnamed_count++] = payload;
   l->sends++;
@@ -368,14 +372,14 @@ static inline int live_send(live *l, const char *header, unsigned size, void *pa
   return live_post(l, begin, header, rest);
 }
 
-/* Time goes to a moment. */
+/* Advances simulated time to a moment (ns). */
 static inline int live_until(live *l, uint64_t moment) {
   char begin[50];
   snprintf(begin, sizeof begin, "#> until @%" PRIu64, moment);
   return live_post(l, begin, "", "") ? -1 : live_exchange(l);
 }
 
-/* The same, but no further than `hold` ns (1 at least) behind the first delivery or drop of a packet that was sent. */
+/* Like live_until, but stops at most `hold` ns (at least 1) after the first delivery or drop of a packet that was sent. */
 static inline int live_until_mine(live *l, uint64_t moment, uint64_t hold) {
   char begin[50], rest[40];
   snprintf(begin, sizeof begin, "#> until @%" PRIu64, moment);
@@ -383,8 +387,8 @@ static inline int live_until_mine(live *l, uint64_t moment, uint64_t hold) {
   return live_post(l, begin, "", rest) ? -1 : live_exchange(l);
 }
 
-/* Gets when the next event of the link is due; *moment is UINT64_MAX if nothing is. After the first call the answers to other
-   lines say it too, so a call costs no round trip unless packets were sent since the last exchange. */
+/* Sets *moment to the time (ns) of the link's next event, or to UINT64_MAX if there is none. After the first call the replies to
+   other lines have that time too, so a call costs no round trip unless packets were sent since the last exchange. */
 static inline int live_next(live *l, uint64_t *moment) {
   if (!l->adds_next && live_post(l, "#> next on", "", "")) return -1;
   l->adds_next = 1;
@@ -393,21 +397,22 @@ static inline int live_next(live *l, uint64_t *moment) {
   return 0;
 }
 
-/* The experiment ends now. */
+/* Ends the experiment now. */
 static inline int live_end(live *l) { return live_command(l, "end"); }
 
-/* Forgets the events that were told. */
+/* Removes all events. */
 static inline void live_clear(live *l) { l->count = 0; }
 
 #ifdef LIVE_LIBRARY
-/* Ends the session: 0, or 1 where the experiment has no end, 3 where memory was refused, as the program's status would be. */
+/* Ends the session. Returns the status that the program would have: 0, 1 if the experiment has no `end`, or 3 if memory ran
+   out. */
 static inline int live_leave(live *l) {
   dnlab_answer answer;
   dnlab_close(&l->session, &answer);
   return (int)answer.status;
 }
 #else
-/* Ends the program: its status, -1 where it gave none. */
+/* Ends the program. Returns its exit status, or -1 if it has none. */
 static inline int live_leave(live *l) {
   char rest[4096];
   int ended = 0;
@@ -418,7 +423,7 @@ static inline int live_leave(live *l) {
 }
 #endif
 
-/* Ends the program, and frees the session: the program's status, -1 where it gave none. */
+/* Ends the program, and frees the session. Returns the program's exit status, or -1 if it has none. */
 static inline int live_close(live *l) {
   int status;
   if (l == NULL) return -1;

@@ -1,5 +1,5 @@
-/* round_trips DNLAB PACKETS BURST: a burst of packets goes in, time goes on until all of it has come; and again. Prints the seconds
-   that it took, and how often it was waited for an answer. */
+/* round_trips DNLAB PACKETS BURST: sends a burst of packets, advances time until all of them have arrived, and repeats this until
+   PACKETS have arrived. Prints the time (s) and the number of waits for a reply. */
 #define _POSIX_C_SOURCE 200809L
 #include "live.h"
 #include <time.h>

@@ -1,13 +1,15 @@
 #!/usr/bin/env python3
-"""A sender of one's own, with CUBIC's window (RFC 9438), over a link of dnlab.
+"""Sends data over a link of dnlab, with a sender of your own that has CUBIC's
+window (RFC 9438).
 
     own_sender.py SCENARIO REPORT [--mbytes 10] [--bw 10Mbit/s] [--delay 20]
                   [--queue '100 codel'] [--plr 0] [--seed 1] [--reno] [--trace]
 
-SCENARIO gets the transcript, which `dnlab alone` runs to REPORT. Each packet
-has a number and is acknowledged by itself; one is held for lost once a packet
-sent three later is acknowledged, or at a timeout of RFC 6298. The program is
-the one that DNLAB names, else the one that ./dnlab starts.
+It writes the transcript to SCENARIO and the report to REPORT; `dnlab alone`
+writes the same report for SCENARIO. Each packet has a number and gets its own
+acknowledgement. A packet is declared lost once a packet that was sent three
+later is acknowledged, or at a timeout (RFC 6298). The program is the one that
+DNLAB names, or by default the one that ./dnlab starts.
 
 Example:
   stacks/own_sender/own_sender.py scenario.txt report.txt
@@ -36,7 +38,7 @@ LAST = 600 * S
 
 
 class Receiver:
-    """Acknowledges each packet by itself, in 40 bytes."""
+    """Acknowledges each packet separately, with a packet of 40 bytes."""
 
     def __init__(self, loop: Loop, here: Address, there: Address) -> None:
         self.loop, self.here, self.there = loop, here, there
@@ -50,12 +52,13 @@ class Receiver:
 
 
 class Sender:
-    """Sends so many packets, each until it is acknowledged."""
+    """Sends a number of packets, each until it is acknowledged."""
 
     def __init__(self, loop: Loop, here: Address, there: Address, packets: int) -> None:
         self.loop, self.here, self.there = loop, here, there
         self.window, self.timeout = Cubic(), Timeout()
-        # What is still to be sent, the last first; and what is under way: when it was sent (ns), and as which in order.
+        # The packets that are still to be sent, the last one first; and those in flight: when each was sent (ns), and its
+        # place in the order of sending.
         self.waiting = list(range(packets))[::-1]
         self.flying: dict[int, tuple[int, int]] = {}
         self.sent = self.lost = self.timeouts = self.recovered = 0
@@ -76,7 +79,7 @@ class Sender:
         assert event.packet is not None
         found = self.flying.pop(event.packet.payload, None)
         if found is None:
-            # It was held for lost, and came after all.
+            # It was declared lost, but has arrived.
             self.arrived_late(event.packet.payload)
             return
         moment, order = found
@@ -101,7 +104,7 @@ class Sender:
         self.fill()
 
     def resend(self, late: list[int], order: int) -> None:
-        """These are held for lost; the window shrinks once for all that were under way then."""
+        """Declares packets lost. The window shrinks once for all packets that were in flight at that time."""
         flying = len(self.flying) + 1
         for number in late:
             _, sent = self.flying.pop(number)
@@ -112,7 +115,7 @@ class Sender:
         self.waiting += late[::-1]
 
     def watch(self) -> None:
-        """Looks after the oldest packet that is under way, as long as anything is to do."""
+        """Checks the timeout of the oldest packet in flight, until all packets are acknowledged."""
         if not self.left:
             return
         oldest = min((moment for moment, _ in self.flying.values()), default=self.loop.now)
@@ -137,7 +140,7 @@ def transfer(link: dnlab.Link, packets: int) -> Sender:
     while sender.done_at is None and not link.is_over and loop.now < LAST:
         loop.run(min(loop.now + S // 10, LAST))
     if sender.done_at is None:
-        raise dnlab.InputError("the transfer didn't end: the experiment's steps are spent, or 600 s of the link's time are over")
+        raise dnlab.InputError("the transfer didn't end: the experiment's steps ran out, or 600 s of simulated time are over")
     assert len(receiver.numbers) == packets
     return sender
 
@@ -160,7 +163,7 @@ def run(words: argparse.Namespace) -> None:
     assert sender.done_at is not None
     rate = packets * (SIZE - HEADER) * 8 * S / sender.done_at / 10**6
     print(f"own sender: {packets} packets in {sender.done_at / S:.3f} s: {rate:.2f} Mbit/s")
-    print(f"{sender.sent} sent, {sender.lost} held for lost, {sender.timeouts} timeouts; srtt {sender.timeout.smoothed / MS:.2f} ms,"
+    print(f"{sender.sent} sent, {sender.lost} declared lost, {sender.timeouts} timeouts; srtt {sender.timeout.smoothed / MS:.2f} ms,"
           f" window {sender.window.cwnd:.1f} segments")
     print("link: counters", *(link.counters or ()))
     print(f"{session.round_trips} round trips", file=sys.stderr)
@@ -174,8 +177,8 @@ def main() -> int:
     for name, value in (("bw", "10Mbit/s"), ("delay", "20"), ("queue", "100 codel"), ("plr", "0")):
         parser.add_argument(f"--{name}", default=value)
     parser.add_argument("--seed", type=int, default=1)
-    parser.add_argument("--trace", action="store_true", help="the report has a line for each packet's making, as tools/pcap needs")
-    parser.add_argument("--reno", action="store_true", help="a built-in Reno flow goes the same way")
+    parser.add_argument("--trace", action="store_true", help="report when each packet is created, as tools/pcap needs")
+    parser.add_argument("--reno", action="store_true", help="add a built-in Reno flow in the same direction")
     words = parser.parse_args()
     ending.watch("own_sender")
     try:

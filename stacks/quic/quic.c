@@ -1,4 +1,4 @@
-/* A bulk transfer over QUIC by ngtcp2 and GnuTLS, client and server in this program, over a link of dnlab (README.md). */
+/* Transfers bulk data over QUIC (ngtcp2, GnuTLS), over a link of dnlab. Client and server are in this program (README.md). */
 #define _POSIX_C_SOURCE 200809L
 #include "../link.h"
 #include <arpa/inet.h>
@@ -9,7 +9,7 @@
 #include <ngtcp2/ngtcp2_crypto_gnutls.h>
 #include <stdarg.h>
 
-#define LAST (UINT64_C(600) * NGTCP2_SECONDS) /* the transfer is given up then */
+#define LAST (UINT64_C(600) * NGTCP2_SECONDS) /* the transfer fails if it is not done by then (ns) */
 #define MOST_PAYLOAD 1472
 
 typedef struct end {
@@ -38,7 +38,7 @@ static uint8_t zeros[65536];
 static void check(const char *what, int code) { if (code) stop(4, what, ngtcp2_strerror(code)); }
 static void check_tls(const char *what, int code) { if (code < 0) stop(4, what, gnutls_strerror(code)); }
 
-/* The stack's random bytes come from a seed, so that two runs are the same. */
+/* Fills a buffer with the stack's random bytes, by a xorshift generator with a fixed seed, so that two runs are equal. */
 static void fill(uint8_t *to, size_t bytes) {
   for (size_t i = 0; i < bytes; i++) {
     random_state ^= random_state << 13; random_state ^= random_state >> 7; random_state ^= random_state << 17;
@@ -80,7 +80,7 @@ static int on_handshake(ngtcp2_conn *c, void *user) {
   return 0;
 }
 
-/* ngtcp2 says in its log which packets it holds for lost. */
+/* Counts the packets that ngtcp2 declares lost. Only its log has them. */
 static void on_log(void *user, const char *form, ...) {
   char line[1000];
   va_list words;
@@ -144,7 +144,7 @@ static void secure(end *e) {
   ngtcp2_conn_set_tls_native_handle(e->conn, e->tls);
 }
 
-/* A certificate of its own, with Ed25519: its signatures have one length, so sizes don't depend on the key. */
+/* Makes a self-signed certificate with Ed25519. Its signatures all have the same length, so sizes don't depend on the key. */
 static void certify(void) {
   gnutls_x509_privkey_t key;
   gnutls_x509_crt_t certificate;
@@ -184,7 +184,7 @@ static void start_server(const datagram *d) {
   secure(&server);
 }
 
-/* One datagram of what an end has to say; 0 where it has nothing to say now. */
+/* Writes the next datagram of an end into a buffer. Returns its size in bytes, or 0 if the end has nothing to send now. */
 static size_t say(end *e, uint8_t *to) {
   ngtcp2_pkt_info info;
   ngtcp2_ssize bytes, taken = -1;
@@ -234,7 +234,7 @@ static void address(end *e, const char *mine, int port, const char *theirs, int 
   inet_pton(AF_INET, theirs, &e->remote.sin_addr);
 }
 
-/* Both ends say what they have to, then time goes to the first delivery, drop or timer; until all is acknowledged. */
+/* Lets both ends send, then advances time to the first delivery, drop or timer, until all data is acknowledged. */
 static void transfer(uint64_t hold) {
   while (!l->is_over && l->now < LAST && !(finished_at && client.acked >= total)) {
     uint64_t due;
@@ -259,25 +259,25 @@ static void tell(void) {
   ngtcp2_conn_get_conn_stat(client.conn, &st);
   printf("quic: handshake %.1f ms, %" PRIu64 " bytes in %.3f s: %.2f Mbit/s\n", (double)shaken_at / 1e6, server.received,
          (double)(finished_at - shaken_at) / 1e9, (double)server.received * 8e3 / (double)(finished_at - shaken_at));
-  printf("client: %" PRIu64 " datagrams, %" PRIu64 " bytes, %" PRIu64 " dropped by the link, %" PRIu64 " held for lost, %" PRIu64 " too big; "
+  printf("client: %" PRIu64 " datagrams, %" PRIu64 " bytes, %" PRIu64 " dropped by the link, %" PRIu64 " declared lost, %" PRIu64 " too big; "
          "server: %" PRIu64 " datagrams, %" PRIu64 " dropped\n", client.datagrams, client.bytes, client.dropped, client.lost, client.too_big,
          server.datagrams, server.dropped);
-  printf("srtt %.2f ms, least rtt %.2f ms, window %" PRIu64 " bytes\n", (double)st.smoothed_rtt / 1e6, (double)st.min_rtt / 1e6, (uint64_t)st.cwnd);
+  printf("srtt %.2f ms, minimum rtt %.2f ms, window %" PRIu64 " bytes\n", (double)st.smoothed_rtt / 1e6, (double)st.min_rtt / 1e6, (uint64_t)st.cwnd);
 }
 
 int main(int argc, char **argv) {
-  word words[] = {LINK_WORDS, {"cc", "cubic", "cubic, reno or bbr"}, {NULL, NULL, NULL}};
+  word words[] = {LINK_WORDS, {"cc", "cubic", "congestion control: cubic, reno or bbr"}, {NULL, NULL, NULL}};
   struct timespec begin;
   const char *cc;
   clock_gettime(CLOCK_MONOTONIC, &begin);
   take_words(argc, argv, words);
   cc = value_of(words, "cc");
   total = (uint64_t)(atof(value_of(words, "mbytes")) * 1e6);
-  if (total == 0) stop(2, "mbytes is no amount", value_of(words, "mbytes"));
+  if (total == 0) stop(2, "mbytes is not a positive number", value_of(words, "mbytes"));
   if (strcmp(cc, "cubic") == 0) algorithm = NGTCP2_CC_ALGO_CUBIC;
   else if (strcmp(cc, "reno") == 0) algorithm = NGTCP2_CC_ALGO_RENO;
   else if (strcmp(cc, "bbr") == 0) algorithm = NGTCP2_CC_ALGO_BBR;
-  else stop(2, "cc is cubic, reno or bbr, not", cc);
+  else stop(2, "cc must be cubic, reno or bbr, not", cc);
   client.peer = &server; server.peer = &client;
   l = link_of(argv, "quic", words);
   address(&client, "10.0.0.7", 4000, "10.0.1.7", 443);
@@ -285,7 +285,7 @@ int main(int argc, char **argv) {
   certify();
   start_client();
   transfer(strtoull(value_of(words, "hold"), NULL, 10));
-  if (!finished_at) stop(1, "the transfer didn't end", l->is_over ? "the experiment's steps are spent" : "600 s of the link's time are over");
+  if (!finished_at) stop(1, "the transfer didn't end", l->is_over ? "the experiment's steps ran out" : "600 s of simulated time are over");
   tell();
   close_link(l, &begin);
   return 0;

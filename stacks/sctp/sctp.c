@@ -1,11 +1,12 @@
-/* A bulk transfer over SCTP by usrsctp (FreeBSD's stack in user space), both ends in this program, over a link of dnlab (README.md). */
+/* Transfers bulk data over SCTP (usrsctp, FreeBSD's stack in user space), over a link of dnlab. Client and server are in this
+   program (README.md). */
 #define _DEFAULT_SOURCE
 #include "../link.h"
 #include <sys/time.h>
 #include <usrsctp.h>
 
-#define LAST UINT64_C(600000000000) /* the transfer is given up then */
-#define TICK UINT64_C(10000000)     /* the stack's timers are told of each 10 ms */
+#define LAST UINT64_C(600000000000) /* the transfer fails if it is not done by then (ns) */
+#define TICK UINT64_C(10000000)     /* the stack's timers run every 10 ms */
 
 typedef struct side { const char *header; struct side *peer; unsigned long datagrams, dropped, too_big; } side;
 
@@ -14,7 +15,7 @@ static side client = {.header = "udp 10.0.0.7 9899 10.0.1.7 9899"}, server = {.h
 static struct socket *listening, *sending, *receiving;
 static uint64_t total, written, received, accepted_at, finished_at, ticked;
 
-/* The stack takes the time from here: this function stands in the place of the C library's, and says the link's time. */
+/* Returns the link's time to the stack. This function replaces the one of the C library. */
 int gettimeofday(struct timeval *restrict time, void *restrict zone) {
   uint64_t now = UINT64_C(1000000000) * UINT64_C(1000000000) + (l ? l->now : 0);
   (void)zone;
@@ -35,7 +36,7 @@ static void check(const char *what, int code) { if (code) stop(4, what, strerror
 
 static struct socket *socket_of(side *it, int port) {
   struct sockaddr_conn address = {.sconn_family = AF_CONN, .sconn_port = htons((uint16_t)port), .sconn_addr = it};
-  /* Heartbeats are off, since their times are drawn; and the path's size needn't be found out. */
+  /* Heartbeats are off, because their times are random. Path MTU discovery is off too, because the MTU is known. */
   struct sctp_paddrparams path = {.spp_flags = SPP_PMTUD_DISABLE | SPP_HB_DISABLE, .spp_pathmtu = 1400};
   int on = 1, room = 4 << 20;
   struct socket *s = usrsctp_socket(AF_CONN, SOCK_STREAM, IPPROTO_SCTP, NULL, NULL, 0, NULL);
@@ -90,7 +91,7 @@ static void receive_all(void) {
   if (received >= total) finished_at = l->now;
 }
 
-/* Both ends do what they can, then time goes to the first delivery, drop or tick. */
+/* Lets both ends send and receive, then advances time to the first delivery, drop or tick, until all data has arrived. */
 static void transfer(uint64_t hold) {
   while (!l->is_over && l->now < LAST && !finished_at) {
     if (!receiving && (receiving = usrsctp_accept(listening, NULL, NULL)) != NULL) {
@@ -126,11 +127,11 @@ int main(int argc, char **argv) {
   clock_gettime(CLOCK_MONOTONIC, &begin);
   take_words(argc, argv, words);
   total = (uint64_t)(atof(value_of(words, "mbytes")) * 1e6);
-  if (total == 0) stop(2, "mbytes is no amount", value_of(words, "mbytes"));
+  if (total == 0) stop(2, "mbytes is not a positive number", value_of(words, "mbytes"));
   l = link_of(argv, "sctp", words);
   start();
   transfer(strtoull(value_of(words, "hold"), NULL, 10));
-  if (!finished_at) stop(1, "the transfer didn't end", l->is_over ? "the experiment's steps are spent" : "600 s of the link's time are over");
+  if (!finished_at) stop(1, "the transfer didn't end", l->is_over ? "the experiment's steps ran out" : "600 s of simulated time are over");
   tell();
   close_link(l, &begin);
   return 0;
