@@ -1,4 +1,4 @@
-// The page: a text is run at each change of it, in a worker; what came of it is shown, next to an experiment that is kept.
+// The page. It runs the text in a worker after each change, and shows the result next to an experiment that was kept.
 "use strict";
 const at = (name) => document.getElementById(name), coded = new TextEncoder(), plain = new TextDecoder();
 const MOST_SHOWN = 200_000, PAUSE = 120;
@@ -20,7 +20,7 @@ function start() {
   worker.onerror = (event) => stop(`the engine failed: ${event.message}`);
 }
 const say = (text) => { at("state").textContent = text; };
-// Runs the text as it stands; what still runs is given up.
+// Runs the current text, and stops a run that is still in progress.
 function run() {
   clearTimeout(waiting);
   const text = at("text").value, {sliders, wrong} = slidersOf(text);
@@ -31,7 +31,7 @@ function run() {
   if (wrong.length) {
     shown = null;
     at("said").textContent = wrong.join("\n");
-    return say("not run: a slider isn't right");
+    return say("not run: a slider is wrong");
   }
   if (!worker) start();
   at("stop").disabled = false;
@@ -42,7 +42,7 @@ function run() {
 function answered(data) {
   at("stop").disabled = true;
   if (data.failed) {
-    // Its memory may be half written: the next run has a new one.
+    // The engine's memory may be inconsistent, so the next run starts a new engine.
     stop(`the engine ended: ${data.failed}`);
     document.body.dataset.turn = data.turn;
     return;
@@ -55,13 +55,13 @@ function answered(data) {
   document.body.dataset.first ||= Math.round(performance.now());
 }
 
-// ---- what came of it
+// ---- results
 
 function show() {
   const {found, said, spent} = shown;
   at("said").textContent = firstLine(found) + plain.decode(said);
   at("report").textContent = plain.decode(found.bytes.subarray(0, MOST_SHOWN)) + (found.bytes.length > MOST_SHOWN ? "\n.. and more: download it" : "");
-  say(found.status ? "no report: the scenario has a fault, see below it" : `ran in ${spent.toFixed(1)} ms${shown.isLong ? "; the report is too long to be drawn" : ""}`);
+  say(found.status ? "no report: the scenario has a fault, which is explained below it" : `ran in ${spent.toFixed(1)} ms${shown.isLong ? "; the report is too long to be drawn" : ""}`);
   const names = shown.experiments.map((one) => one.name), chosen = at("experiment").value;
   at("experiment").replaceChildren(...names.map((name) => new Option(name, name)));
   if (names.includes(chosen)) at("experiment").value = chosen;
@@ -87,7 +87,7 @@ function pictures() {
       return `<div data-place="${drawn.push({panel, frame}) - 1}">${svgOf(panel, frame)}</div>`;
     }).join("")).join("");
 }
-// The width of a picture (px): of a column of those that there are.
+// Returns the width of a picture (px), which is that of a column.
 const widthOf = () => Math.max(Math.floor(parseFloat(getComputedStyle(at("pictures")).gridTemplateColumns)) || at("pictures").clientWidth, 240);
 function countersOf(one) {
   const [made, delivered, held, ...drops] = one.counters || [];
@@ -141,7 +141,7 @@ async function keepLink(text) {
   linked = `#${[of, word].filter(Boolean).join("&")}`;
   history.replaceState(null, "", linked);
 }
-// Takes lesson and text from the address; whether it has one of them.
+// Reads the lesson and the text from the address. Returns true if it has one of them.
 async function fromLink() {
   const [, name, word] = /^#(?:lesson=([\w-]+))?&?(?:s=([\w-]+))?$/.exec(location.hash) || [];
   if ((!name && !word) || location.hash === linked) return false;
@@ -152,7 +152,7 @@ async function fromLink() {
     at("text").value = word ? await unpacked(word) : lesson.text;
     return true;
   } catch {
-    say("the address holds no scenario");
+    say("the address has no valid scenario");
     return false;
   }
 }
@@ -161,7 +161,7 @@ async function copy(text, what) {
     await navigator.clipboard.writeText(text);
     say(`${what} copied`);
   } catch {
-    say(`this browser doesn't let a page copy: select the ${what} and copy it`);
+    say(`this browser doesn't allow pages to copy: select the ${what} and copy it`);
   }
 }
 function download(bytes, name) {
@@ -183,7 +183,7 @@ function listExamples() {
     at("example").append(group);
   }
 }
-// The list says whose text it is, if it is one of its own.
+// Selects the text in the list of examples, if it is one of them.
 const nameText = (text) => { at("example").value = [...at("example").options].some((it) => it.value === text) ? text : ""; };
 function showText(text) {
   at("text").value = text;

@@ -1,4 +1,4 @@
-// Panels as SVG. Series are told apart by dashes, by the shapes of their points and by their words, not by colour alone.
+// Draws panels as SVG. Series differ in dashes, in the shapes of their points and in their labels, not only in colour.
 "use strict";
 const HIGH = 190, LEFT = 58, RIGHT = 12, TOP = 24, BOTTOM = 26, ROW = 16, NARROW = 190;
 const SHAPES = ["M-2.2 0a2.2 2.2 0 1 0 4.4 0a2.2 2.2 0 1 0-4.4 0", "M-2.4-2.4h4.8v4.8h-4.8z", "M0-3l3 5h-6z", "M0-3.2l3 3.2l-3 3.2l-3-3.2z", "M-3 0h6M0-3v6",
@@ -11,7 +11,7 @@ const isLine = (one) => one.form === "steps" || one.form === "level";
 const colourOf = (place) => `var(--c${place % COLOURS.length})`;
 const escaped = (text) => text.replace(/[<>&"]/g, (sign) => `&#${sign.charCodeAt(0)};`);
 const unitOf = (until) => [[1e9, "s"], [1e6, "ms"], [1e3, "us"], [1, "ns"]].find(([unit]) => until >= 2 * unit || unit === 1);
-// Round values for the lines of a scale, from the first to the last; of a count only whole ones.
+// Returns round values for the lines of a scale, from the first to the last. For a count, all of them are whole numbers.
 function ticks(first, last, many, isCount = false) {
   const rough = Math.max((last - first) / many, isCount ? 1 : 0), power = 10 ** Math.floor(Math.log10(rough));
   const step = [1, 2, ...isCount ? [] : [2.5], 5, 10].find((factor) => factor * power >= rough) * power;
@@ -19,9 +19,10 @@ function ticks(first, last, many, isCount = false) {
   return Array.from({length: Math.floor(last / step * (1 + 1e-9)) - begin + 1}, (_, k) => (begin + k) * step);
 }
 const short = (value) => String(+value.toPrecision(6));
-// The greatest value of some panels' series, so that two experiments have one scale.
+// Returns the maximum of the series of some panels, so that two experiments can have the same scale.
 const greatest = (panels) => Math.max(...panels.flatMap((panel) => panel.series.map((one) => one.y.reduce((most, y) => Math.max(most, y), 0))), 0) || 1;
-// How moments and values lie in a picture of a width (px), in which a span of time (ns) is in sight, and values up to `most`.
+// Returns functions from times (ns) and values to coordinates, in a picture of a width (px) that shows a span of time (ns) and
+// values up to `most`.
 function scalesOf({begin, end, most, wide}) {
   return {x: (t) => (LEFT + (t - begin) / (end - begin) * (wide - LEFT - RIGHT)).toFixed(1), y: (v) => (HIGH - BOTTOM - v / most * (HIGH - TOP - BOTTOM)).toFixed(1)};
 }
@@ -52,12 +53,12 @@ function legend(one, place, rows) {
     : `<path d="${shapeOf(one, place)}" transform="translate(11 0)" stroke="${colourOf(place)}" fill="none"/>`;
   return `<g transform="${at}">${mark}<text x="32" y="4">${escaped(one.label)}</text></g>`;
 }
-// What a screen reader says of a panel: its title, and from which value to which each series goes.
+// Returns the text of a panel for screen readers: its title, and the range of each series.
 function saidOf(panel) {
   const range = (one) => `${one.label}: ${short(one.y.reduce((a, b) => Math.min(a, b)))} to ${short(one.y.reduce((a, b) => Math.max(a, b)))}`;
   return `${panel.title} (${panel.unit}): ${panel.series.map(range).join(", ")}`;
 }
-// A panel as an SVG.
+// Returns a panel as SVG.
 function svgOf(panel, frame) {
   const scales = scalesOf(frame), columns = Math.max(1, Math.floor((frame.wide - LEFT) / NARROW)), rows = Math.ceil(panel.series.length / columns);
   const height = HIGH + rows * ROW + 6, inner = frame.wide - LEFT - RIGHT;

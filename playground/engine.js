@@ -1,9 +1,9 @@
-// Calls the module: bytes in, bytes out. Its pointers have 64 bits, so they are BigInt where they cross.
+// Calls the module: bytes in, bytes out. The module's pointers have 64 bits, so they are passed as BigInt.
 "use strict";
 const CAUSES = ["", "toobig", "cut", "toolong", "badbyte", "badword", "outofrange", "noend", "toomany", "samename",
   "noexperiment", "afterend", "backwards"];
 const DONE = 0, FAULT = 1, NO_MEMORY = 3, ROOM = 5, ANSWER_BYTES = 24;
-// A larger room isn't kept for the next call: it would stand beside the next report.
+// The maximum size (bytes) of a room that is reused. A larger one would take memory in addition to the next report.
 const MOST_KEPT = 1 << 25;
 class Engine {
   constructor(instance) {
@@ -27,7 +27,7 @@ class Engine {
     new Uint8Array(this.calls.memory.buffer, room.at, bytes.length).set(bytes);
     return {at: room.at, size: bytes.length};
   }
-  // Calls with what was given and a room; once more with a larger one where it was too small.
+  // Calls a function with the given arguments and a room, and again with a larger room if it was too small.
   call(name, ...given) {
     for (;;) {
       this.calls[name](...given, BigInt(this.out.at), BigInt(this.out.size), BigInt(this.answer.at));
@@ -50,11 +50,11 @@ class Engine {
   }
   alone(text) { return this.withTexts("dnlab_alone", [text]); }
   check(text) { return this.withTexts("dnlab_check", [text]); }
-  // What `--explain` says, behind the line of the fault; with `runs` also of its run, which is made for that.
+  // Returns what `--explain` prints after the line of the fault. If `runs` is 1, runs the scenario and explains the run too.
   explain(text, runs) { return this.withTexts("dnlab_explain", [text], runs ? 1 : 0); }
   version() { return new TextDecoder().decode(this.call("dnlab_version").bytes); }
 }
-// What the program writes on standard error before what is explained.
+// Returns the line that the program writes to standard error before the explanation.
 function firstLine(found) {
   return found.status === FAULT ? `line ${found.line}: ${found.cause}\n` : found.status ? "memory\n" : "";
 }

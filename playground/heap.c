@@ -1,16 +1,16 @@
-/* What the module of a page has in place of the C library: memory for the kit's three calls, and what LLVM calls by name.
- * Written by hand, trusted, for one thread.
+/* Replaces the C library in the module of a page: allocates memory for the kit's three calls, and defines the functions that
+ * LLVM calls by name. It is written by hand and trusted, and works for one thread.
  *
- * Chunks lie one behind the other up to `top`, where the rest of the memory begins. Two free ones never lie side by side:
- * what is given back is joined with its neighbours, so that the blocks which a growing vector leaves serve again. Free
- * chunks are kept in lists by size, two for each doubling. WebAssembly gives no memory back to the host. */
+ * The chunks are contiguous, up to `top`, where unused memory starts. Two free chunks are never adjacent: `free` merges a chunk
+ * with its free neighbours, so the blocks that a growing vector leaves can be reused. Free chunks are in lists by size, with
+ * two lists for each power of two. WebAssembly returns no memory to the host. */
 typedef unsigned long u64;
 typedef unsigned char u8;
 enum { HEAD = 16, LEAST = 32, USED = 1, BEFORE_USED = 2, LISTS = 128, TRIES = 16, PAGE = 65536, AHEAD = 64 };
 typedef struct Chunk {
-  u64 before; /* bytes of the chunk before, while that is free */
-  u64 size;   /* bytes with this head, and the two marks */
-  struct Chunk *next, *last; /* in its list, while it is free */
+  u64 before; /* size of the previous chunk in bytes, while that one is free */
+  u64 size;   /* size in bytes, including this header, and the two flags */
+  struct Chunk *next, *last; /* neighbours in its list, while it is free */
 } Chunk;
 extern u8 __heap_base;
 static Chunk *lists[LISTS];
@@ -34,7 +34,8 @@ static void take(Chunk *chunk) {
   else lists[list_of(bytes_of(chunk))] = chunk->next;
   if (chunk->next) chunk->next->last = chunk->last;
 }
-/* Has the memory reach up to an end, and some pages further where that is little. */
+/* Grows the memory to an address. If it must grow, it adds an eighth, at most AHEAD pages, or the pages needed if they are more
+ * or if that fails. Returns false if memory runs out. */
 static _Bool reach(u8 *end) {
   if (!limit) limit = (u8 *)(__builtin_wasm_memory_size(0) * PAGE);
   if (end <= limit) return 1;
@@ -45,7 +46,7 @@ static _Bool reach(u8 *end) {
   limit += pages * PAGE;
   return 1;
 }
-/* Marks a chunk of so many bytes as used, and makes a free one of what is left behind it. */
+/* Marks a chunk of `held` bytes as used, and makes a free chunk of the bytes after the `wanted` ones if they suffice for one. */
 static void use(Chunk *chunk, u64 held, u64 wanted) {
   u64 rest = held - wanted;
   if (rest < LEAST) {
@@ -86,7 +87,7 @@ void *malloc(u64 n) {
     take(chunk);
     use(chunk, bytes_of(chunk), wanted);
   } else {
-    /* What lies before `top` is always used. */
+    /* The chunk before `top` is always in use. */
     if (!reach(top + wanted)) return 0;
     chunk = (Chunk *)top;
     chunk->size = wanted | USED | BEFORE_USED;
@@ -141,7 +142,7 @@ static void *resized(u8 *block, u64 kept, u64 n) {
   return other;
 }
 
-/* The kit's three calls, by the convention of this target: whether there is memory, and where. */
+/* The kit's three calls, with the calling convention of this target: they return whether there is memory, and its address. */
 struct Tried { u64 is_there, at; };
 static u8 nothing[16];
 static void answer(struct Tried *to, u8 *block) {
@@ -152,7 +153,7 @@ void rattle_alloc_c(struct Tried *to, u64 n, u64 align) { answer(to, malloc(n ? 
 void rattle_realloc_c(struct Tried *to, u8 *block, u64 kept, u64 n, u64 align) { answer(to, resized(block, kept, n ? n : align)); }
 void rattle_dealloc(u8 *block) { free(block); }
 
-/* A check that failed, in a build without a proof, ends the instance; whoever called throws it away. */
+/* In a build without a proof, a failed check ends the instance with a trap, and the caller discards the instance. */
 long write(int to, const void *text, u64 n) { return (void)to, (void)text, (long)n; }
 void _exit(int status) { (void)status, __builtin_trap(); }
 
@@ -166,7 +167,7 @@ int memcmp(const void *a, const void *b, u64 n) {
   return 0;
 }
 int bcmp(const void *a, const void *b, u64 n) { return memcmp(a, b, n); }
-/* A product of 128 bits, by four of 64. */
+/* Returns the low 128 bits of a product, from products of 64 bits. */
 typedef unsigned __int128 u128;
 u128 __multi3(u128 a, u128 b) {
   u64 a0 = (unsigned)a, a1 = (u64)a >> 32, b0 = (unsigned)b, b1 = (u64)b >> 32;

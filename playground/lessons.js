@@ -1,8 +1,8 @@
-// Lessons: each has a question, a scenario to change, and an answer to unfold; `#lesson=queue` is its address.
+// Lessons. Each has a question, a scenario to change, an answer to unfold, and an address like `#lesson=queue`.
 "use strict";
 let lessons = [], lesson = null;
 const paragraphs = (text) => text.split("\n").filter(Boolean).map((line) => Object.assign(document.createElement("p"), {textContent: line}));
-// Shows a lesson, null for none. Its text is not touched here.
+// Shows the lesson of this name, or none if there is no such lesson. Does not change the scenario in the page.
 function showLesson(name) {
   lesson = lessons.find((one) => one.name === name) || null;
   at("lesson").hidden = !lesson;

@@ -1,7 +1,7 @@
-// One experiment after the other of a report, as columns to be drawn: who sent which packets, when they came and went.
+// Reads the experiments of a report into columns for the pictures: who sent which packets, and when they arrived and left.
 "use strict";
 const TO_ACKS = /^flow \d+ acks$/;
-// What the scenario has of each experiment that a report doesn't repeat: trains, flows, and what its pipes were set to.
+// Returns what only the scenario has, by experiment: trains, flows, and the settings of the pipes.
 function plansOf(text) {
   const plans = new Map();
   let plan = null;
@@ -16,12 +16,12 @@ function plansOf(text) {
   return plans;
 }
 const listed = (map, key) => map.get(key) || map.set(key, []).get(key);
-// The rate of a pipe in Mbit/s, NaN without one.
+// Returns the rate of a pipe in Mbit/s, or NaN if it has none.
 function rateIn(words) {
   const found = /^(\d+)(?:([KMG]?)(bit|Byte)\/s)?$/.exec(words[words.indexOf("bw") + 1]), scale = {K: 1e3, M: 1e6, G: 1e9};
   return words.includes("bw") && found && +found[1] ? found[1] * (scale[found[2]] || 1) * (found[3] === "Byte" ? 8 : 1) / 1e6 : NaN;
 }
-// The room of a queue in packets, NaN if it is in bytes.
+// Returns the limit of a queue in packets (default 50), or NaN if the limit is in bytes.
 const slotsIn = (words) => words.includes("queue") ? Number(words[words.indexOf("queue") + 1]) : 50;
 
 function readReport(report, text) {
@@ -40,7 +40,7 @@ function begun(name, plan) {
   return {name, plan, packets: [], flows, losses: new Map(), queues: new Map(), ends: new Map(), carries: new Set(), drops: new Map(), senders: new Map(),
     last: 1, counters: null, isSpent: false};
 }
-// Who sent a packet, by its `make` line: a flow, its acknowledgements, a train, or else a command `inject`.
+// Returns the sender of a packet by its `make` line: a flow, a flow's acknowledgements, a train, or a command `inject`.
 function senderOf(one, at, words) {
   if (words[3] === "data") return `flow ${words[4]}`;
   if (words[3] === "ack") return `flow ${words[4]} acks`;
@@ -67,7 +67,7 @@ const TAKES = {
   finish(one, at, words, packet) {
     if (!packet) return;
     change(one, words[3], at, -1);
-    // Its longest service is how long its bytes took to pass.
+    // The longest service is the time that the packet's bytes took to pass.
     packet.service = Math.max(packet.service, at - Math.max(packet.came, one.ends.get(words[3]) || 0));
     packet.pipe = null;
     one.ends.set(words[3], at);
@@ -88,14 +88,15 @@ function change(one, pipe, at, by) {
   if (steps.at(-1)?.at === at) steps.at(-1).count = now;
   else steps.push({at, count: now});
 }
-// The name of an instance: `pipe 1`, or `pipe 1.3` if the pipe has several.
+// Returns the name of an instance: `pipe 1`, or `pipe 1.3` if the pipe has several instances.
 function pipeName(one, instance) {
   const [pipe, place] = instance.split(".");
   return place === "0" && [...one.queues.keys()].filter((it) => it.split(".")[0] === pipe).length === 1 ? `pipe ${pipe}` : `pipe ${instance}`;
 }
 
-// Its panels, named as those of tools/plot: each has a title, a unit and series, whose points are moments (ns) and values in
-// order. Throughput is that of the span in sight. Acknowledgements, and pipes with nothing else, are left out unless asked for.
+// Returns the panels of an experiment, with the names that tools/plot uses. A panel has a title, a unit and series; the points of
+// a series are times (ns) and values, in order. Throughput is that of the visible span. Unless `acks` is true, it omits
+// acknowledgements, and pipes that carry nothing else.
 function panelsOf(one, begin = 0, end = one.last, acks = false) {
   const found = [], few = (map) => [...map].slice(0, COLOURS.length);
   const add = (title, unit, series) => { const own = series.filter((it) => it.x.length); if (own.length) found.push({title, unit, series: own}); };
@@ -112,14 +113,14 @@ function panelsOf(one, begin = 0, end = one.last, acks = false) {
   add("Drops by cause, cumulative", "packets", few(one.drops).map(([cause, list]) => ({label: cause, form: "steps", x: list, y: list.map((_, k) => k + 1)})));
   return found;
 }
-// Flows come first, then their acknowledgements, trains and single packets.
+// Returns the rank of a sender in the legend: flows first, then their acknowledgements, trains and single packets.
 const rankOf = (who) => 1e6 * (who === "injected" ? 3 : who.startsWith("train") ? 2 : TO_ACKS.test(who) ? 1 : 0) + (+who.split(" ")[1] || 0);
-// The losses of a flow, on its window.
+// Returns the losses of a flow, as marks on its window.
 function lossesOf(one, flow, list) {
   const times = list.map((it) => it.at), x = one.losses.get(flow) || [];
   return {label: `loss ${flow}`, form: "marks", x, y: x.map((at) => list[Math.max(lower(times, at + 1) - 1, 0)]?.window || 0)};
 }
-// What pipes were set to, as levels over time; one that is far above all values would flatten them, and is left out.
+// Returns the settings of pipes as levels over time. A level far above all values is omitted, because it would flatten them.
 function levelsOf(one, instances, what, value, series) {
   const most = Math.max(0, ...series.flatMap((it) => it.y)), pipes = [...new Set(instances.map((it) => it.split(".")[0]))];
   return pipes.map((pipe) => {
@@ -129,12 +130,12 @@ function levelsOf(one, instances, what, value, series) {
     return {...level, x: [...level.x, one.last], y: [...level.y, level.y.at(-1)]};
   });
 }
-// The throughput in intervals of 1, 2 or 5 with zeros, of which some fifty are in sight. A packet's bytes arrive over the time
-// for which it was served, so that no interval has more than the link carries.
+// Returns the throughput in intervals of 1, 2 or 5 times a power of ten (ns), of which about fifty are visible. A packet's bytes
+// are spread over the time of its service, so that no interval has more than the link carries.
 function throughputOf(who, list, begin, end, last) {
   const least = Math.max((end - begin) / 50, 1), power = 10 ** Math.floor(Math.log10(least)), every = [1, 2, 5, 10].find((it) => it * power >= least) * power;
   const first = Math.floor(begin / every), stop = Math.min(Math.ceil(end / every) * every, last);
-  // A last interval that is almost nothing is part of the one before.
+  // A last interval of less than 5 % of the others is part of the one before.
   const many = Math.max(Math.ceil(stop / every - 0.05) - first, 0), bytes = new Float64Array(many);
   const edges = Array.from({length: many + 1}, (_, k) => k === many ? stop : (first + k) * every);
   for (let k = many ? lower(list.map((it) => it.at), edges[0]) : list.length; k < list.length; k++) {

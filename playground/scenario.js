@@ -1,8 +1,8 @@
-// What the playground does to a text before it is run: sliders take their place, and for pictures each experiment traces.
+// Prepares a text for a run: fills in the values of the sliders, and switches tracing on for the pictures.
 "use strict";
 const SLIDER = /^#\? +([a-z]\w*) +(-?\d+)\.\.(-?\d+)(?: +step +(\d+))? += +(-?\d+)\s*$/;
 const HOLE = /\{\{ *(\w*) *\}\}/g;
-// The sliders of a text, by lines `#? queue 10..1000 = 100`, and what is wrong with such lines and with `{{ queue }}`.
+// Returns the sliders that lines like `#? queue 10..1000 = 100` define, and the faults in these lines and in `{{ queue }}`.
 function slidersOf(text) {
   const sliders = [], wrong = [], lines = text.split("\n");
   lines.forEach((line, place) => {
@@ -21,14 +21,14 @@ function slidersOf(text) {
   });
   return {sliders, wrong};
 }
-// The text that is run: each `{{ name }}` is its slider's value, and the last line ends, as one that is typed need not.
+// Returns the text to run: replaces each `{{ name }}` by the value of its slider, and ends the last line if it has no end.
 const filled = (text, sliders) => text.replace(HOLE, (whole, name) => sliders.find((one) => one.name === name)?.value ?? whole)
   .replace(/[^\n]$/, "$&\n");
-// The text with another value of a slider.
+// Returns the text with another value for a slider.
 function moved(text, slider, value) {
   const lines = text.split("\n");
   lines[slider.place] = lines[slider.place].replace(/= +-?\d+\s*$/, `= ${value}`);
   return lines.join("\n");
 }
-// A scenario whose experiments record each packet's making and arrivals, from their first command on.
+// Returns the scenario with `trace 1` in each experiment, which records when packets are created and arrive.
 const tracing = (text) => text.split("\n").map((line) => /^ *experiment /.test(line) ? `${line}\n@0 trace 1` : line).join("\n");

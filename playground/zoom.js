@@ -1,8 +1,9 @@
-// What is in sight of the pictures, and the values under the pointer. Pictures share one span of time.
+// The visible span of the pictures, and the values under the pointer. All pictures show the same span of time.
 "use strict";
-// The span that is in sight (ns), null for all; the frames and panels that are drawn, in the order of their pictures.
+// The visible span (ns), or null for all; the panels and frames that are drawn, in the order of their pictures; and the place
+// where the pointer was pressed.
 let span = null, drawn = [], pressed = null;
-// Shows a span within a whole, which `until` ends: not less than 100 ns.
+// Returns a span of at least 100 ns that lies between 0 and `until` (ns), or null if it covers everything.
 function spanWithin(begin, end, until) {
   const width = Math.max(end - begin, 100), first = Math.min(Math.max(begin, 0), Math.max(until - width, 0));
   return width >= until ? null : [first, first + width];
@@ -14,7 +15,7 @@ function zoomed(begin, end, until, factor) {
 const shifted = (begin, end, until, share) => spanWithin(begin + (end - begin) * share, end + (end - begin) * share, until);
 const MOVES = {"+": (...all) => zoomed(...all, 0.5), "=": (...all) => zoomed(...all, 0.5), "-": (...all) => zoomed(...all, 2), "0": () => null,
   ArrowLeft: (...all) => shifted(...all, -0.5), ArrowRight: (...all) => shifted(...all, 0.5)};
-// Moves what is in sight by a key, or by the button that has its name.
+// Moves or zooms the visible span by a key, or by the button with the key's name.
 function move(key) {
   if (!drawn.length || !MOVES[key]) return;
   const {begin, end, until} = drawn[0].frame;
@@ -22,7 +23,7 @@ function move(key) {
   pictures();
 }
 
-// The values of a panel's series at a moment: of a line what it holds there, of points those that are near by (ns).
+// Returns the values of a panel's series at a time (ns): the value of a line at that time, and points at most `near` ns away.
 function valuesAt(panel, moment, near) {
   return panel.series.flatMap((one) => {
     const after = lower(one.x, moment + (isLine(one) ? 1 : 0));
@@ -32,7 +33,7 @@ function valuesAt(panel, moment, near) {
     return place === undefined ? [] : [{label: one.label, value: one.y[place], at: one.x[place]}];
   });
 }
-// The picture below an event, and the moment to which its place belongs.
+// Returns the picture below a pointer event, and the time (ns) at its position.
 function pointedAt(event) {
   const svg = event.target.closest?.("#pictures [data-place]"), of = svg && drawn[+svg.dataset.place];
   if (!of) return null;
@@ -54,7 +55,7 @@ function point(event) {
   tip.style.left = `${Math.min(event.clientX + 14, innerWidth - tip.offsetWidth - 4)}px`;
   tip.style.top = `${Math.min(event.clientY + 14, innerHeight - tip.offsetHeight - 4)}px`;
 }
-// A span that was dragged comes into sight.
+// Shows the span that was selected by dragging.
 function release(event) {
   const found = pointedAt(event), begun = pressed;
   pressed = null;

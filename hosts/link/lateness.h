@@ -5,7 +5,7 @@
 #include <stdint.h>
 
 void lateness_add(uint64_t ns);
-/* Returns the smallest bound that at least `percent` of all are within, or 0. */
+/* Returns the smallest bound (ns) that at least `percent` % of all packets do not exceed, or 0 if there are none. */
 uint64_t lateness_percentile(unsigned int percent);
 uint64_t lateness_max(void);
 

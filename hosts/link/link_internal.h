@@ -21,7 +21,7 @@ struct dn_timed {
 	char *words;
 };
 
-/* What link.conf says. */
+/* The contents of link.conf. */
 struct dn_conf {
 	uint64_t seed, steps;
 	char transcript[DN_PATH], report[DN_PATH];
@@ -40,10 +40,10 @@ int dn_read_conf(const char *path);
 FILE *dn_create(const char *path);
 /* Closes a file that was written. Returns 0, or -1 after dn_warn. */
 int dn_close_file(FILE *file, const char *path);
-/* Opens and closes the captures. Return 0, or -1 after dn_warn. */
+/* These open and close the captures, and return 0, or -1 after dn_warn. */
 int dn_open_captures(void);
 int dn_close_captures(void);
-/* Maps memory that is backed only where it is used. Returns NULL if refused. */
+/* Maps memory, of which only the pages that are used take space. Returns NULL if the mapping fails. */
 void *dn_map(size_t bytes);
 
 /*

@@ -1,6 +1,6 @@
 // SPDX-License-Identifier: GPL-2.0 OR MIT
 /*
- * Turns an IPv4 packet into the words of an inject.
+ * Turns an IPv4 packet into the arguments of `inject`.
  *
  * A rule matches protocol, addresses and ports. The link knows TCP and UDP:
  * every other protocol counts as UDP with port 0, and so does a fragment after

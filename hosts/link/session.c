@@ -1,14 +1,14 @@
 // SPDX-License-Identifier: GPL-2.0 OR MIT
 /*
- * The session of libdnlab: writes its lines, and reads its answers.
+ * The session of libdnlab: writes its lines, and reads its replies.
  *
- * A line that goes in is a line of the transcript, a line that comes out is a
- * line of the report. `deliver` and `drop` in the report are the events; the
- * answer `packet P` is the number under which the report names a packet.
+ * Each input line is a line of the transcript, and each output line is a line of
+ * the report. `deliver` and `drop` in the report are the events; the reply
+ * `packet P` has the number by which the report names a packet.
  *
- * A call per line is what a packet costs, so there are few: answers also have
- * when the next event is due (`#> next on`), and time that passes before a
- * packet or a command passes by its line.
+ * Each line costs a call, and calls are the cost of a packet, so there are few
+ * lines: the replies also have the time of the next event (`#> next on`), and the
+ * line of a packet or a command advances time by itself.
  */
 #include <stdlib.h>
 #include <string.h>
@@ -21,7 +21,7 @@ enum { ROOM = 1 << 20, MAX_EVENTS = 1 << 17, MAX_PACKETS = 1 << 24 };
 static dnlab_session session;
 static dnlab_answer answer;
 static FILE *transcript, *report;
-/* The session has come to `now`, or, if it is behind, to an earlier time. */
+/* The time of the session, or a later one if the session still has to catch up. */
 static uint64_t now, next_due = DN_NEVER;
 static int is_open, is_over, is_ending, is_refused, is_behind, next_command;
 static struct {
@@ -133,7 +133,7 @@ static void spend(uint64_t time)
 		(unsigned long long)time);
 }
 
-/* Reads an answer, `#< ..`, from its first word: `now U next M` and the like. */
+/* Reads a reply, `#< ..`, from its first word on: `now U next M` and the like. */
 static void read_answer(const char *text)
 {
 	const char *value = text + strcspn(text, " "), *next = strstr(text, "next ");
@@ -156,7 +156,7 @@ static void read_answer(const char *text)
 	early_drop = DN_NEVER;
 }
 
-/* Fetches what the last call left behind, because the room was too small. */
+/* Fetches the output that the last call kept, because the room was too small. */
 static int enlarge_room(void)
 {
 	size_t bytes = line_bytes;
@@ -172,7 +172,7 @@ static int enlarge_room(void)
 	return 0;
 }
 
-/* Gives a line to the session. Returns 0, or -1 if it is refused. */
+/* Passes a line to the session. Returns 0, or -1 if the line is refused. */
 static int take(const char *line, size_t bytes)
 {
 	char *at, *feed, *end;
@@ -218,7 +218,7 @@ static void until(uint64_t time)
 	take(line, (size_t)(at - line));
 }
 
-/* Has the session come to `now`. */
+/* Advances the session to `now`. */
 static void catch_up(void)
 {
 	if (is_behind && !is_over)

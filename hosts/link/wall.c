@@ -5,13 +5,13 @@
  *
  *     link RUN/guest/link.conf RUN/guest/plan
  *
- * Each host has a TUN device, whose other end this process holds. A packet that
+ * Each host has a TUN device, whose other end this process has. A packet that
  * a host sends enters the session at the time at which it is read; a delivery is
  * written to the TUN of its destination when it is due. How late that was is
  * measured: guest/counts has late_p50_ns, late_p99_ns and late_max_ns.
  *
  * The plan's processes are children of the first process of a process namespace:
- * when that ends, or this process does, the kernel ends all that they started.
+ * when that one or this process ends, the kernel ends all that they started.
  * Needs root, or `unshare -Urm` if /dev/net/tun is open to all.
  *
  * Exit status: 0 the run ended as planned, 1 the link or the set-up failed (one
@@ -48,9 +48,10 @@ enum { SECOND = 1000000000, BATCH = 64, LARGEST = 1500, TEXT = 4096, INTERRUPTED
 /* The time between the set-up and time 0, in which the processes get ready. */
 enum { HEAD_START = 200000000 };
 /*
- * A sleep ends some 50 us late, so this process sleeps until MARGIN (ns) before what
- * is due, and then watches the clock. It watches no longer than it has slept since
- * then, so that other processes get half of the time that is left.
+ * A sleep ends about 50 us late, so this process sleeps until MARGIN (ns) before the
+ * next event is due, and then polls the clock. The time for polling, at most MARGIN,
+ * must have been saved up by sleeping, so that other processes get at least half of
+ * the time.
  */
 enum { MARGIN = 100000 };
 
@@ -234,7 +235,7 @@ static void send_packet(int host, struct packet *packet)
 		before_start++;
 	else {
 		dn_advance(now());
-		take_events();	/* before it in the captures, too */
+		take_events();	/* they precede the packet in the captures, too */
 		if (!dn_inject(host, packet->data, packet->bytes, packet))
 			return;
 		after_end++;
@@ -242,7 +243,7 @@ static void send_packet(int host, struct packet *packet)
 	free_packet(packet);
 }
 
-/* Sends what a host has sent, at most a batch, so that others get their turn. */
+/* Sends at most a batch of the packets of a host, so that other hosts get their turn. */
 static void read_packets(int host)
 {
 	for (int i = 0; i < BATCH; i++) {
@@ -267,7 +268,7 @@ static uint64_t least(uint64_t a, uint64_t b)
 	return a < b ? a : b;
 }
 
-/* Returns the number of ready files: at once if there are some, and else after this many ns. */
+/* Returns the number of ready files: at once if there are some, and otherwise after this many ns. */
 static int wait_for_files(int epoll, struct epoll_event *events, uint64_t ns)
 {
 	struct timespec wait = {(time_t)(ns / SECOND), (long)(ns % SECOND)};
@@ -312,7 +313,7 @@ static int open_signals(void)
 	return must(signalfd(-1, &signals, SFD_CLOEXEC | SFD_NONBLOCK), "signalfd");
 }
 
-/* Lets the first process end the run: it ends, and so does all that it started. */
+/* Tells the first process to end the run. It ends, and so does everything that it started. */
 static void end_run(int *over)
 {
 	if (*over >= 0)
@@ -355,7 +356,7 @@ static int carry(int signals, int *over)
 	while (status < 0) {
 		count = sleep_until(epoll, events, dn_due());
 		wakes++;
-		/* A packet that leaves at a time makes room for one that arrives then. */
+		/* At one time, packets leave before others arrive, and so make room for them. */
 		if (monotonic_ns() >= time_0)
 			dn_advance(now());
 		take_events();
@@ -391,7 +392,7 @@ static void write_counts(void)
 		fail("guest/counts: %s", strerror(errno));
 }
 
-/* The link runs before all else, if that is allowed; its children don't. */
+/* Gives the link real-time priority, if that is allowed; its children don't inherit it. */
 static void raise_priority(void)
 {
 	struct sched_param priority = {.sched_priority = 50};

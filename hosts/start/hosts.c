@@ -52,7 +52,7 @@ void set_flags(const char *device, int flags)
 	control(SIOCSIFFLAGS, &request, device);
 }
 
-/* eth0 has the address, and the default route goes to it. */
+/* Gives eth0 its address, and makes it the default route. */
 static void set_address(const char *text)
 {
 	struct sockaddr_in address = {.sin_family = AF_INET};
@@ -72,7 +72,7 @@ static void set_address(const char *text)
 	control(SIOCADDRT, &route, "the default route");
 }
 
-/* IPv6 is off until a sysctl line switches it on: the link carries IPv4. */
+/* Disables IPv6, because the link carries IPv4. A sysctl line can enable it. */
 static void disable_ipv6(void)
 {
 	static const char *const paths[] = {
@@ -90,7 +90,7 @@ static void disable_ipv6(void)
 	}
 }
 
-/* Covers a file of /etc, if it is there, by one of the host's own. */
+/* Mounts the host's own file over a file of /etc, if that exists. */
 static void cover(const char *folder, const char *name, const char *text)
 {
 	char own[PATH_ROOM], shared[PATH_ROOM];
@@ -126,7 +126,7 @@ static int keep_namespace(const char *name)
 	return must(open(path, O_RDONLY | O_CLOEXEC), path);
 }
 
-/* A network and a UTS namespace, which the caller is in afterwards. */
+/* Makes a network namespace and a UTS namespace, and moves the caller into them. */
 static void make_network(struct plan *plan, int index,
 			 void (*add_device)(const struct plan *plan, int index))
 {
@@ -147,7 +147,7 @@ static void make_network(struct plan *plan, int index,
 	set_address(host->address);
 }
 
-/* A mount namespace with the host's own files. */
+/* Makes a mount namespace with the host's own files. */
 static void make_files(const struct plan *plan, struct host *host, const char *folder)
 {
 	char text[PATH_ROOM], own[PATH_ROOM];

@@ -8,7 +8,7 @@
 #include "plan.h"
 
 /*
- * Makes the namespaces of all hosts, and runs their set-up lines. `add_device` brings
+ * Makes the namespaces of all hosts, and runs their set-up lines. `add_device` moves
  * a device eth0 into the network namespace that it is called in. The hosts' own files
  * are made in a folder; `work` is the current folder of set-up lines. The caller is in
  * the last host's network afterwards, and in its own mount namespace.

@@ -1,5 +1,5 @@
 // SPDX-License-Identifier: MIT OR Apache-2.0
-/* The processes of a plan. */
+/* Starts, follows and stops the processes of a plan. */
 #define _GNU_SOURCE
 #include "processes.h"
 #include "hosts.h"
@@ -20,7 +20,7 @@
 
 enum { SECOND = 1000000000, EXEC_FAILED = 127, MAX_GROUPS = 64 };
 
-/* Opens a file as a descriptor of the program that is about to run. */
+/* Opens a file as a given descriptor of the program that is about to run. */
 static void redirect(const char *path, int flags, int to)
 {
 	int file = must(open(path, flags | O_CLOEXEC, 0644), path);
@@ -46,7 +46,7 @@ static struct passwd *find_user(const char *name)
 	return user;
 }
 
-/* The groups that list the user in /etc/group; getgrouplist needs shared libraries. */
+/* Sets the groups that list the user in /etc/group, because getgrouplist needs shared libraries. */
 static void set_groups(const struct passwd *user)
 {
 	gid_t groups[MAX_GROUPS] = {user->pw_gid};
@@ -85,7 +85,7 @@ static void wait_until(uint64_t time)
 		;
 }
 
-/* Only execve is left to do at the start, so that it happens then. */
+/* Prepares everything before the start of the process, so that only execve happens at that time. */
 _Noreturn static void run(const struct plan *plan, const struct process *process,
 			  uint64_t time_0, const char *folder)
 {

@@ -6,11 +6,12 @@
  * It makes the root (an overlay over the host's files, so that what the guest
  * changes ends with it), mounts the output folder at /run/dnlab, makes the hosts
  * of guest/plan, and runs their processes in simulated time. Time 0 is
- * CLOCK_MONOTONIC = 10 s: an absolute time, so that what precedes it shifts
- * nothing; and programs exist that take a clock below a second for unset.
+ * CLOCK_MONOTONIC = 10 s. It is an absolute time, so that the duration of the set-up
+ * shifts nothing. It is not 0, because some programs treat a clock below a second as
+ * unset.
  *
- * It is a real-time task, and these take no simulated time: it starts, stops and
- * notes at exact times.
+ * This is a real-time task, and these take no simulated time, so it starts processes,
+ * stops them and notes their ends at exact times.
  */
 #define _GNU_SOURCE
 #include "hosts.h"
@@ -75,7 +76,7 @@ int must(int status, const char *what)
 	return status;
 }
 
-/* Reads a word of the kernel's command line: what follows `name`, or a default. */
+/* Returns the value of a parameter of the kernel's command line, or a default. `name` includes the `=`. */
 static const char *parameter(const char *name, const char *otherwise)
 {
 	static char text[TEXT];
@@ -109,7 +110,7 @@ static void make_devices(void)
 	must(symlink("/proc/self/fd/2", "/dev/stderr"), "/dev/stderr");
 }
 
-/* The root is an overlay, and what was the root (the initramfs) is below it. */
+/* Mounts an overlay of the host's files as the root, over the old root (the initramfs). */
 static void make_root(void)
 {
 	mkdir("/proc", 0755);
@@ -139,7 +140,7 @@ static void make_root(void)
 	must(chmod(FOLDER, 01777), FOLDER);
 }
 
-/* Programs of any user may write into the folders of the hosts. */
+/* Makes the folders of the hosts writable for all users. */
 static void open_folders(const struct plan *plan)
 {
 	char path[512];
@@ -204,7 +205,7 @@ static void add_device(const struct plan *plan, int index)
 	must(answer.error.error, device);
 	close(link);
 	must(setns(plan->hosts[index].net, CLONE_NEWNET), "setns");
-	/* hostfs has no capabilities of files, which let ordinary users ping */
+	/* Let ordinary users ping: hostfs does not have the file capabilities that do this elsewhere. */
 	write_file("/proc/sys/net/ipv4/ping_group_range", "0 2147483647");
 }
 
@@ -225,7 +226,7 @@ int main(void)
 	read_plan("guest/plan", &plan);
 	open_folders(&plan);
 	first_net = must(open("/proc/self/ns/net", O_RDONLY | O_CLOEXEC), "net");
-	/* no tunl0, gre0 .. in hosts that have no tunnels */
+	/* Hosts without tunnels get no tunl0, gre0 .. */
 	write_file("/proc/sys/net/core/fb_tunnels_only_for_init_net", "2");
 	set_flags("lo", IFF_UP | IFF_RUNNING);
 	make_hosts(&plan, "/run/hosts", FOLDER, add_device);

@@ -6,7 +6,7 @@ Packets = list[tuple[int, bytes]]
 
 
 def checksum(data: bytes) -> int:
-    """Returns the Internet checksum (RFC 1071): 0 over data that holds a right one."""
+    """Returns the Internet checksum (RFC 1071), which is 0 over data that contains a correct checksum."""
     padded = data + b"\0" * (len(data) % 2)
     total: int = sum(struct.unpack(f">{len(padded) // 2}H", padded))
     while total >> 16:
@@ -15,7 +15,7 @@ def checksum(data: bytes) -> int:
 
 
 def has_right_checksums(packet: bytes) -> bool:
-    """Returns true if the checksums of IPv4, and of TCP, UDP or ICMP, are right."""
+    """Returns true if the checksums of IPv4, and of TCP, UDP or ICMP, are correct."""
     head = (packet[0] & 15) * 4
     if checksum(packet[:head]) or struct.unpack_from(">H", packet, 6)[0] & 0x3FFF:
         return checksum(packet[:head]) == 0
@@ -27,7 +27,7 @@ def has_right_checksums(packet: bytes) -> bool:
 
 
 def header_of(packet: bytes) -> tuple[str, str, int, str, int, int]:
-    """Returns the words of an inject: protocol, address, port, address, port, size."""
+    """Returns the arguments of `inject`: protocol, address, port, address, port, size."""
     head, protocol = (packet[0] & 15) * 4, packet[9]
     ports = struct.unpack_from(">HH", packet, head) if protocol in (6, 17) else (0, 0)
     source, target = (".".join(map(str, packet[at : at + 4])) for at in (12, 16))
@@ -52,7 +52,7 @@ def deliveries(report: str) -> list[tuple[int, int]]:
 
 
 def differences(transcript: str, report: str, captures: dict[str, Packets]) -> list[str]:
-    """Returns in what captures, by address, differ from transcript and report.
+    """Returns the differences between captures, by address, and the transcript and report.
 
     Each packet that a host sends is an inject at the same time, in the same order, with the same header.
     Each that it receives is a delivery to it at the same time, with the bytes that were sent. Checksums are

@@ -1,5 +1,5 @@
 #!/usr/bin/python3
-"""Tries, in a guest, what services and their tests expect of a kernel. Prints NAME: ok, or the error."""
+"""Tests, in a guest, the features of the kernel that services and their tests expect. Prints NAME: ok, or the error."""
 import ctypes
 import errno
 import os
@@ -143,7 +143,7 @@ def udp_segments() -> str:
 
 
 def main() -> None:
-    """Tries all of it."""
+    """Tests all features."""
     for name, arguments in CALLS.items():
         print(f"{name}: {call(*arguments)}")
     print(f"bpf: {bpf_map()}")

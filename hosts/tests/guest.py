@@ -92,7 +92,7 @@ def write(folder: pathlib.Path, hosts: dict[str, Host], network: list[str], step
 
 
 def words_of(path: pathlib.Path, keys: int) -> dict[str, str]:
-    """Reads lines whose first words are the key."""
+    """Reads lines that begin with a key of one or more words."""
     lines = path.read_text(encoding="utf-8").splitlines() if path.exists() else []
     return {" ".join(line.split()[:keys]): " ".join(line.split()[keys:]) for line in lines}
 
@@ -160,7 +160,7 @@ def run(
 
 
 def capture(path: pathlib.Path) -> list[tuple[int, bytes]]:
-    """Reads a capture: times in ns, and packets. Raises ValueError if it is none."""
+    """Reads a capture: times in ns, and packets. Raises ValueError if it is not a capture."""
     data = path.read_bytes()
     if len(data) < 24 or struct.unpack_from("<IHHiIII", data) != (0xA1B23C4D, 2, 4, 0, 0, 65535, 101):
         raise ValueError(f"{path}: not a nanosecond capture of raw IP")

@@ -61,13 +61,13 @@ class KernelCases(Room):
         assert "rtt min/avg/max/mdev = 40.13" in runs[0].out(), runs[0].out()[-200:]
 
     def check_iperf_twice(self) -> None:
-        """iperf3 gives the same transcript twice, and what it reports fits the link."""
+        """iperf3 has the same transcript twice, and its results fit the link."""
         runs = [self.iperf(name) for name in ("first", "the-second")]
         same(runs[0], runs[1], ["transcript.txt", "report.txt", "hosts/client/eth0.pcap", "guest/exits"])
         assert int(runs[0].counts["late"]) == 0, runs[0].counts
 
     def check_plan(self) -> None:
-        """Starts, signals, statuses and set-up do what the plan says, at the nanosecond."""
+        """Starts, signals, statuses and set-up follow the plan, to the nanosecond."""
         date = ["sh", "-c", "exec date +%s.%N"]
         hosts = {
             "client": Host(
@@ -98,7 +98,7 @@ class KernelCases(Room):
         assert 1_234_567_890 <= started < 1_234_567_890 + 500_000, started
 
     def check_failures(self) -> None:
-        """A wrong plan, a failing set-up or a wrong link.conf says its cause, and leaves no exits."""
+        """After a wrong plan, a failed set-up or a wrong link.conf, guest/failed has the cause, and there are no exits."""
         for name, lines, cause in (
             ("setup", ["setup exit 3"], "setup failed (status 3)"),
             ("sysctl", ["sysctl net.no.such 1"], "No such file"),
@@ -146,7 +146,7 @@ class KernelCases(Room):
         assert not lacking and len(run.out().splitlines()) > 50, lacking
 
     def check_memory(self) -> None:
-        """A guest with too little memory says so, and the process that it ends is named."""
+        """A guest with too little memory reports this, and names the process that it kills."""
         eat = Process(
             [PYTHON, "-c", "x = []\nwhile True: x.append(bytes([1]) * (1 << 20))"], expects="signaled 9"
         )

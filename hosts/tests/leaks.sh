@@ -1,5 +1,5 @@
 #!/bin/sh
-# Prints what a program can see of the machine and of chance, in a guest.
+# Prints what a program in a guest can see of the machine and of randomness.
 date; hostname; uname -a; nproc; id; env; cat /proc/self/limits
 cat /proc/cpuinfo /proc/loadavg /proc/uptime /proc/meminfo /proc/mounts /proc/cmdline /proc/stat
 cat /etc/resolv.conf /etc/hostname /etc/machine-id /etc/hosts

@@ -33,11 +33,11 @@ class LinkCases(Room):
         }
 
     def differences(self, run: Run) -> list[str]:
-        """Returns in what the captures of a run differ from its transcript and report."""
+        """Returns the differences between the captures of a run and its transcript and report."""
         return compare.differences(run.text("transcript.txt"), run.text("report.txt"), self.captures(run))
 
     def check_stamps(self) -> None:
-        """The receiver's kernel stamps each packet at the time that the report says: no spread."""
+        """The receiver's kernel stamps each packet with exactly the time in the report."""
         receive = Process([PYTHON, str(TESTS / "stamps.py"), "receive"])
         send = Process([PYTHON, str(TESTS / "stamps.py"), "send", "1"], SECOND)
         run = guest.run(
@@ -80,7 +80,7 @@ class LinkCases(Room):
         assert again.stdout == (run.folder / "report.txt").read_bytes()
 
     def check_others(self) -> None:
-        """Hosts other than the first talk to each other, as the rules say."""
+        """Hosts other than the first can talk to each other, as the rules allow."""
         ping = Process(["sh", "-c", "ping -c 2 -i 0.2 10.0.2.1; ip netns exec c ip -o address show eth0"])
         hosts = {"a": Host("10.0.0.1"), "b": Host("10.0.1.1", [ping]), "c": Host("10.0.2.1")}
         network = ["pipe 1 config delay 5", "add 100 pipe 1 ip from any to any"]
@@ -106,7 +106,7 @@ class LinkCases(Room):
         assert run.counts["refused"] == "1" and "pipe 1 config speed 10" in run.console, run.console
 
     def check_spent(self) -> None:
-        """The run ends at once when the experiment's steps run out, and says when."""
+        """The run ends at once when the experiment's steps run out, and reports the time."""
         ping = Process(["ping", "-i", "0.01", "10.0.1.1"])
         run = guest.run(
             self.kernel,
@@ -121,7 +121,7 @@ class LinkCases(Room):
         ), run.exits
 
     def check_wall(self) -> None:
-        """By the wall clock iperf3 works, captures agree with the report, and lateness is counted."""
+        """With the wall clock iperf3 works, captures agree with the report, and lateness is counted."""
         need_wall()
         run = self.iperf("wall", wall=True)
         wrong = self.differences(run)
@@ -178,7 +178,7 @@ class LinkCases(Room):
             assert bool(self.differences(run)) == is_found, name
 
     def check_wall_interrupted(self) -> None:
-        """SIGINT ends a run by the wall clock, and leaves no process and a whole transcript."""
+        """SIGINT ends a run with the wall clock, and leaves no process and a complete transcript."""
         need_wall()
         folder = self.folder / "interrupted"
         hosts = {"client": Host("10.0.0.1", [Process(["sh", "-c", "sleep 7654.3 & sleep 7654.3"])])}

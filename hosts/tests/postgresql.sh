@@ -1,5 +1,5 @@
 #!/bin/sh
-# A cluster in the current folder, a parallel CREATE INDEX, and twenty transactions.
+# Makes a cluster in the current folder, and runs a parallel CREATE INDEX and twenty transactions.
 set -e
 export LC_ALL=C
 initdb -D data -A trust > initdb.txt

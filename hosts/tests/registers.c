@@ -2,8 +2,8 @@
 /*
  * Checks that the 16 vector registers keep their values across system calls: in
  * one task, in two processes, in four threads, and while a signal handler changes
- * them. Prints one line per part with the number of calls after which a register
- * was wrong. Needs AVX.
+ * them. Prints one line per part, with the number of calls after which a register
+ * was wrong. It needs AVX.
  */
 #define _GNU_SOURCE
 #include <pthread.h>

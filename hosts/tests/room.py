@@ -1,4 +1,4 @@
-"""What the tests of hosts share: a folder for runs, and runs of one command or of iperf3."""
+"""Code that the tests of hosts share: a folder for runs, and runs of one command or of iperf3."""
 
 import pathlib
 import shutil

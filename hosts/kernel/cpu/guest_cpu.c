@@ -1,12 +1,12 @@
 // SPDX-License-Identifier: GPL-2.0
 /*
- * Instructions that would show the host: the guest's programs run on the host's
- * processor, and these three fault there and are emulated here.
+ * Emulates instructions that would show the host. The guest's programs run on the
+ * host's processor, where these instructions fault.
  *
  * RDTSC and RDTSCP return simulated time in ns. CPUID hides what differs between
  * two runs: random numbers (RDRAND, RDSEED; BoringSSL and std::random_device use
  * them if they are there), the number of the processor, transactions, which abort
- * by chance, and waits that count the host's clock.
+ * at random, and waits that count the host's clock.
  *
  * A host without CPUID faulting shows its own CPUID; guest/counts says so.
  */
@@ -84,7 +84,7 @@ static void hide(struct cpuid *c)
 		c->eax = c->ebx = c->ecx = c->edx = 0;
 }
 
-/* Returns what a CPUID instruction answers. In a virtual machine each costs much: they are kept. */
+/* Returns the result of a CPUID instruction. The results are cached, because CPUID is slow in a virtual machine. */
 static const struct cpuid *cpuid_of(unsigned int leaf, unsigned int subleaf)
 {
 	static struct cpuid cache[CACHED];

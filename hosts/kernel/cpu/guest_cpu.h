@@ -15,7 +15,7 @@ struct uml_pt_regs;
 void guest_cpu_begin(void);
 /*
  * Emulates the instruction at which a host process of the guest faulted. Returns
- * 1, or 0 if it is none of ours. `is_general` is true for SI_KERNEL faults.
+ * 1, or 0 if it does not emulate that instruction. `is_general` is true for SI_KERNEL faults.
  */
 int guest_cpu_emulate(int pid, int is_general, struct uml_pt_regs *regs);
 

@@ -4,17 +4,17 @@
  *
  * Time stands still while a program computes. One that waits in user space for
  * another thread (a spinlock, a Go loop) would stop the clock for ever. A timer
- * of the host looks every 10 ms: if the same host process has run all the time,
+ * of the host checks every 10 ms: if the same host process has run all the time,
  * and has used a second of CPU time (time-travel-spin=MS), it gets a SIGPROF.
  * A task that has slept that way once is interrupted after 20 ms from then on.
  *
- * Where that happens depends on the host's speed, so the program makes single
- * steps then. If its registers repeat, it waits: it steps to the place of its loop
- * that has the least hash of the registers, which is the same in each run, and
- * sleeps there (time_travel_spin). If they don't, it computes, and may go on for
+ * Where that happens depends on the host's speed, so the program is single-stepped
+ * then. If its registers repeat, it waits: it steps to the place of its loop that
+ * has the smallest hash of the registers, which is the same in every run, and
+ * sleeps there (time_travel_spin). If they don't, it computes, and may continue for
  * longer.
  *
- * So a wait is deterministic if its registers repeat within WINDOW steps. A
+ * This means that a wait is deterministic if its registers repeat within WINDOW steps. A
  * loop that counts its turns, or a program that computes for more than five
  * seconds without a stop, sleeps at a place that can differ between runs.
  * Counting instructions instead would be exact, but virtual machines seldom have

@@ -1,6 +1,6 @@
 // SPDX-License-Identifier: GPL-2.0
 /*
- * A link of dnlab as network devices of layer 3, one for each host.
+ * Makes a link of dnlab available as network devices of layer 3, one for each host.
  *
  * A packet that a device sends enters the session of dnlab at the exact
  * simulated time, and the device that has its destination address receives it

@@ -1,8 +1,8 @@
 // SPDX-License-Identifier: GPL-2.0
 /*
- * /proc/dnlab: a line that is written is a command of a scenario, now; `end`
- * ends the experiment. What is read are counts. Polling it returns POLLHUP once
- * the experiment is over.
+ * /proc/dnlab. A write runs a line as a command of a scenario now; `end` ends the
+ * experiment. A read returns the counts. Polling it returns POLLHUP once the
+ * experiment is over.
  */
 #include <linux/poll.h>
 #include <linux/proc_fs.h>

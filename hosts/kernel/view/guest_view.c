@@ -2,9 +2,9 @@
 /*
  * What a guest sees of the host's files.
  *
- * The host stamps files with its own clock, owns them by the user who runs the
- * guest, and numbers them as its disk wants. A guest that read that would differ
- * from run to run: nginx sends times as ETag, initdb checks owners. So:
+ * On the host, files have times of its own clock, belong to the user who runs the
+ * guest, and have numbers that depend on its disk. A guest that saw these would
+ * differ from run to run: nginx sends times as ETag, initdb checks owners. Instead:
  *
  * - A read-only file system (the root) shows times no later than the guest's
  *   first, one time per file, and numbers that depend on the path alone.
@@ -56,7 +56,7 @@ static u64 number_of_path(const char *path, const char *name, int bytes)
 
 	if (bytes)
 		hash = hash_text(hash_text(hash, "/", 1), name, bytes);
-	return hash >> 16 | 1ULL << 47;	/* always of 15 digits, for those who print it */
+	return hash >> 16 | 1ULL << 47;	/* always 15 digits, so that it prints with the same width */
 }
 
 static struct guest_view *find(u64 device, u64 inode)
@@ -163,7 +163,7 @@ void guest_view_created(struct inode *directory, const char *path, umode_t mode)
 		return;
 	view = find(st.dev, st.ino);
 	if (view)
-		hash_del(&view->node);	/* of a file that is gone; an inode may still use it */
+		hash_del(&view->node);	/* its file is gone, but an inode may still use it */
 	view = add(st.dev, st.ino);
 	if (!view)
 		return;

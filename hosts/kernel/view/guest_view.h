@@ -1,7 +1,7 @@
 /* SPDX-License-Identifier: GPL-2.0 */
 /*
- * What a guest sees of the host's files: everything but what differs between two
- * runs, or would show the host.
+ * What a guest sees of the host's files: everything except for properties that differ
+ * between two runs or would show the host.
  */
 #ifndef HOSTFS_GUEST_VIEW_H
 #define HOSTFS_GUEST_VIEW_H
@@ -11,7 +11,7 @@
 struct guest_view;
 
 /*
- * Replaces what a stat of the host says about a file by what the guest shall see.
+ * Replaces the host's stat of a file by the one that the guest is to see.
  * Returns the file's view if the file system can be written, or NULL.
  */
 struct guest_view *guest_view_of(struct super_block *sb, const char *path,
@@ -25,7 +25,7 @@ void guest_view_created(struct inode *directory, const char *path, umode_t mode)
 void guest_view_changed(struct inode *directory, struct guest_view *view);
 /* Notes owner, mode and times of an inode. */
 void guest_view_keep(struct inode *inode, struct guest_view *view);
-/* Fills in figures of a file system that say nothing about the host's. */
+/* Fills in the statistics of a file system, which are independent of the host's. */
 void guest_view_statfs(struct kstatfs *sf);
 
 #endif
