@@ -1,13 +1,13 @@
-"""Runs a program with one of its allocations refused, by an allocator that is put before the C library's."""
+"""Runs a program with one of its allocations refused, by an allocator that is loaded before the C library's."""
 import os
 import subprocess
 from collections.abc import Sequence
 from typing import Literal, NamedTuple
 
-# How a run ended; in words where it took longer than its limit.
+# The exit status of a run, or "no end" if it exceeded its time limit.
 Status = int | Literal["no end"]
 
-# Refuses the allocation whose number is in REFUSED, and at the end writes how many were asked for to the descriptor COUNT.
+# Refuses the allocation whose number is in REFUSED, and at the end writes the number of allocations to the descriptor COUNT.
 ALLOCATOR = r"""
 #include <errno.h>
 #include <stdatomic.h>
@@ -44,7 +44,7 @@ void _exit(int status) {
 
 
 class Outcome(NamedTuple):
-    """Standard output, standard error and status of a run, and how many allocations it asked for."""
+    """Standard output, standard error and status of a run, and the number of allocations that it requested."""
     out: bytes
     err: bytes
     status: Status
@@ -52,15 +52,15 @@ class Outcome(NamedTuple):
 
 
 def library(room: str) -> str:
-    """The allocator, compiled by `cc` into a folder."""
+    """Compiles the allocator into a folder with `cc`. Returns its path."""
     path = f"{room}/refusing.so"
     subprocess.run(["cc", "-O2", "-shared", "-fPIC", "-x", "c", "-", "-o", path], input=ALLOCATOR.encode(), check=True)
     return path
 
 
 def run(allocator: str, words: Sequence[str], text: bytes, number: int, limit: float = 20) -> Outcome:
-    """Standard output, standard error and status of a run over the text whose allocation of this number is refused
-    (0: none), and how many it asked for; a status of 'no end' where it takes longer than the limit (s)."""
+    """Runs a command on a text, with the allocation of this number refused (0: none). Returns the outcome, whose status is
+    'no end' if the run takes longer than the limit (s)."""
     reading, writing = os.pipe()
     how = {"LD_PRELOAD": allocator, "REFUSED": str(number), "COUNT": str(writing)}
     status: Status

@@ -1,4 +1,4 @@
-"""A raw session with a program: lines go in, and what is said comes out, without the package's client in between."""
+"""A raw session with a program: sends lines and reads replies, without the package's client."""
 import os
 import pathlib
 import select
@@ -7,16 +7,16 @@ import subprocess
 import time
 from collections.abc import Sequence
 
-# How long an answer may take on a busy machine (s).
+# The time limit for a reply, which is long enough for a busy machine (s).
 PATIENCE = 30.0
 
 
 class Silent(Exception):
-    """No answer came in time."""
+    """No reply arrived in time."""
 
 
 class Raw:
-    """A program `dnlab live` with pipes; killed where the block is left."""
+    """A program `dnlab live` with pipes. It is killed at the end of the `with` block."""
 
     def __init__(self, program: str, before: Sequence[str] = (), words: Sequence[str] = ()) -> None:
         self.process = subprocess.Popen([*before, program, "live", *words], stdin=subprocess.PIPE, stdout=subprocess.PIPE,
@@ -35,7 +35,7 @@ class Raw:
             pipe.close()
 
     def line(self) -> bytes:
-        """The next line that is said, without its line feed; b'' at the end."""
+        """Returns the next output line without its line feed, or b'' at the end of the output."""
         end = time.monotonic() + PATIENCE
         while b"\n" not in self.rest:
             if not select.select([self.output], [], [], max(0.0, end - time.monotonic()))[0]:
@@ -48,7 +48,7 @@ class Raw:
         return line
 
     def ask(self, line: bytes) -> list[bytes]:
-        """Sends a line, and gives what is said up to its answer, which is the last."""
+        """Sends a line. Returns the output up to its reply, which is the last line."""
         self.input.write(line + b"\n")
         said = [self.line()]
         while said[-1] and not said[-1].startswith(b"#< "):
@@ -56,7 +56,7 @@ class Raw:
         return said
 
     def fill(self) -> int:
-        """Sends harmless lines until the pipe takes no more for a second; how many bytes went."""
+        """Sends harmless lines until the pipe accepts no more for a second. Returns the number of bytes sent."""
         os.set_blocking(self.input.fileno(), False)
         went = 0
         lines = b"#> next\n" * 8192
@@ -69,7 +69,7 @@ class Raw:
         return went
 
     def drain(self) -> bytes:
-        """Closes the input, and gives all that is said."""
+        """Closes the input. Returns all remaining output."""
         self.input.close()
         said = [self.rest]
         while True:
@@ -81,15 +81,15 @@ class Raw:
             said.append(part)
 
     def status(self) -> int:
-        """How it ends by itself; below 0 the number of the signal."""
+        """Waits for the program to end. Returns its status, or the negative number of the signal."""
         return self.process.wait(PATIENCE)
 
     def memory(self) -> int:
-        """The most memory that it has had (bytes)."""
+        """Returns the program's peak memory (bytes)."""
         text = pathlib.Path(f"/proc/{self.process.pid}/status").read_text(encoding="utf-8")
         return next(int(line.split()[1]) for line in text.splitlines() if line.startswith("VmHWM")) << 10
 
     def tell(self, number: signal.Signals) -> int:
-        """Sends a signal; how it ends."""
+        """Sends a signal. Returns the status like `status`."""
         self.process.send_signal(number)
         return self.status()

@@ -1,4 +1,4 @@
-"""Prints for each UDP packet to port 9 its sender, its number, and when it was sent and received (ns)."""
+"""Prints the sender, the number, and the send and receive times (ns) of each UDP packet to port 9."""
 import socket
 import struct
 

@@ -1,5 +1,5 @@
-# One pipe there, drop-tail, and one back, with Agent/TCP/Reno of ns-2.35. tools/beside/ns2 calls it with
-# key=value words. A queue-limit of one more than the pipe's holds as many that wait: ns-2 counts the packet in service.
+# A drop-tail pipe in the direction of the data and one back, with Agent/TCP/Reno of ns-2.35. tools/beside/ns2 calls it with
+# arguments key=value. Its queue-limit is one more than the pipe's, because ns-2 also counts the packet in service.
 array set o {n 2000 flows 1 at2 1.0 delay 10 ssthresh 44 dead "" end 60 out -}
 foreach word $argv { regexp {^([^=]+)=(.*)$} $word all key value; set o($key) $value }
 Agent/TCP set syn_ false

@@ -1,10 +1,10 @@
-"""A sender that departs from RFC 5681 as Agent/TCP/Reno of ns-2.35 does, for tools/beside/ns2: windows in real
-numbers of segments, ssthresh from the window in place of FlightSize, growth on the acknowledgement that ends a
-recovery, a timer that a fast retransmit starts anew, ssthresh halved at every expiry, and times in ticks of 1 ms.
-It has the methods that tools/second/second_parts.py's Sender has."""
+"""A sender for tools/beside/ns2 that deviates from RFC 5681 in the same ways as Agent/TCP/Reno of ns-2.35: windows are
+real numbers of segments, ssthresh depends on the window instead of FlightSize, the window grows on the acknowledgement
+that ends a recovery, a fast retransmit restarts the timer, every expiry halves ssthresh, and times are in ticks of 1 ms.
+It has the same methods as Sender in tools/second/second_parts.py."""
 
 TICK = 0.001
-# Where ns-2's ticks lie is random; this lets the run with a round trip of 0.8 s agree, and so do others.
+# The phase of ns-2's ticks (s) is random. With this value the run with a round trip of 0.8 s agrees; others would do too.
 BOOT = 0.0007
 SECOND = 10**9
 
@@ -20,7 +20,7 @@ class Ns2Sender:
         self.is_stopped = False
         self.backoff, self.rto = 1, 1.0
         self.srtt = self.rttvar = 0
-        # The segment that is timed, and when it went out.
+        # The segment that is timed, and the time at which it was sent (ns).
         self.timed: tuple[int, int] | None = None
         self.last_timed = -1
         self.send_much()
@@ -88,7 +88,7 @@ class Ns2Sender:
         self.size += 1 if self.size < self.threshold else 1 / self.size
 
     def measure(self, begun: float, now: float) -> None:
-        """In ticks, with 3 and 2 binary places, as ns-2 keeps them."""
+        """Updates the RTT estimate, in ticks with 3 and 2 binary places, as in ns-2."""
         ticks = max(1, int((now - begun + (begun + BOOT) % TICK) / TICK))
         if self.srtt:
             delta = ticks - (self.srtt >> 3)

@@ -1,4 +1,4 @@
-// A train through a queue of ns-3.37, served at a rate; tools/beside/ns3 compiles and calls it.
+// Sends a train through a queue of ns-3.37 that is served at a rate. tools/beside/ns3 compiles and calls it.
 //   codel BW TARGET_US INTERVAL_US SIZE COUNT GAP_NS   CoDelQueueDisc before a server of our own, which rounds up
 //                                                      once in a busy period, as a pipe does
 //   device BW SIZE COUNT GAP_NS                        PointToPointNetDevice, whose server is ns-3's own
@@ -18,7 +18,7 @@ namespace
 {
 std::map<uint64_t, uint64_t> numbers;
 
-// What a queue disc holds: a packet without headers, which can't be marked.
+// An item of a queue disc: a packet without headers, which can't be marked.
 class Held : public QueueDiscItem
 {
   public:
@@ -59,7 +59,7 @@ Dropped(Ptr<const QueueDiscItem> item, const char* why)
                 isCodel ? "codel" : "full");
 }
 
-// Serves one queue disc: the k-th finish of a busy period is ceil(8 * 10^9 * sizes / rate) behind its begin.
+// Serves one queue disc: the k-th finish of a busy period is ceil(8 * 10^9 * sizes / rate) ns after the period's start.
 struct Server
 {
     Ptr<QueueDisc> queue;
@@ -102,7 +102,7 @@ struct Server
         }
     }
 
-    // A finish of the same moment goes first.
+    // A finish at the same time comes first.
     void Come(Ptr<Packet> packet)
     {
         Simulator::ScheduleNow(&Server::Arrive, this, packet);

@@ -1,4 +1,4 @@
-"""What the command lines of the tools have in common."""
+"""Code that the command lines of the tools share."""
 import argparse
 import os
 import shutil
@@ -7,17 +7,17 @@ import program as programs
 
 
 def parser_of(about: str | None, usage: str | None = None) -> argparse.ArgumentParser:
-    """A parser whose help is the text at a tool's head."""
+    """Returns a parser whose help is a tool's module docstring."""
     return argparse.ArgumentParser(description=about, formatter_class=argparse.RawDescriptionHelpFormatter, usage=usage)
 
 
 def program_of(parser: argparse.ArgumentParser, named: str | os.PathLike[str] | None = None) -> str:
-    """The whole path of the program that is named, else of $DNLAB, else the one that ./dnlab starts; an end where there is none."""
+    """Returns the absolute path of the named program, of $DNLAB, or of the one that ./dnlab starts. Exits if there is none."""
     return path_of(parser, programs.program(named))
 
 
 def path_of(parser: argparse.ArgumentParser, named: str, hint: str = "") -> str:
-    """The whole path of a program; an end where there is none of this name."""
+    """Returns the absolute path of a program. Exits with 2 if there is none of this name."""
     found = shutil.which(named)
     if found is None:
         parser.error(f"{named} is no program{hint}")

@@ -1,13 +1,13 @@
-"""The loads b1 to b7 by which speed is measured, each drawn with a seed of its own: the same bytes on every machine."""
+"""The loads b1 to b7 for speed measurements. Each is generated with its own seed, so it has the same bytes on every machine."""
 import random
 
 STEPS = "budget 65535 steps 10000000"
-# The longest text of a scenario (bytes), and what is left of it for the last line.
+# The maximum length of a scenario, and the part of it that is reserved for the last line (bytes).
 LONGEST, LAST = 16_777_216, 30
 
 
 def long_flow(_draw: random.Random) -> list[str]:
-    """b1: one flow of 10^6 segments through a pipe of 1 Gbit/s with CoDel and loss."""
+    """Returns b1: one flow of 10^6 segments through a pipe of 1 Gbit/s with CoDel and loss."""
     return [f"experiment long seed 1 {STEPS}",
             "@0 pipe 1 config bw 1Gbit/s delay 1 queue 1000 plr 0.0005 codel target 100us interval 2ms",
             "@0 pipe 2 config bw 1Gbit/s delay 1 queue 1000",
@@ -16,7 +16,7 @@ def long_flow(_draw: random.Random) -> list[str]:
 
 
 def options(draw: random.Random, mask: str | None) -> str:
-    """Options of a pipe."""
+    """Returns random options of a pipe."""
     words = []
     if draw.random() < 0.9:
         words.append(f"bw {draw.choice([1, 5, 10, 50, 100])}Mbit/s")
@@ -32,7 +32,7 @@ def options(draw: random.Random, mask: str | None) -> str:
 
 
 def pipes_and_rules(draw: random.Random) -> tuple[list[tuple[int, str]], dict[int, str | None]]:
-    """The first commands of an experiment of b2, and the mask of each of its pipes."""
+    """Returns the first commands of an experiment of b2, and the mask of each of its pipes."""
     masks: dict[int, str | None] = {}
     commands = []
     for pipe in range(1, 5):
@@ -52,7 +52,7 @@ def pipes_and_rules(draw: random.Random) -> tuple[list[tuple[int, str]], dict[in
 
 
 def senders(draw: random.Random) -> list[tuple[int, str]]:
-    """The flows and trains of an experiment of b2."""
+    """Returns the flows and trains of an experiment of b2."""
     commands, number = [], 1
     for _ in range(draw.randint(1, 6)):
         pipe = draw.randint(1, 4)
@@ -72,7 +72,7 @@ def senders(draw: random.Random) -> list[tuple[int, str]]:
 
 
 def change(draw: random.Random, masks: dict[int, str | None]) -> tuple[int, str]:
-    """A later command of an experiment of b2."""
+    """Returns a later command of an experiment of b2."""
     moment, kind, pipe = draw.randint(0, 5 * 10**9), draw.random(), draw.randint(1, 4)
     if kind < 0.5:
         return moment, f"pipe {pipe} config {options(draw, masks[pipe])}"
@@ -86,7 +86,7 @@ def change(draw: random.Random, masks: dict[int, str | None]) -> tuple[int, str]
 
 
 def mixed(draw: random.Random) -> list[str]:
-    """b2: 256 experiments of trains, flows, masks and reconfigurations."""
+    """Returns b2: 256 experiments with trains, flows, masks and reconfigurations."""
     lines = []
     for number in range(256):
         seed, budget = draw.getrandbits(64), draw.choice([500, 5000, 65535])
@@ -101,7 +101,7 @@ def mixed(draw: random.Random) -> list[str]:
 
 
 def shared(_draw: random.Random) -> list[str]:
-    """b3: 256 flows that share one bottleneck."""
+    """Returns b3: 256 flows that share one bottleneck."""
     lines = [f"experiment shared seed 3 {STEPS}", "@0 pipe 1 config bw 1Gbit/s delay 5 queue 1000 plr 0.0001 codel",
              "@0 pipe 2 config bw 1Gbit/s delay 5 queue 1000",
              "@0 add 100 pipe 1 tcp from 10.0.0.0/16 to any", "@0 add 200 pipe 2 tcp from any to 10.0.0.0/16"]
@@ -110,7 +110,7 @@ def shared(_draw: random.Random) -> list[str]:
 
 
 def rules(draw: random.Random) -> list[str]:
-    """256 rules, of which the last sends all packets into pipe 1."""
+    """Returns 256 rules, of which the last sends all packets into pipe 1."""
     lines = []
     for at in range(1, 256):
         action = draw.choice(["deny", "count", f"skipto {at * 10 + 5}", "pipe 2"])
@@ -121,13 +121,13 @@ def rules(draw: random.Random) -> list[str]:
 
 
 def train_behind_rules(draw: random.Random) -> list[str]:
-    """b4: 256 rules and a train of 10^6 packets."""
+    """Returns b4: 256 rules and a train of 10^6 packets."""
     return [f"experiment rules seed 4 {STEPS}", "@0 pipe 1 config bw 1Gbit/s delay 1", *rules(draw),
             "@0 train 1 udp 10.0.0.1 1000 10.0.0.2 2000 1500 count 1000000 gap 12000", "@100000000000 show", "@100000000000 end"]
 
 
 def line_of_big(draw: random.Random, moment: int) -> str:
-    """A line of b5, most often a single packet."""
+    """Returns a line of b5, which is usually a single packet."""
     kind = draw.random()
     if kind < 0.93:
         protocol, source = draw.choice(["udp", "tcp"]), f"10.{draw.randint(0, 255)}.{draw.randint(0, 255)}.1 {draw.randint(0, 65535)}"
@@ -144,7 +144,7 @@ def line_of_big(draw: random.Random, moment: int) -> str:
 
 
 def big(draw: random.Random) -> list[str]:
-    """b5: a text of 16 MB, mostly single packets."""
+    """Returns b5: a text of 16 MB, mostly single packets."""
     lines = [f"experiment big seed 5 {STEPS}", "@0 pipe 1 config bw 1Gbit/s delay 1 queue 1000",
              "@0 add 100 pipe 1 ip from 10.0.0.0/8 to any", "@0 add 200 deny udp from any 1-1023 to any"]
     size, moment = sum(map(len, lines)) + len(lines), 0
@@ -158,7 +158,7 @@ def big(draw: random.Random) -> list[str]:
 
 
 def single_packets(draw: random.Random) -> list[str]:
-    """b6: 256 rules and 10^5 single packets, each with addresses of its own."""
+    """Returns b6: 256 rules and 10^5 single packets with random addresses."""
     lines = [f"experiment single seed 6 {STEPS}", "@0 pipe 1 config bw 10Gbit/s delay 1 queue 1000", *rules(draw)]
     for at in range(100_000):
         source = f"10.{draw.randint(0, 255)}.{draw.randint(0, 255)}.1 {draw.randint(0, 65535)}"
@@ -167,7 +167,7 @@ def single_packets(draw: random.Random) -> list[str]:
 
 
 def chain(draw: random.Random) -> list[str]:
-    """b7: trains through a chain of 64 pipes with 16,384 instances."""
+    """Returns b7: trains through a chain of 64 pipes with 16,384 instances."""
     lines = [f"experiment chain seed 7 {STEPS}", "@0 one_pass 0"]
     for pipe in range(1, 65):
         lines += [f"@0 pipe {pipe} config bw 1Gbit/s delay 1 queue 200 plr 0.0001 mask src-ip 0xff",

@@ -1,16 +1,16 @@
-"""The worked examples: folders of examples/, each in the folder of its subject."""
+"""Finds the worked examples: folders of examples/, each in the folder of its topic."""
 import pathlib
 
 FOLDER = pathlib.Path(__file__).resolve().parents[2] / "examples"
 
 
 def scenarios() -> list[pathlib.Path]:
-    """The scenario of each."""
+    """Returns the paths of all scenarios."""
     return sorted(FOLDER.glob("*/*/scenario.txt"))
 
 
 def named(name: str) -> pathlib.Path:
-    """The folder of this name, whatever its subject."""
+    """Returns the folder of this name, in any topic. Raises ValueError unless there is exactly one."""
     found = [path.parent for path in FOLDER.glob(f"*/{name}/scenario.txt")]
     if len(found) != 1:
         raise ValueError(f"examples/ has {len(found)} folders of the name {name}")

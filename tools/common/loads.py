@@ -1,9 +1,9 @@
-"""The loads by which speed and memory are measured: p1 to p4, each a scenario of a million segments or packets, or near to it."""
+"""The loads p1 to p4 for measurements of speed and memory. Each is a scenario of up to a million segments or packets."""
 FLOW = "@0 flow {} 10.0.0.1 {} 10.0.0.2 80 smss 1460 segments {} ssthresh 65535 window 65535 rto 1000"
 
 
 def flows(name: str, rate: str, count: int, segments: int, end: int) -> str:
-    """Returns an experiment with `count` flows there and back, each of `segments` segments."""
+    """Returns an experiment with `count` flows of `segments` segments, and a pipe in each direction. Times are in ns."""
     lines = [f"experiment {name} seed 1 budget 65535 steps 10000000",
              f"@0 pipe 1 config bw {rate} delay 10 queue 1000 codel target 5ms interval 100ms",
              "@0 pipe 2 config delay 10 queue 1000", "@0 add 100 pipe 1 tcp from 10.0.0.1 to 10.0.0.2",
@@ -24,7 +24,7 @@ def train(packets: int) -> str:
 
 
 def loads_of(small: bool) -> dict[str, str]:
-    """The loads by name, or a thousandth of each."""
+    """Returns the loads by name. If `small`, each has about a thousandth of its size."""
     part = 1000 if small else 1
     made = {"p1": flows("p1", "10Mbit/s", 1, 10**6 // part, 3 * 10**12 // part + 10**10),
             "p2": flows("p2", "1Gbit/s", 256, max(1000 // part, 1), 256 * 48_000 * 1000 // part + 12 * 10**10),

@@ -1,4 +1,4 @@
-"""The programs that the tools run. None of this starts a proof."""
+"""Finds the programs that the tools run. Nothing here starts a proof."""
 import os
 import pathlib
 import shutil
@@ -10,8 +10,9 @@ SCRIPT = ROOT / "dnlab"
 
 
 def program(named: str | os.PathLike[str] | None = None) -> str:
-    """The path of the program: the one that is named, else the one of the environment variable DNLAB, else the one that this
-    repository's script ./dnlab starts, the proved program or a checked build; where that fails the tool ends with its status."""
+    """Returns the path of the program: the named one, or the one that the environment variable DNLAB names, or the one that
+    this repository's script ./dnlab starts (the proved program or a checked build). If the script fails, the tool exits with
+    the script's status."""
     named = str(named or os.environ.get("DNLAB") or SCRIPT)
     found = shutil.which(named)
     if found is None or not os.path.samefile(found, SCRIPT):
@@ -23,7 +24,8 @@ def program(named: str | os.PathLike[str] | None = None) -> str:
 
 
 def soak() -> str:
-    """The path of the program of crates/soak: the one of the environment variable SOAK, else this repository's proved one."""
+    """Returns the path of the program of crates/soak: the one that the environment variable SOAK names, or this repository's
+    proved one. Exits with 3 if there is none."""
     named = os.environ.get("SOAK") or str(ROOT / "crates" / "soak" / "out" / "soak")
     if not os.access(named, os.X_OK):
         print(f"there is no program {named}: 'rt run' in crates/soak proves and builds it", file=sys.stderr)

@@ -1,8 +1,9 @@
-"""Which texts are scenarios, by the package's reader (python/dnlab/io/scenario.py), and whether a report is whole.
+"""Judges whether a text is a scenario, with the package's reader (python/dnlab/io/scenario.py), and whether a report is
+complete.
 
-tools/attack/hostile, tools/attack/limits and tools/second/differ have here a second word on which fault stands where,
-written from docs/reference/scenario.md, faults.md and report.md alone. It has no simulation: which finishes and drops a report
-has is not judged here.
+It gives tools/attack/hostile, tools/attack/limits and tools/second/differ an independent opinion on faults and their lines,
+which is written only from docs/reference/scenario.md, faults.md and report.md. It does not simulate, so it does not judge the
+finishes and drops of a report.
 """
 import pathlib
 import re
@@ -23,7 +24,7 @@ CLOSING = re.compile(rb"[0-9]+ (?:ok [0-9]+|spent)")
 
 
 def trouble(experiments: Iterable[tuple[str, int]], report: bytes) -> str | None:
-    """What a report lacks of being whole, in a sentence; None where it lacks nothing."""
+    """Returns a sentence on why a report is not complete, or None if it is. `experiments` has names and numbers of commands."""
     if report and not report.endswith(b"\n"):
         return "the last line has no LF"
     lines = iter(report.split(b"\n")[:-1])

@@ -1,9 +1,9 @@
-"""How many trials passed and how many failed, as every tool that tests something says it."""
+"""Counts passed and failed trials, for every tool that tests something."""
 from collections.abc import Iterable
 
 
 class Tally:
-    """Counts trials, and prints each that fails at once, after the words of `before`."""
+    """Counts trials, and prints each failure at once, after the text `before`."""
 
     def __init__(self, before: str = "") -> None:
         self.before = before
@@ -20,12 +20,12 @@ class Tally:
             print(self.before + what, flush=True)
 
     def count_all(self, trials: Iterable[tuple[str, object]], before: str = "") -> None:
-        """Counts trials that come with their names."""
+        """Counts trials, given as pairs of a name and a result."""
         for name, is_well in trials:
             self.count(is_well, f"{before}{name}: not so")
 
     def close(self) -> int:
-        """Prints the closing line, and returns the tool's status: 1 if a trial failed or none ran."""
+        """Prints the closing line. Returns the tool's status: 1 if a trial failed or none ran, otherwise 0."""
         skipped = f", {self.skipped} skipped" if self.skipped else ""
         print(f"{self.passed} passed, {self.failed} failed{skipped}", flush=True)
         return 1 if self.failed or not self.passed else 0

@@ -1,12 +1,11 @@
 # shellcheck shell=bash
-# How many trials passed and how many failed, for scripts that test something (tools/common/tally.py is the same in
-# Python).
+# Counts passed and failed trials, for scripts that test something. tools/common/tally.py is the counterpart in Python.
 passed=0
 failed=0
 skipped=0
 
-# Counts a trial, and prints a failed one with the last lines of a file: NAME STATUS [FILE]. The file is no part of the name,
-# since "$(cat FILE)" before $? would make $? the status of cat.
+# Counts a trial, and prints a failed one with the last lines of a file: NAME STATUS [FILE]. The file is an argument of its own,
+# because "$(cat FILE)" in the name would set $? to the status of cat.
 count() {
   if [ "$2" -eq 0 ]; then
     passed=$((passed + 1))
@@ -16,13 +15,13 @@ count() {
   fi
 }
 
-# wants two words to be the same: NAME GOT WANTED
+# Counts a trial that passes if two values are equal: NAME GOT WANTED
 same() {
   [ "$2" = "$3" ]
   count "$1: '$2', wanted '$3'" $?
 }
 
-# prints the closing line; the status is the script's: 1 if a trial failed or none ran
+# Prints the closing line. Returns the status for the script: 1 if a trial failed or none ran, otherwise 0.
 close() {
   if [ "$skipped" -gt 0 ]; then
     echo "$passed passed, $failed failed, $skipped skipped"

@@ -1,4 +1,4 @@
-# Completion of the commands of dnlab's Python package for bash. Installed by tools/install; to try it:
+# Completion of the commands of dnlab's Python package for bash. tools/install installs it. To try it:
 # source tools/completion/dnlab-tools.bash
 _dnlab_tools() {
   local now=${COMP_WORDS[COMP_CWORD]} before="" words=""
@@ -60,7 +60,7 @@ _dnlab_tools() {
   if [ -n "$words" ] && { [[ $now == -* ]] || [[ $before == --* ]]; }; then
     mapfile -t COMPREPLY < <(compgen -W "$words" -- "$now")
   fi
-  # Else file names, which bash completes itself.
+  # Otherwise it is a file name, which bash completes itself.
 }
 complete -o default -F _dnlab_tools dnlab-summary dnlab-plot dnlab-spread dnlab-sweep dnlab-compare dnlab-expect \
   dnlab-view dnlab-pcap dnlab-from-ipfw dnlab-to-ipfw dnlab-to-tc dnlab-replay dnlab-rate-trace dnlab-hosts

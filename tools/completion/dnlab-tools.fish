@@ -1,4 +1,4 @@
-# Completion of the commands of dnlab's Python package for fish. Installed by tools/install under the name of each command; to
+# Completion of the commands of dnlab's Python package for fish. tools/install installs it under the name of each command. To
 # try it: source tools/completion/dnlab-tools.fish
 complete -c dnlab-summary -l name -x -d 'rows for packets injected from a source'
 complete -c dnlab-summary -l of -x -d 'only these rows'

@@ -1,4 +1,4 @@
-# Completion of dnlab's words for bash. Installed by tools/install; to try it: source tools/completion/dnlab.bash
+# Completion of dnlab's commands and options for bash. tools/install installs it. To try it: source tools/completion/dnlab.bash
 _dnlab() {
   local now=${COMP_WORDS[COMP_CWORD]} before="" command="" word
   [ "$COMP_CWORD" -gt 0 ] && before=${COMP_WORDS[COMP_CWORD - 1]}
@@ -24,7 +24,7 @@ _dnlab() {
     *) words="alone run check live help --help --version" ;;
   esac
   COMPREPLY=()
-  # Of the commands that read a scenario, a word that is no option is a file, which bash completes itself.
+  # In commands that read a scenario, an argument that is not an option is a file, which bash completes itself.
   case $command:$before:$now in
     alone:--*:* | run:--*:* | *:*:-*) ;;
     alone:* | run:* | check:*) return ;;

@@ -1,4 +1,4 @@
-# Completion of dnlab's words for fish. Installed by tools/install; to try it: source tools/completion/dnlab.fish
+# Completion of dnlab's commands and options for fish. tools/install installs it. To try it: source tools/completion/dnlab.fish
 complete -c dnlab -n __fish_use_subcommand -f
 complete -c dnlab -n __fish_use_subcommand -s h -l help -d 'print help with an example'
 complete -c dnlab -n __fish_use_subcommand -s V -l version -d 'print the version'

@@ -1,4 +1,4 @@
-"""Archives of a folder, whose bytes follow from the files alone: names in order, one date, no owner."""
+"""Makes archives of a folder. Their bytes depend only on the files: names are sorted, and there is one date and no owner."""
 import gzip
 import io
 import os
@@ -10,14 +10,14 @@ from collections.abc import Sequence
 
 
 class Lacking(Exception):
-    """What this machine or the tree lacks, in a sentence."""
+    """The machine or the tree lacks something. The text is a sentence about it."""
 
 
 def run(words: Sequence[str | os.PathLike[str]], date: int, folder: pathlib.Path | None = None) -> str:
-    """Runs a program of packaging, with the date for what it writes (seconds since 1970); gives what it says."""
+    """Runs a packaging program, with the date for the files that it writes (seconds since 1970). Returns its output."""
     if shutil.which(words[0]) is None:
         raise Lacking(f"{words[0]} is not there")
-    # Debian's packaging needs Debian's own Python, whichever comes first on the caller's PATH.
+    # Debian's packaging needs Debian's own Python, whatever the caller's PATH is.
     path = os.pathsep.join(["/usr/bin", os.environ.get("PATH", os.defpath)])
     names = {**os.environ, "PATH": path, "SOURCE_DATE_EPOCH": str(date), "LC_ALL": "C.UTF-8", "TZ": "UTC", "PYTHONDONTWRITEBYTECODE": "1"}
     done = subprocess.run(words, cwd=folder, env=names, stdin=subprocess.DEVNULL, stdout=subprocess.PIPE, stderr=subprocess.STDOUT, text=True, check=False)
@@ -27,7 +27,7 @@ def run(words: Sequence[str | os.PathLike[str]], date: int, folder: pathlib.Path
 
 
 def zipped(text: bytes) -> bytes:
-    """These bytes by gzip, without a name or a moment in them."""
+    """Returns the bytes compressed with gzip, without a name or a time."""
     out = io.BytesIO()
     with gzip.GzipFile(filename="", mode="wb", compresslevel=9, fileobj=out, mtime=0) as file:
         file.write(text)
@@ -35,7 +35,7 @@ def zipped(text: bytes) -> bytes:
 
 
 def tar_gz(folder: pathlib.Path, to: pathlib.Path, date: int) -> None:
-    """The folder, under its own name, as a tar.gz."""
+    """Writes the folder, under its own name, as a tar.gz."""
 
     def plain(info: tarfile.TarInfo) -> tarfile.TarInfo:
         info.mtime, info.uid, info.gid, info.uname, info.gname = date, 0, 0, "root", "root"
@@ -50,7 +50,7 @@ def tar_gz(folder: pathlib.Path, to: pathlib.Path, date: int) -> None:
 
 
 def dated(folder: pathlib.Path, date: int) -> None:
-    """Gives each file and folder the date and a mode that doesn't follow from the caller's mask."""
+    """Sets the date of each file and folder, and a mode that does not depend on the caller's umask."""
     for path in [folder, *folder.rglob("*")]:
         if not path.is_symlink():
             path.chmod(0o755 if path.is_dir() or path.stat().st_mode & 0o100 else 0o644)

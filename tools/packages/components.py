@@ -9,9 +9,9 @@ sys.path.insert(0, str(ROOT / "tools" / "gate"))
 
 import kit_build  # noqa: E402  (the path is set first)
 
-# SPDX's word for a licence that nobody has stated.
+# SPDX's value for a licence that nobody has stated.
 UNSTATED = "NOASSERTION"
-# What the programs that are built here link in of the C library's package, besides the library itself.
+# The files of the C library's package that our programs link in, in addition to the library itself.
 LIBC = ("glibc", "LGPL-2.1-or-later", "the C library: its start-up files, and the whole library in a program that needs no shared one")
 LIBGCC = ("libgcc", "GPL-3.0-or-later WITH GCC-exception-3.1", "start-up files and helpers of the compiler")
 
@@ -40,7 +40,7 @@ def licence_in(folder: pathlib.Path) -> str:
 
 
 def kit_crates(kit: pathlib.Path, crate: str) -> list[Component]:
-    """Returns the kit's crates that a crate of this repository stands on."""
+    """Returns the kit's crates that a crate of this repository uses."""
     folder = ROOT / "crates" / crate
     with kit_build.in_folder(folder):
         module = kit_build.kit_module(kit)
@@ -51,7 +51,7 @@ def kit_crates(kit: pathlib.Path, crate: str) -> list[Component]:
 
 
 def linked(kit: pathlib.Path, crate: str) -> list[Component]:
-    """Returns all that is linked into the program or the library: the kit's crates and C archives, and parts of libc."""
+    """Returns everything that is linked into the program or the library: the kit's crates and C archives, and parts of libc."""
     archives = [kit / "c" / "liblibc_c.a", *([kit / "c" / "libos_c.a"] if crate == "dnlab" else [])]
     parts = [Component(it.name, UNSTATED, "C archive of the Rattle kit", sha256(it)) for it in archives]
     return [*kit_crates(kit, crate), *parts, Component(*LIBC), Component(*LIBGCC)]

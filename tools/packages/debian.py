@@ -1,4 +1,4 @@
-"""Debian's packages, built by dpkg-buildpackage from debian/ and from what the proof left."""
+"""Builds Debian packages with dpkg-buildpackage, from debian/ and the files that the proof left."""
 import pathlib
 import re
 import shutil
@@ -7,12 +7,12 @@ import subprocess
 import archives
 from archives import Lacking
 
-# What the packages are built from: the sources that git knows, without those that no package has.
+# The sources of the packages: those that git tracks, without those that no package needs.
 LEFT_OUT = ("crates/", "examples/", "cookbook/", "tools/gate/", "tools/attack/", "tools/beside/", "tools/definitions/", "tools/second/")
 
 
 def _sources(root: pathlib.Path, to: pathlib.Path) -> None:
-    """Copies the files that git knows."""
+    """Copies the files that git tracks."""
     listed = archives.run(["git", "-C", str(root), "ls-files", "-z"], 0)
     for name in listed.split("\0"):
         if name and not name.startswith(LEFT_OUT) and (root / name).is_file():

@@ -1,4 +1,4 @@
-"""The guest's kernel as an archive of its own, with all that its licence asks for: the text, and the exact source named."""
+"""Makes the archive of the guest's kernel, with everything that its licence requires: its text, and the exact source."""
 import hashlib
 import pathlib
 import shutil
@@ -27,7 +27,7 @@ SOURCE.txt has the checksum (SHA-256) of each.
 
 
 def recorded(folder: pathlib.Path) -> dict[str, str]:
-    """Returns what SOURCE.txt of a built kernel has, by name."""
+    """Returns the lines of SOURCE.txt of a built kernel, by name."""
     missing = [name for name in (*PROGRAMS, RECORD) if not (folder / name).is_file()]
     if missing:
         raise archives.Lacking(f"{folder} has no {', '.join(missing)}: name a folder that hosts/kernel/build filled")
@@ -36,7 +36,7 @@ def recorded(folder: pathlib.Path) -> dict[str, str]:
 
 
 def changed(root: pathlib.Path, record: dict[str, str]) -> list[str]:
-    """Returns the files below `root` that a kernel was not built from: those that differ, and those that are gone."""
+    """Returns the files below `root` that differ from the kernel's sources, or are missing."""
     files = {name: sum for name, sum in record.items() if name.startswith(f"{SOURCES}/")}
     return [name for name, sum in files.items()
             if not (root / name).is_file() or hashlib.sha256((root / name).read_bytes()).hexdigest() != sum]

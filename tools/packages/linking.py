@@ -1,4 +1,5 @@
-"""The program as a release has it: byte for byte as the proof left it, or linked from the proved object without shared libraries."""
+"""Makes the programs of a release: a byte-for-byte copy of the proof's, and one that is linked from the proved object without
+shared libraries."""
 import pathlib
 import re
 import shlex
@@ -46,7 +47,7 @@ def proved_sums() -> dict[str, str]:
 
 
 def needs(program: pathlib.Path) -> str:
-    """Returns what a machine must have for the program: `nothing`, or the oldest C library, as `glibc 2.34`."""
+    """Returns the requirement of the program: `nothing`, or the oldest C library that it runs with, like `glibc 2.34`."""
     text = program.read_bytes()
     found = {tuple(map(int, it.split(b"."))) for it in re.findall(rb"GLIBC_([0-9.]+)\0", text)}
     is_static = b"/ld-linux-x86-64.so.2" not in text
@@ -71,7 +72,7 @@ def _static_command(program: str, folder: str) -> list[str]:
 
 
 def put_relinkable(folder: pathlib.Path) -> None:
-    """Puts all that is needed to link the program again into a folder, as the licence of the C library asks."""
+    """Writes everything that is needed to relink the program into a folder, as the licence of the C library requires."""
     folder.mkdir(parents=True)
     shutil.copy(OBJECT, folder / "dnlab.o")
     for name in ARCHIVES:

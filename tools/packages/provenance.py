@@ -1,4 +1,4 @@
-"""Where a release comes from, in the fields of SLSA's provenance, version 1 (https://slsa.dev/spec/v1.0/provenance)."""
+"""Writes the origin of a release in the fields of SLSA's provenance, version 1 (https://slsa.dev/spec/v1.0/provenance)."""
 import json
 import pathlib
 import platform

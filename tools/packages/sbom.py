@@ -1,4 +1,4 @@
-"""The bill of materials of a release, in SPDX 2.3."""
+"""Writes the bill of materials of a release, in SPDX 2.3."""
 import json
 import re
 from collections.abc import Sequence

@@ -1,11 +1,11 @@
-"""Signatures of the files of a release."""
+"""Signs the files of a release."""
 import pathlib
 
 import archives
 
 
 def sign(file: pathlib.Path, key: str) -> None:
-    """Signs a file by minisign if the key is a file, else by gpg: FILE.minisig or FILE.asc is beside it then."""
+    """Signs a file with minisign if the key is a file, and otherwise with gpg. Writes FILE.minisig or FILE.asc next to it."""
     if pathlib.Path(key).is_file():
         archives.run(["minisign", "-S", "-s", key, "-m", str(file), "-x", f"{file}.minisig"], 0)
     else:

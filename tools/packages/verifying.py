@@ -31,7 +31,8 @@ def _unpacked(file: pathlib.Path, room: pathlib.Path) -> None:
 
 
 def _expected(root: pathlib.Path, room: pathlib.Path) -> dict[str, list[str]]:
-    """Returns the checksums that each kind of file may have, by its name; libraries and the static program are made again for it."""
+    """Returns the checksums that each kind of file may have, by its name. Builds the libraries and the static program again
+    for this."""
     done = subprocess.run([root / "tools" / "library", str(room / "library")], stdin=subprocess.DEVNULL, capture_output=True, text=True, check=False)
     if done.returncode:
         raise Lacking(f"the library can't be made again: {done.stderr.strip()[-400:]}")
@@ -42,12 +43,12 @@ def _expected(root: pathlib.Path, room: pathlib.Path) -> dict[str, list[str]]:
 
 
 def _is_of_proof(path: pathlib.Path) -> bool:
-    """Whether a file with a name of the proof is a program or a library, and no folder or completion."""
+    """Returns true if a file with a name of the proof is a program or a library, and not a folder or a completion."""
     return path.is_file() and not path.is_symlink() and path.read_bytes()[:4] in (b"\x7fELF", b"!<ar")
 
 
 def verify(root: pathlib.Path, files: Sequence[pathlib.Path], room: pathlib.Path) -> int:
-    """Prints a line for each program, object and library in some files; returns 0 if all are those of the proof, else 1."""
+    """Prints a line for each program, object and library in some files. Returns 0 if all are those of the proof, otherwise 1."""
     if not (linking.OUT / "dnlab").is_file():
         raise Lacking("there is no proof in this checkout: run ./dnlab prove")
     linking.proved_sums()

@@ -1,4 +1,4 @@
-"""The Python package for pip: a wheel that carries the program, and a package of the sources, which doesn't."""
+"""Builds the Python package for pip: a wheel with the program, and a source package without it."""
 import pathlib
 import re
 import shutil
@@ -6,12 +6,13 @@ import shutil
 import archives
 from archives import Lacking
 
-# Debian's own Python, for whose packages these are named.
+# Debian's own Python, whose packages the messages name.
 PYTHON = "/usr/bin/python3"
 
 
 def check_tag(wheel: pathlib.Path, needs: str) -> None:
-    """Raises `Lacking` if the program needs a newer C library than the wheel's tag says; `needs` is as `glibc 2.34`, or `nothing`."""
+    """Raises `Lacking` if the program needs a newer C library than the wheel's tag allows. `needs` is `glibc 2.34` or similar,
+    or `nothing`."""
     tag = re.search(r"manylinux_(\d+)_(\d+)_x86_64", wheel.name)
     if tag is None:
         raise Lacking(f"{wheel.name} has no tag for Linux on x86-64")
@@ -39,7 +40,7 @@ def packages(root: pathlib.Path, program: pathlib.Path, library: pathlib.Path, p
     shutil.unpack_archive(sdist, unpacked)
     top, = unpacked.iterdir()
     shutil.rmtree(top / "dnlab.egg-info", ignore_errors=True)
-    # setuptools puts the names and times of the caller into its archive.
+    # setuptools writes the caller's names and times into its archive.
     archives.tar_gz(top, to / sdist.name, date)
     carried = top / "dnlab" / "bin"
     carried.mkdir()

@@ -1,8 +1,8 @@
-"""Draws scenarios for tools/second/differ: small queues, short flows, losses, masks, CoDel, changes of configuration,
-deletions, equal moments, rules that go on, several experiments; some of them damaged afterwards.
+"""Generates random scenarios for tools/second/differ: small queues, short flows, losses, masks, CoDel, changes of
+configuration, deletions, equal times, rules at which the search continues, several experiments. Some are damaged afterwards.
 
-Moments are drawn from a few, and times of service are often whole milliseconds, so that commands, exits and
-finishes meet at one moment. draw_text(random.Random(..)) gives the bytes of a text.
+There are only a few different times, and service times are often whole milliseconds, so that commands, exits and finishes
+coincide. draw_text(random.Random(..)) returns the bytes of a text.
 """
 from random import Random
 
@@ -18,9 +18,9 @@ SERVICE = ("bw 8Mbit/s", "bw 1Mbit/s", "bw 1MByte/s", "bw 125KByte/s", "bw 3Mbit
            "bw 1Gbit/s", "bw 10Gbit/s", "bw 56Kbit/s", "bw 0", "bw 997bit/s")
 NUMBERS = (1, 2, 50, 100, 100, 100, 150, 200, 200, 300, 400, 65534)
 
-# Each pipe's mask, written as in its configuration.
+# The mask of each pipe, as in its configuration.
 Masks = dict[int, str]
-# A command behind its moment.
+# The time of a command (ns), and the command.
 Timed = tuple[int, str]
 
 
@@ -50,7 +50,7 @@ def rule(draw: Random) -> str:
 
 
 def mask(draw: Random) -> str:
-    """None most of the time: a pipe with instances refuses another."""
+    """Returns a mask, which is usually empty, because a pipe with instances refuses another mask."""
     roll = draw.random()
     if roll < 0.1:
         return "mask all"
@@ -73,7 +73,7 @@ def discipline(draw: Random) -> str:
 
 
 def config(draw: Random, masks: Masks, pipe: int) -> str:
-    """A configuration; of one pipe most have one mask."""
+    """Returns a configuration. Most configurations of a pipe have the same mask."""
     if pipe not in masks or draw.random() < 0.05:
         masks[pipe] = mask(draw)
     queue = draw.choice(("", "", "", "", "queue 1", "queue 2", "queue 3", "queue 5", "queue 10", "queue 1000", "queue 1K",
@@ -88,7 +88,7 @@ def config(draw: Random, masks: Masks, pipe: int) -> str:
 
 
 def ends(draw: Random) -> str:
-    """Both ends of what is sent, most of the time between the two nets that rules are for."""
+    """Returns the addresses and ports of a sender and a receiver, usually in the two networks that the rules are for."""
     if draw.random() < 0.85:
         both = [draw.choice(ADDRESSES[:2]), draw.choice(ADDRESSES[2:4])]
     else:
@@ -117,7 +117,7 @@ def source(draw: Random) -> str:
 
 
 def later(draw: Random, masks: Masks) -> str:
-    """A command on what is there."""
+    """Returns a later command, which usually changes existing things."""
     roll = draw.random()
     if roll < 0.3:
         return config(draw, masks, draw.choice(PIPES[:4]))
@@ -130,7 +130,7 @@ def later(draw: Random, masks: Masks) -> str:
 
 
 def moments(draw: Random) -> list[int]:
-    """A few moments, some of them near each other, that commands share."""
+    """Returns a few times (ns), some of them close together, that commands share."""
     base = draw.choice((MS, 10 * MS, 100 * MS, 10**9))
     few = [draw.randint(0, 20) * base for _ in range(draw.randint(1, 6))]
     near = [moment + draw.choice((0, 1, 500, 80000, 8 * MS)) for moment in few]
@@ -138,7 +138,7 @@ def moments(draw: Random) -> list[int]:
 
 
 def crowd(draw: Random, moment: int) -> list[Timed]:
-    """More senders than a pipe has instances, in any order."""
+    """Returns commands with more senders than a pipe can have instances, in random order."""
     pairs = [(host // 256, host % 256) for host in range(270)]
     draw.shuffle(pairs)
     return [(0, "pipe 2 config bw 1Mbit/s mask src-ip 0xffff"), (0, "add 1 pipe 2 ip from 10.7.0.0/16 to any")] + [
@@ -146,7 +146,7 @@ def crowd(draw: Random, moment: int) -> list[Timed]:
 
 
 def both_ways(draw: Random) -> list[str]:
-    """Rules by which flows between the first four addresses get there and back."""
+    """Returns rules that let flows between the first four addresses through in both directions."""
     there, back = draw.choice(PIPES[:3]), draw.choice(PIPES[:3])
     return [f"add 100 pipe {there} ip from 10.0.0.0/24 to any", f"add 200 pipe {back} ip from any to any"]
 
@@ -179,7 +179,7 @@ DAMAGE = ("", " ", "  ", "0", "00", "-1", "65536", "1000000000000000", "10000000
 
 
 def damaged(draw: Random, lines: list[str]) -> bytes:
-    """The lines with one thing wrong, as bytes; sometimes it does no harm."""
+    """Returns the lines with one random damage, as bytes. Sometimes the damage is harmless."""
     lines = list(lines)
     place = draw.randrange(len(lines))
     roll = draw.random()
@@ -208,7 +208,7 @@ def damaged(draw: Random, lines: list[str]) -> bytes:
 
 
 def draw_text(draw: Random) -> bytes:
-    """A text; one of six is damaged."""
+    """Returns a random text. One in six is damaged."""
     lines = []
     for number in range(draw.choice((1, 1, 1, 2, 3))):
         lines += experiment(draw, f"e{number}")

@@ -1,4 +1,5 @@
-"""Parts of tools/second/second: what moves packets in one experiment, written from docs/explanation/rules.md and docs/explanation/order.md."""
+"""Parts of tools/second/second: the code that moves packets in one experiment, written from docs/explanation/rules.md and
+docs/explanation/order.md."""
 import heapq
 from collections import deque
 from collections.abc import Callable, Iterator
@@ -12,16 +13,17 @@ CAUSES = ("denied", "nopipe", "noinstance", "lost", "full", "codel", "deleted", 
 TRANSPORTS = {6: "tcp", 17: "udp"}
 DEFAULT = "add 65535 deny ip from any to any".split()
 
-# Source and its port, destination and its port.
+# The source address and port, and the destination address and port.
 Ends = tuple[int, int, int, int]
-# A packet's masked fields, by which its instance is found.
+# The masked fields of a packet, which identify its instance.
 Name = tuple[int, ...]
-# A moment, a class and a number, by which order.md sorts what is due.
+# A time (ns), a class and a number, by which order.md sorts events.
 Due = tuple[int, int, int]
 
 
 class Event(NamedTuple):
-    """What is due, what does it, and where: a pipe's number and an instance's place, or a source's number and 0."""
+    """An event, the function that executes it, and its place: a pipe's number and an instance's index, or a source's number
+    and 0."""
 
     due: Due
     call: Callable[[int, int], None]
@@ -33,7 +35,7 @@ class Train:
     proto: int
     ends: Ends
     size: int
-    # How many packets are still to go out, the time between two, and when the next goes out.
+    # The number of packets still to be sent, the time between two of them, and the time of the next one (ns).
     left: int
     gap: int
     next: int
@@ -43,7 +45,7 @@ class Train:
 class Flow:
     sender: FlowSender
     ends: Ends
-    # The first bytes of segments that came before their turn, and the first byte that hasn't come.
+    # The first bytes of segments that arrived out of order, and the first byte that has not arrived.
     kept: set[int]
     missing: int
 
@@ -58,11 +60,11 @@ class Pipe:
         self.instances: list[Instance] = []
 
     def name_of(self, packet: Packet) -> Name:
-        """Its masked fields."""
+        """Returns the masked fields of a packet."""
         return tuple(getattr(packet, field) & self.config.mask[word] for word, (field, _) in FIELDS.items())
 
     def find(self, packet: Packet) -> int | None:
-        """The place of the packet's instance; None where there may be no more."""
+        """Returns the index of the packet's instance, which is created if it is new, or None if there can be no more."""
         name = self.name_of(packet)
         if name not in self.places:
             if len(self.instances) == MOST_INSTANCES:
@@ -88,7 +90,7 @@ def identifier_text(name: Name) -> str:
 
 
 class Net:
-    """One experiment: what is there, and the lines of its report."""
+    """The state of one experiment, and the lines of its report."""
 
     pipes: dict[int, Pipe]
     sources: dict[int, Source]
@@ -97,7 +99,7 @@ class Net:
         self.seed, self.budget = seed, budget
         self.rules, self.adds = [Rule(DEFAULT, 0)], 0
         self.pipes, self.sources = {}, {}
-        # What was due in pipes when an instance last changed; some of it may have gone since.
+        # The events of pipes, noted when an instance changed. Some of them may be obsolete.
         self.noted: list[Due] = []
         self.link: deque[tuple[int, Packet]] = deque()
         self.one_pass, self.trace, self.now, self.is_over = 1, 0, 0, False
@@ -127,7 +129,7 @@ class Net:
         self.say("drop", packet.serial, load_text(packet.load), cause)
 
     def search(self, packet: Packet) -> None:
-        """The rules behind the packet's place."""
+        """Applies the rules after the packet's place."""
         least = 0
         for rule in self.rules:
             if rule.place <= packet.place or rule.number < least or not rule.matches(packet):
@@ -189,7 +191,7 @@ class Net:
         self.search(packet)
 
     def flow_of(self, number: int) -> Flow:
-        """The source of this number, which is a flow."""
+        """Returns the source of this number, which must be a flow."""
         source = self.sources[number]
         assert isinstance(source, Flow)
         return source
@@ -227,7 +229,7 @@ class Net:
             self.make(source.proto, *source.ends, source.size, PLAIN)
 
     def due_of(self, kind: int, number: int, place: int) -> int | None:
-        """The next exit (1) or finish (2) of an instance, None where there is none."""
+        """Returns the time (ns) of the next exit (kind 1) or finish (kind 2) of an instance, or None."""
         pipe = self.pipes.get(number)
         if not pipe or place >= len(pipe.instances):
             return None
@@ -243,7 +245,7 @@ class Net:
                 heapq.heappush(self.noted, (moment, kind, number * 256 + place))
 
     def least_of_pipes(self) -> Due | None:
-        """The least that is still due of what was noted."""
+        """Returns the first noted event that is still due, or None."""
         while self.noted:
             moment, kind, where = self.noted[0]
             if self.due_of(kind, where // 256, where % 256) == moment:
@@ -252,7 +254,7 @@ class Net:
         return None
 
     def dues(self) -> Iterator[Event]:
-        """What is due but the command, of pipes the least."""
+        """Yields the events that are due, except the command; of the events of pipes only the first."""
         if self.link:
             yield Event((self.link[0][0], 1, 0), self.exit, (0, 0))
         least = self.least_of_pipes()

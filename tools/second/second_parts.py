@@ -1,5 +1,5 @@
-"""Parts of tools/second/second: loss words, one instance of a pipe, one sender. Written from docs/explanation/rules.md, docs/explanation/codel.md and
-docs/explanation/reno.md alone, for reading and not for speed."""
+"""Parts of tools/second/second: loss words, an instance of a pipe, and a sender. They are written only from
+docs/explanation/rules.md, docs/explanation/codel.md and docs/explanation/reno.md, to be read and not to be fast."""
 from collections import deque
 from math import isqrt
 from typing import Protocol
@@ -13,7 +13,7 @@ SECOND = 10**9
 
 
 def quarter(x: list[int], a: int, b: int, c: int, d: int) -> None:
-    """The quarter round of RFC 8439."""
+    """Applies the quarter round of RFC 8439, section 2.1, to four words of a state."""
     for at, one, other, turn in ((a, b, d, 16), (c, d, b, 12), (a, b, d, 8), (c, d, b, 7)):
         x[at] = (x[at] + x[one]) & WORD
         x[other] ^= x[at]
@@ -21,7 +21,7 @@ def quarter(x: list[int], a: int, b: int, c: int, d: int) -> None:
 
 
 def loss_word(seed: int, stream: int, place: int) -> int:
-    """The word at a place of ChaCha20, with a 64-bit counter and a 64-bit nonce."""
+    """Returns the word at an index of the ChaCha20 stream, with a 64-bit counter and a 64-bit nonce."""
     block = place // 16
     start = [0x61707865, 0x3320646E, 0x79622D32, 0x6B206574, seed & WORD, seed >> 32, 0, 0, 0, 0, 0, 0,
              block & WORD, block >> 32, stream & WORD, stream >> 32]
@@ -49,12 +49,12 @@ def control_law(moment: int, count: int, interval: int) -> int:
 class Instance:
     """A queue, a server and a delay line."""
 
-    # Packets and when they came.
+    # The packets in the queue, and their arrival times (ns).
     waiting: deque[tuple[Packet, int]]
-    # What is served and when that ends; None where nothing is.
+    # The packet in service and the time of its finish (ns), or None.
     serving: Packet | None
     finish: int | None
-    # When packets leave, and these.
+    # The packets in the delay line, and their exit times (ns).
     line: deque[tuple[int, Packet]]
 
     def __init__(self) -> None:
@@ -81,7 +81,7 @@ class Instance:
         self.bytes += packet.size
 
     def take_head(self, now: int, config: Config) -> tuple[Packet | None, bool]:
-        """`dodequeue`: the packet and whether it may be dropped."""
+        """Implements `dodequeue` of RFC 8289. Returns the packet, and true if it may be dropped."""
         state = self.codel
         if not self.waiting:
             state.first_above = 0
@@ -97,7 +97,7 @@ class Instance:
         return packet, now >= state.first_above
 
     def dequeue(self, now: int, config: Config) -> tuple[list[Packet], Packet | None]:
-        """What is dropped, and the packet for the server or None."""
+        """Returns the packets that are dropped, and the packet for the server or None."""
         packet: Packet | None
         if not config.is_codel:
             if not self.waiting:
@@ -129,7 +129,8 @@ class Instance:
         return dropped, packet
 
     def serve(self, now: int, config: Config, goes_on: bool) -> list[Packet]:
-        """Dequeues for the server, which goes on with a busy period or begins one; what CoDel dropped."""
+        """Dequeues for the server, which continues a busy period if `goes_on`, or starts one. Returns the packets that CoDel
+        dropped."""
         dropped, packet = self.dequeue(now, config)
         self.serving = packet
         self.finish = None
@@ -150,7 +151,7 @@ class Instance:
 
 
 class FlowSender(Protocol):
-    """What a flow needs of its sender; Sender has it, and so has the other one, of tools/beside."""
+    """The methods that a flow's sender needs. Sender has them, and so does Ns2Sender of tools/beside."""
 
     is_stopped: bool
 
@@ -178,9 +179,9 @@ class FlowSender(Protocol):
 class Sender:
     """A Reno sender, in bytes."""
 
-    # When the timer expires; None where it is off.
+    # The time at which the timer expires (ns), or None if it is off.
     timer: int | None
-    # The number that ends the segment whose time is taken, and when it went out; None where none is.
+    # The sequence number at the end of the segment that is timed, and the time at which it was sent (ns), or None.
     sample: tuple[int, int] | None
     # None before the first measurement.
     srtt: int | None
@@ -203,7 +204,7 @@ class Sender:
         return self.resend or fits
 
     def emit(self, now: int) -> int:
-        """The first byte of the segment that goes out."""
+        """Sends a segment. Returns the sequence number of its first byte."""
         if self.resend:
             self.resend, first = False, self.una
         else:

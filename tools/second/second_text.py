@@ -1,5 +1,5 @@
-"""Parts of tools/second/second: rules and configurations as they are read and listed, written from docs/explanation/rules.md,
-docs/reference/scenario.md and docs/reference/report.md. The words are taken to be a line of a scenario."""
+"""Parts of tools/second/second: reads and lists rules and configurations, written from docs/explanation/rules.md,
+docs/reference/scenario.md and docs/reference/report.md. It assumes that the words are a valid line of a scenario."""
 from collections import deque
 from dataclasses import dataclass
 from typing import NamedTuple
@@ -7,17 +7,17 @@ from typing import NamedTuple
 import scenario_text
 
 PROTOCOLS = {"tcp": 6, "udp": 17}
-# What a rule asks for; None is any.
+# The protocol number that a rule matches; None matches any.
 RULE_PROTOCOLS: dict[str, int | None] = {"ip": None, **PROTOCOLS}
 FIELDS = {"proto": ("proto", 2), "src-ip": ("src", 8), "dst-ip": ("dst", 8), "src-port": ("sport", 4),
           "dst-port": ("dport", 4)}
 
-# Words of a line that are still to be read.
+# The words of a line that are not read yet.
 Words = deque[str]
 
 
 class Load(NamedTuple):
-    """What a packet carries: of a flow ("data" or "ack") its number and that of a byte, else nothing ("plain")."""
+    """The load of a packet: the numbers of a flow and of a byte ("data" or "ack"), or nothing ("plain")."""
 
     kind: str
     flow: int
@@ -37,7 +37,7 @@ class Packet:
     size: int
     load: Load
     serial: int
-    # The place of the rule behind which its search goes on.
+    # The place of the rule after which the packet's search continues.
     place: tuple[int, int]
 
 
@@ -51,7 +51,7 @@ def dotted(number: int) -> str:
 
 
 class End:
-    """One end of a rule: address with length, and ports."""
+    """One end of a rule: an address with a prefix length, and ports."""
 
     def __init__(self, words: Words) -> None:
         word = words.popleft()
@@ -90,7 +90,7 @@ class Rule:
         self.packets = self.bytes = 0
 
     def goal(self) -> int:
-        """The rule or the pipe that skipto or pipe leads to."""
+        """Returns the number of the rule or the pipe that skipto or pipe names."""
         assert self.target is not None
         return self.target
 
@@ -110,7 +110,7 @@ def split_unit(word: str) -> tuple[int, str]:
 
 
 class Config:
-    """What `pipe P config` says; what isn't written takes its default."""
+    """The configuration of a line `pipe P config ..`. Options that are not given have their defaults."""
 
     def __init__(self, line: list[str]) -> None:
         self.bw, self.delay, self.queue, self.kbytes, self.plr = 0, 0, 50, False, 0

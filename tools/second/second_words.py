@@ -1,5 +1,5 @@
-"""Parts of tools/second/second: what commands do, and the report of a text, written from docs/reference/scenario.md, docs/explanation/rules.md and
-docs/explanation/order.md."""
+"""Parts of tools/second/second: the effects of commands, and the report of a text, written from docs/reference/scenario.md,
+docs/explanation/rules.md and docs/explanation/order.md."""
 from collections import deque
 from collections.abc import Callable, Iterator
 
@@ -9,19 +9,20 @@ from second_text import PLAIN, PROTOCOLS, Config, Rule, number_of
 
 LAST_RULE = 65535
 
-# A command's moment and words.
+# The time of a command (ns), and its words.
 Timed = tuple[int, list[str]]
-# Makes a sender from smss, segments, ssthresh, window and the time of its timer in ms, None of an adaptive one.
+# Makes a sender from smss, segments, ssthresh, window and the retransmission timeout in ms (None if it is adaptive).
 NewSender = Callable[[int, int, int, int, int | None], FlowSender]
 
 
 def ends_of(words: list[str]) -> Ends:
-    """Address and port of both ends, from the first four words."""
+    """Returns the addresses and ports of both ends, from the first four words."""
     return number_of(words[0]), int(words[1]), number_of(words[2]), int(words[3])
 
 
 class Experiment(Net):
-    """What commands do; each `do_` answers None or the code of its refusal, before it changed anything."""
+    """An experiment that runs commands. Each `do_` method returns None, or the code of a refusal, in which case it has changed
+    nothing."""
 
     def __init__(self, seed: int, budget: int, sender: NewSender = Sender) -> None:
         super().__init__(seed, budget)
@@ -131,7 +132,7 @@ class Experiment(Net):
         self.is_over = True
 
     def run(self, commands: list[Timed], steps: int) -> str:
-        """The report of commands that `end` ends."""
+        """Runs commands, of which the last is `end`. Returns the report, without its heading."""
         todo = deque(enumerate(commands))
         made = 0
         while not self.is_over:
@@ -152,7 +153,7 @@ class Experiment(Net):
 
 
 def report(text: bytes, sender: NewSender = Sender) -> Iterator[str]:
-    """The report of a text that is a scenario, with senders of this kind."""
+    """Yields the reports of the experiments of a valid scenario, with senders of this kind."""
     experiments: list[tuple[list[str], list[Timed]]] = []
     for line in text.decode().split("\n"):
         words = line.split()
