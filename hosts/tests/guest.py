@@ -39,7 +39,7 @@ class Host:
 
 @dataclasses.dataclass
 class Run:
-    """What a run left. Times are ns after time 0, or wall and CPU seconds."""
+    """The results of a run. Times are ns after time 0, or wall and CPU seconds."""
 
     folder: pathlib.Path
     exits: dict[str, str]

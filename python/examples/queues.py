@@ -1,11 +1,11 @@
 #!/usr/bin/env python3
-"""Writes a scenario: which queue is best for four flows beside small packets of somebody who waits for them?
+"""Writes a scenario to compare queues: which is best for four flows that share a link with small, urgent packets?
 
     python3 python/examples/queues.py [SEEDS] > queues.txt
 
-One bottleneck of 10 Mbit/s with 20 ms each way, eight queues, and 30 seeds of each: 240 experiments of five
-seconds. Four Reno flows begin at moments that the seed draws, and one packet in a thousand is lost; a train sends 100
-bytes each 20 ms, as a call does.
+It has a bottleneck of 10 Mbit/s with 20 ms in each direction, eight queues, and 30 seeds for each queue: 240 experiments
+of five seconds. Four Reno flows start at random times that depend on the seed, and one packet in a thousand is lost; a train
+sends 100 bytes every 20 ms, like a call.
 
 Example: python3 python/examples/queues.py 2 | ./dnlab run --workers 4 > report.txt
 """
@@ -17,7 +17,7 @@ QUEUES = ("queue 10", "queue 25", "queue 50", "queue 100", "queue 200", "queue 2
 
 
 def experiment(number: int, queue: str, seed: int) -> str:
-    """The text of one experiment."""
+    """Returns the text of one experiment."""
     begins = sorted(random.Random(seed).sample(range(0, 200_000_000, 1000), 4))
     lines = [f"experiment q{number}-s{seed} seed {seed} budget 1000",
              f"@0 pipe 1 config bw 10Mbit/s delay 20 plr 0.001 {queue}",

@@ -1,4 +1,4 @@
-"""What the tests have in common: where things are, the program, and examples opened."""
+"""Code that the tests share: paths, the program, and opened examples."""
 import os
 import subprocess
 import sys
@@ -10,7 +10,7 @@ from hypothesis import settings
 
 ROOT = Path(__file__).resolve().parent.parent.parent
 sys.path.insert(0, str(ROOT / "python"))
-# The tools are started by the Python that the tests have.
+# The tools run with the same Python as the tests.
 os.environ["PATH"] = os.pathsep.join([os.path.dirname(sys.executable), os.environ["PATH"]])
 
 from dnlab.analysis.view import View  # noqa: E402
@@ -18,16 +18,16 @@ from dnlab.io import report, scenario  # noqa: E402
 from dnlab.programs import program as program_of  # noqa: E402
 
 
-# Whether what is drawn, and what is tried of each scenario, is tried in part: `check_python --quick` says so.
+# True if only a part of the random cases and of the trials for each scenario is run, as `check_python --quick` requests.
 QUICK = bool(os.environ.get("DNLAB_QUICK"))
-# The files that take longest, which begin first, so that no core waits for one of them at the end.
+# The files that take longest. They start first, so that no core waits for one of them at the end.
 LONGEST = ("test_spread", "test_hosts_runs", "test_hosts_endings", "test_sweep", "test_view", "test_endings", "test_green",
            "test_commands", "test_seeds", "test_docs", "test_pages")
 Case = TypeVar("Case")
 
 
 def in_part(cases: Sequence[Case], each: int) -> Sequence[Case]:
-    """All cases, or each so-manieth of them where they are tried in part."""
+    """Returns all cases, or every n-th case if only a part is run."""
     return cases[::each] if QUICK else cases
 
 
@@ -37,7 +37,7 @@ def pytest_collection_modifyitems(items: list[pytest.Item]) -> None:
 
 
 class Examples:
-    """The worked examples: `EXAMPLES / NAME` is the folder of that name, whatever its subject."""
+    """The worked examples: `EXAMPLES / NAME` is the folder of that name, in any topic."""
 
     folder = ROOT / "examples"
 
@@ -49,7 +49,7 @@ class Examples:
 
 
 EXAMPLES = Examples()
-# No files of examples are left. Each run draws new ones; tools/gate/check_python prints the seed.
+# Hypothesis stores no examples. Each run generates new ones; tools/gate/check_python prints the seed.
 settings.register_profile("dnlab", database=None, deadline=None, print_blob=True)
 settings.load_profile("dnlab")
 
@@ -59,7 +59,7 @@ def text_of(name: str, file: str) -> bytes:
 
 
 def view_of(name: str, joined: bool = True) -> View:
-    """The view of an example with one experiment."""
+    """Returns the only experiment of an example."""
     experiment = next(report.read(text_of(name, "expected.txt")))
     plan = scenario.read(text_of(name, "scenario.txt"))[experiment.name] if joined else None
     return View(experiment, plan)
@@ -67,13 +67,13 @@ def view_of(name: str, joined: bool = True) -> View:
 
 @pytest.fixture(scope="session")
 def program() -> str:
-    """The program that DNLAB names, else the one that ./dnlab starts."""
+    """Returns the program that DNLAB names, or by default the one that ./dnlab starts."""
     return program_of()
 
 
 @pytest.fixture(scope="session")
 def alone(program: str) -> Callable[[bytes], bytes]:
-    """Runs a scenario by `dnlab alone`; gives the report."""
+    """Returns a function that runs a scenario with `dnlab alone` and returns the report."""
     def run(text: bytes) -> bytes:
         done = subprocess.run([program, "alone"], input=text, capture_output=True, timeout=300, check=False)
         assert done.returncode == 0, done.stderr
@@ -83,7 +83,7 @@ def alone(program: str) -> Callable[[bytes], bytes]:
 
 @pytest.fixture(scope="session")
 def kernel() -> Path:
-    """The folder of the guest's kernel, built if need be; without the packages for it the test is skipped."""
+    """Returns the folder of the guest's kernel, and builds it if necessary. Skips the test if packages for it are missing."""
     done = subprocess.run([ROOT / "tools" / "hosts", "--kernel"], capture_output=True, text=True, timeout=3600, check=False)
     if done.returncode == 3:
         pytest.skip(f"there is no kernel of the guest: {done.stderr.strip().splitlines()[-1]}")
@@ -92,7 +92,7 @@ def kernel() -> Path:
 
 
 def tool(name: str, *words: object, text: bytes = b"", **more: str) -> tuple[int, str, str]:
-    """Calls a script of tools/; its status, standard output and standard error."""
+    """Runs a script of tools/. Returns its status, standard output and standard error."""
     done = subprocess.run([ROOT / "tools" / name, *map(str, words)], input=text, capture_output=True, timeout=120,
                           check=False, env={**os.environ, **more})
     return done.returncode, done.stdout.decode(), done.stderr.decode()

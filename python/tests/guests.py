@@ -1,4 +1,4 @@
-"""Runs of tools/hosts for tests: a hosts file of one process, and what a run leaves."""
+"""Runs tools/hosts for tests: a hosts file with one process, and the processes that a run leaves."""
 import os
 from pathlib import Path
 from typing import Callable, Iterator
@@ -16,7 +16,7 @@ Run = Callable[..., tuple[int, str, str]]
 
 @pytest.fixture
 def run(kernel: Path, program: str, tmp_path: Path) -> Run:
-    """Writes a hosts file and runs it into tmp_path / 'run'; returns status, output and errors."""
+    """Writes a hosts file and runs it, with the output folder tmp_path / 'run'. Returns status, output and errors."""
     def call(text: str, *words: object) -> tuple[int, str, str]:
         (tmp_path / "test.yaml").write_text(text)
         return tool("hosts", tmp_path / "test.yaml", "--out", tmp_path / "run", *words, DNLAB=program)

@@ -1,4 +1,4 @@
-"""What is worked out by hand in `dnlab.analysis.by_hand` is what the program writes, and each metric has an example there."""
+"""The reports worked out by hand in `dnlab.analysis.by_hand` are those that the program writes, and each metric has an example there."""
 import inspect
 from typing import Callable
 
@@ -16,7 +16,7 @@ def test_the_program_writes_it(run: Run, alone: Callable[[bytes], bytes]) -> Non
 
 
 def test_each_metric_has_an_example() -> None:
-    """Of the drops by cause three stand for all, which are columns alike."""
+    """Three of the drops by cause stand for all, because these columns work in the same way."""
     shown = inspect.getdoc(Metric.of) or ""
     wanted = [word.replace("pN", "p95") for word in WORDS if not word.startswith("drops.")]
     assert [word for word in [*wanted, "drops.full", "drops.lost", "drops.denied"] if f'"{word}"' not in shown] == []

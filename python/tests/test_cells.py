@@ -1,4 +1,4 @@
-"""What neighbouring cells of a sweep tell, runs that are the same, and the small habits of the package."""
+"""Neighbouring cells of a sweep, equal runs, and small properties of the package."""
 import csv
 from pathlib import Path
 
@@ -32,7 +32,7 @@ def test_a_setting_in_words_has_no_neighbours() -> None:
 
 
 def test_runs_that_are_the_same_count_once(tmp_path: Path, program: str) -> None:
-    """Without losses the seeds change nothing, so that nothing has an interval; with them they do. CSV has the settings as given."""
+    """Without losses the seeds change nothing, so no value has an interval; with losses they do. The CSV has the settings as given."""
     template = tmp_path / "t.tmpl"
     template.write_text(ONE)
     status, out, told = tool("sweep", template, "--set", "queue=5,6,7", "--set", "loss=0,0.5", "--seeds", "1-4", "--of", "train 2",

@@ -1,4 +1,4 @@
-"""What `dnlab-expect` writes for CI services, read back by the standard library and by the rules of GitHub's documentation."""
+"""The output of `dnlab-expect` for CI services, parsed with the standard library and by the rules of GitHub's documentation."""
 import os
 import pty
 import subprocess
@@ -26,7 +26,7 @@ train 9: delay.min >= 11ms
 
 @pytest.fixture
 def run(alone: Callable[[bytes], bytes], tmp_path: Path) -> list[Path]:
-    """A report, its scenario and a file of three bounds, of which the second fails."""
+    """Returns a report, its scenario, and a file of three bounds, of which the second fails."""
     paths = [tmp_path / name for name in ("report", "scenario", "bounds,100%.txt")]
     for path, data in zip(paths, (alone(TRAIN.encode()), TRAIN.encode(), BOUNDS.encode())):
         path.write_bytes(data)

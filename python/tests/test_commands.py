@@ -1,4 +1,4 @@
-"""The commands' words, statuses and files, as a user calls them."""
+"""The commands' arguments, statuses and files, called as by a user."""
 import csv
 import io
 import json
@@ -87,7 +87,7 @@ def test_a_column_has_one_name(name: str) -> None:
 
 
 def test_the_printed_table_has_the_names_of_columns() -> None:
-    """Each heading is a column of --csv, but for `drops`, which has all causes; ` ms` stands after those of times alone."""
+    """Each heading is a column of --csv, except for `drops`, which has all causes. Only headings of times end with ` ms`."""
     printed = re.split("  +", tool("summary", REPORT, SCENARIO)[1].split("\n")[0])
     columns = tool("summary", REPORT, SCENARIO, "--csv")[1].split("\n")[0].split(",")
     assert set(printed) - {"drops"} <= {name for column in columns for name in (column, f"{column} ms")}
@@ -125,7 +125,7 @@ def test_several_processes_and_experiments() -> None:
 
 
 def test_notes_are_counted() -> None:
-    """Of many experiments each kind is said once."""
+    """With many experiments each kind of note is printed once."""
     status, _, err = tool("summary", EXAMPLES / "four_experiments" / "expected.txt")
     assert status == 0 and err.count("no scenario") == 1 and "3 of 4 experiments" in err
 

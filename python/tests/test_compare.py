@@ -1,4 +1,4 @@
-"""What `compare` and `expect` find in runs whose times are worked out by hand."""
+"""The results of `compare` and `expect` for runs whose times are calculated by hand."""
 import json
 import os
 import subprocess
@@ -33,7 +33,7 @@ SLOW = TRAIN.replace("8Mbit/s", "4Mbit/s")
 
 @pytest.fixture
 def two(alone: Alone, tmp_path: Path) -> list[Path]:
-    """The files of both runs: a's report and scenario, b's report and scenario."""
+    """Returns the files of both runs: a's report and scenario, b's report and scenario."""
     paths = []
     for name, text in (("a", TRAIN), ("b", SLOW)):
         for kind, data in (("report", alone(text.encode())), ("scenario", text.encode())):
@@ -53,7 +53,7 @@ def test_metrics_and_ratio(two: list[Path]) -> None:
     found = {(one["sender"], one["metric"]): (one["a"], one["b"], one["ratio"], one["judged"])
              for one in json.loads(out)["metrics"]}
     assert status == 1 and not err
-    # At 4 Mbit/s a packet takes 2 ms, so they come after 12, 14, 16, 18 and 20 ms.
+    # At 4 Mbit/s a packet takes 2 ms, so they arrive at 12, 14, 16, 18 and 20 ms.
     assert found["train 9", "delay.p50"] == (13 * 10**6, 16 * 10**6, 16 / 13, "differs")
     assert found["train 9", "delay.p95"] == (15 * 10**6, 20 * 10**6, 20 / 15, "differs")
     assert found["train 9", "goodput"] == (5000 * 8 * 10**9 // (15 * 10**6), 2 * 10**6, 2 * 10**6 / 2666666, "differs")
@@ -68,7 +68,7 @@ def pair(first: Optional[Fraction], second: Optional[Fraction], word: str = "del
 
 
 def test_three_digits_unless_exact() -> None:
-    """1234567 ns are 1.235 ms by three digits; what differs never looks the same, nor like nothing."""
+    """1234567 ns are 1.235 ms with three digits. Values that differ never look equal, and a difference never looks like zero."""
     apart = pair(Fraction(1234567), Fraction(2469134))
     assert apart.shown(exact=False) == ["1.235ms", "2.469ms", "2.000"]
     assert apart.shown(exact=True) == ["1.234567ms", "2.469134ms", "2"]
@@ -102,7 +102,7 @@ def test_where_they_part(two: list[Path]) -> None:
                          "  last equal: none, they diverge at the first line",
                          "  A: line 5: 1000000 ns finish train 9 packet 0 at 1.0",
                          "  B: line 5: 2000000 ns finish train 9 packet 0 at 1.0"]
-    # Of five packets one has left the queue of A by 1 ms, and is in the delay line.
+    # At 1 ms, one of the five packets has left the queue of A and is in the delay line.
     assert [line.split() for line in lines[6:8]] == [
         ["packets", "A", "before", "A", "after", "B", "before", "B", "after"], ["at", "1.0", "5+0", "4+1", "5+0", "5+0"]]
     assert json.loads(tool("compare", a, b, plan, other, "--json")[1])["partings"] == [
@@ -131,26 +131,26 @@ def test_tolerances(two: list[Path]) -> None:
 
 
 def test_serial_numbers_that_shift(alone: Alone) -> None:
-    """A packet more that no line names shifts all serial numbers, and nothing else."""
+    """An additional packet that no line names shifts all serial numbers, and changes nothing else."""
     more = TRAIN.replace("@0 add 100", "@0 pipe 2 config bw 1bit/s\n@0 add 50 pipe 2 tcp from any to any\n@0 add 100")
     first = view(alone, more)
     second = view(alone, more.replace("@0 train", "@0 inject tcp 10.0.0.1 1 10.0.0.2 2 1000\n@0 train"))
     assert second.counters.made == first.counters.made + 1
     assert first.experiment.columns.packet.max() == 4 and second.experiment.columns.packet.max() == 5
     found = parting(first, second)
-    # Only the `ok` of the command that one hasn't is left.
+    # Only the `ok` of the command that one run lacks remains.
     assert found is not None and "inject" in found.told[1].line(found.rows[1] or 0)
     assert parting(first, view(alone, more)) is None
 
 
 def test_a_traced_run_beside_one_that_is_not(alone: Alone) -> None:
-    """Lines that only a traced run has are no difference of what happened; the command is."""
+    """Lines that only a traced run has are not a difference in the events, but the command is."""
     found = parting(view(alone, TRAIN), view(alone, TRAIN.replace("@0 train", "@0 trace 1\n@0 train")))
     assert found is not None and "`trace 1`" in found.told[1].line(found.rows[1] or 0)
 
 
 def test_segments_are_told_by_bytes(alone: Alone) -> None:
-    """Segments that are lost are sent again; where B stops, A's next line is the third sending of the first byte."""
+    """Lost segments are sent again. Where B stops, A's next line is the third transmission of the first byte."""
     text = ("experiment a seed 0 budget 100\n@0 pipe 1 config plr 1\n@0 add 100 pipe 1 ip from any to any\n"
             "@0 flow 1 10.0.0.1 1 10.0.0.2 2 smss 1000 segments 3\n@STOP stop 1\n@9000000000 end\n")
     # The first expiry is after 1 s, the next after 2 s more.
@@ -233,7 +233,7 @@ def test_amounts() -> None:
 
 
 def test_the_fixture(two: list[Path], tmp_path: Path) -> None:
-    """A test file of a user's own, run by pytest."""
+    """Runs a user's own test file with pytest."""
     a, plan, *_ = two
     room = tmp_path / "own"
     room.mkdir()

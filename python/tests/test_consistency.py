@@ -1,4 +1,4 @@
-"""A report of another scenario is refused wherever its lines tell it; what they don't tell stands in docs/reference/tools.md."""
+"""A report of another scenario is refused if its lines show this. docs/reference/tools.md lists what they can't show."""
 from pathlib import Path
 from typing import Callable
 
@@ -18,7 +18,7 @@ CHANGES = [
 
 @pytest.mark.parametrize("old, new, said", CHANGES, ids=[new.strip() for _, new, _ in CHANGES])
 def test_a_stale_report(old: str, new: str, said: str, tmp_path: Path, alone: Callable[[bytes], bytes]) -> None:
-    """Each change makes another report (by the program), and the one of before is refused."""
+    """Each change makes a different report (in the program), and the old report is refused."""
     report, changed = tmp_path / "r.txt", SCENARIO.replace(old, new)
     report.write_bytes(alone(SCENARIO.encode()))
     assert changed != SCENARIO and alone(changed.encode()) != report.read_bytes()
@@ -30,7 +30,7 @@ def test_a_stale_report(old: str, new: str, said: str, tmp_path: Path, alone: Ca
 
 
 def test_losses_that_chance_gives(tmp_path: Path, alone: Callable[[bytes], bytes]) -> None:
-    """A report of 1000 packets at plr 0.3 is taken at 0.3, and refused at 0.1, 0.6 and 0."""
+    """A report of 1000 packets at plr 0.3 is accepted with 0.3, and refused with 0.1, 0.6 and 0."""
     text = ("experiment a seed 1 budget 9\n@0 pipe 1 config plr 0.3\n@0 add 1 pipe 1 ip from any to any\n"
             "@0 train 2 udp 10.0.0.1 1 10.0.0.2 2 100 count 1000 gap 1000\n@2000000 end\n")
     (tmp_path / "r.txt").write_bytes(alone(text.encode()))

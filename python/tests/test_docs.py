@@ -1,4 +1,4 @@
-"""What the notebook docs/howto/queues.ipynb shows is what comes out."""
+"""The notebook docs/howto/queues.ipynb shows the output that its cells produce."""
 import pytest
 from conftest import ROOT
 
@@ -6,12 +6,12 @@ pytest.importorskip("pandas", reason="pandas is missing (Debian: python3-pandas)
 
 
 def plain(text: str) -> str:
-    """A text without spaces at the ends of lines."""
+    """Returns a text without spaces at the ends of its lines."""
     return "\n".join(line.rstrip() for line in text.strip().split("\n"))
 
 
 def told(cell) -> list[str]:
-    """What a cell put out, as text; of pictures that there is one."""
+    """Returns the output of a cell as text. For a picture, it only returns that there is one."""
     found = []
     for output in cell.get("outputs", []):
         data = output.get("data", {})
@@ -25,7 +25,7 @@ def told(cell) -> list[str]:
 
 
 def test_the_notebook(program: str, monkeypatch: pytest.MonkeyPatch) -> None:
-    """It runs in the folder in which it lies, where nothing says where the package is."""
+    """It runs in its own folder, where nothing sets the path of the package."""
     nbformat = pytest.importorskip("nbformat", reason="nbconvert is missing (Debian: python3-nbconvert)")
     execute = pytest.importorskip("nbconvert.preprocessors", reason="nbconvert is missing (Debian: python3-nbconvert)")
     pytest.importorskip("ipykernel", reason="ipykernel is missing (Debian: python3-ipykernel)")

@@ -1,4 +1,4 @@
-"""How long runs end: at random moments a signal comes to the tool, to its group, or kills it, a worker or a program.
+"""How long runs end: at random times a signal is sent to the tool or its group, or kills it, a worker or a program.
 
 Each time all has ended within two seconds (longer on a machine that is busy besides), nothing is left (of a tool that was
 killed: after the next call), one line says why and how much is kept, and the next call goes on to the same bytes. DNLAB_MOMENTS says how many moments are tried (24);
@@ -23,7 +23,7 @@ pytest.importorskip("scipy", reason="scipy is missing (Debian: python3-scipy)")
 from conftest import QUICK, ROOT  # noqa: E402
 
 MOMENTS = int(os.environ.get("DNLAB_MOMENTS", "9" if QUICK else "24"))
-# Texts of some 30 KB, so that those of a few experiments are more than a pipe holds.
+# Texts of about 30 KB, so that the texts of a few experiments are larger than a pipe's buffer.
 LINK = """experiment {{ name }} seed {{ seed }} budget 1000
 @0 pipe 1 config bw 10Mbit/s delay 20 queue {{ queue }}
 @0 add 100 pipe 1 ip from any to any
@@ -35,22 +35,22 @@ LINK = """experiment {{ name }} seed {{ seed }} budget 1000
 EXPERIMENTS = 60
 WORDS = ["link.tmpl", "--set", "queue=10,50", "--seeds", "1-30", "--of", "injected", "--stat", "delay.p50,lost",
          "--csv", "table.csv", "--workers", "2"]
-# What comes to whom, in turn.
+# The signals and their targets, which are used in turn.
 WAYS = [(signal.SIGINT, "tool"), (signal.SIGTERM, "tool"), (signal.SIGHUP, "tool"), (signal.SIGINT, "group"),
         (signal.SIGKILL, "tool"), (signal.SIGTERM, "group"), (signal.SIGKILL, "worker"), (signal.SIGHUP, "group"),
         (signal.SIGKILL, "program")]
-# Before this Python itself begins, and says of Ctrl-C what it says (s).
+# The time (s) in which Python itself starts, and reacts to Ctrl-C in its own way.
 BEGINNING = 0.2
 
 
 def heed_signals() -> None:
-    """Takes signals as a terminal's program does, also where pytest was started by nohup or in the background of a script."""
+    """Handles signals like a program in a terminal, even if pytest was started by nohup or in the background of a script."""
     for number in signal.SIGINT, signal.SIGTERM, signal.SIGHUP:
         signal.signal(number, signal.SIG_DFL)
 
 
 class Place:
-    """A folder with a template, where a sweep is called; temporary files have a folder of their own."""
+    """A folder with a template, in which sweeps run. Temporary files have their own folder."""
 
     def __init__(self, folder: Path, program: str) -> None:
         self.folder = folder
@@ -73,13 +73,13 @@ class Place:
             return 0
 
     def left(self) -> list[str]:
-        """Temporary files, and what is half beside the template."""
+        """Returns temporary files, and incomplete files next to the template."""
         return [*os.listdir(self.room), *(name for name in os.listdir(self.folder)
                                           if name not in ("tmp", "link.tmpl", "link.tmpl.kept", "table.csv"))]
 
 
 def session(number: int) -> Iterator[tuple[int, str]]:
-    """The processes of a session that go on, with their words."""
+    """Yields the processes of a session that still run, with their command lines."""
     for entry in os.listdir("/proc"):
         try:
             if entry.isdigit():
@@ -91,7 +91,7 @@ def session(number: int) -> Iterator[tuple[int, str]]:
 
 
 def send(going: "subprocess.Popen[str]", number: signal.Signals, whom: str, program: str) -> bool:
-    """Sends a signal as soon as the one is there whom it is for; whether it came to be sent."""
+    """Sends a signal as soon as its target exists. Returns true if it was sent."""
     pattern = {"worker": "worker.py", "program": f"^{re.escape(program)} alone"}.get(whom)
     while going.poll() is None:
         if whom == "tool":
@@ -108,14 +108,14 @@ def send(going: "subprocess.Popen[str]", number: signal.Signals, whom: str, prog
 
 
 def judge_line(place: Place, way: tuple[signal.Signals, str], moment: float, status: int, err: str) -> None:
-    """The status and the one line, where it was told to end and hadn't ended by itself."""
+    """Checks the status and the one line of a call that was told to end, unless it had ended by itself."""
     number, whom = way
     if whom in ("worker", "program"):
         assert status == 3 and "SIGKILL" in err
     else:
         assert status == -number, err
     if number == signal.SIGKILL and whom == "tool":
-        # Nothing, or the closing line, where it was killed between that and its end.
+        # Nothing, or the closing line if it was killed between that line and its end.
         done = rf"sweep: {EXPERIMENTS} experiments: \d+ were run, \d+ were kept in link.tmpl.kept\n"
         assert not err or re.fullmatch(done, err) and place.kept() == EXPERIMENTS, err
         return
@@ -130,7 +130,7 @@ def judge_line(place: Place, way: tuple[signal.Signals, str], moment: float, sta
 
 
 def finished(going: "subprocess.Popen[str]", seconds: float = 60) -> str:
-    """What a call has said at its end; one that hangs is ended, and says where its Python is."""
+    """Returns the output of a call at its end. A call that hangs is ended, and prints where its Python is."""
     try:
         return going.communicate(timeout=seconds)[1]
     except subprocess.TimeoutExpired:
@@ -143,12 +143,12 @@ def finished(going: "subprocess.Popen[str]", seconds: float = 60) -> str:
 
 
 def patience() -> float:
-    """Two seconds, and longer where more processes want a core than there are cores: each has its share alone."""
+    """Returns two seconds, or more if there are more running processes than cores, because each gets only its share."""
     return 2 * max(1.0, os.getloadavg()[0] / (os.cpu_count() or 1))
 
 
 def one_moment(place: Place, way: tuple[signal.Signals, str], moment: float) -> Optional[str]:
-    """Begins a sweep, and has it ended so long after; what it said where it was ended, None where it was done before."""
+    """Starts a sweep, and ends it after a time. Returns its output if it was ended, or None if it was done before."""
     number, whom = way
     going = place.begin()
     try:
@@ -190,11 +190,11 @@ def test_a_sweep_is_ended_at_any_moment(tmp_path: Path, program: str) -> None:
         print(turn, WAYS[turn % len(WAYS)], round(time.monotonic() - begun, 1), repr(said))
         ended += said is not None
         if said is None or turn % 9 == 4:
-            # The next call goes on; of one that was killed it removes what is left.
+            # The next call continues. After a call that was killed, it removes the remains.
             done = place.begin()
             err = finished(done)
             assert done.returncode == 0 and (tmp_path / "table.csv").read_bytes() == table, err
             assert place.kept() == EXPERIMENTS and not place.left()
             (tmp_path / "link.tmpl.kept").unlink()
-    # Most of the moments lie within the run.
+    # Most of the times are within the run.
     assert ended > MOMENTS / 2

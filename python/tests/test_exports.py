@@ -1,4 +1,4 @@
-"""tools/to-ipfw and tools/to-tc: the exported commands, read again by other programs: sh with a stand-in for ipfw, and tc itself."""
+"""tools/to-ipfw and tools/to-tc: other programs read the exported commands: sh with a stand-in for ipfw, and tc itself."""
 import shutil
 import subprocess
 from pathlib import Path
@@ -18,7 +18,7 @@ SCENARIO = HEAD + """@0 pipe 1 config bw 10Mbit/s delay 20 queue 200 plr 0.01
 @0 train 9 udp 10.0.1.2 5004 10.0.0.2 5005 228 count 10 gap 2000000
 @1000000000 end
 """
-# What the kernel says of a qdisc or a filter that it hasn't; all else would be tc's own complaint about a word.
+# The kernel's messages about a qdisc or a filter that it lacks. Every other message would be tc's complaint about an argument.
 KERNEL = ("TC classifier not found", "Specified qdisc kind is unknown", "We have an error talking to the kernel", "Unknown device type",
           "RTNETLINK answers", "Failed to load TC action module", "Specified class not found", "Operation not supported")
 
@@ -30,8 +30,8 @@ def text_file(folder: Path, text: str) -> Path:
 
 
 def test_ipfw_takes_it_back(tmp_path: Path) -> None:
-    """By hand: rule 100's source is behind em1, so it acts coming in; rule 200's destination is, so going out. The stand-in's
-    words, read as a configuration again, are the scenario's commands and the default."""
+    """By hand: rule 100's source is behind em1, so it acts on incoming packets; rule 200's destination is, so on outgoing ones. The stand-in's
+    arguments, read as a configuration again, are the scenario's commands and the default."""
     status, script, told = tool("to-ipfw", text_file(tmp_path, SCENARIO), "--if", "em1=10.0.1.0/24")
     assert (status, told) == (0, "")
     assert "\nipfw -q add 100 pipe 1 udp from 10.0.1.0/24 to any 5000-5010 in recv em1\n" in script
@@ -53,7 +53,7 @@ def test_ipfw_refuses_what_acts_twice(tmp_path: Path) -> None:
 
 
 def test_ipfw_rules_of_any(tmp_path: Path) -> None:
-    """A rule between any addresses matches each packet coming in and going out, whatever lies beyond an interface."""
+    """A rule between any addresses matches every incoming and outgoing packet, whatever addresses are behind an interface."""
     file = text_file(tmp_path, HEAD + "@0 pipe 1 config delay 5\n@0 add 5 pipe 1 ip from any to any\n@9 end\n")
     for words in ([], ["--if", "em0=any"], ["--if", "em1=10.0.1.0/24"]):
         status, said, told = tool("to-ipfw", file, *words)
@@ -70,8 +70,8 @@ def test_ipfw_rules_of_any(tmp_path: Path) -> None:
     ("from 10.0.1.0/24 to any", ["em0=any"], ""),
     ("from any to 10.0.1.0/24", ["em0=any"], "")])
 def test_ipfw_directions(ends: str, behind: list[str], wanted: str, tmp_path: Path) -> None:
-    """By hand: an address lies beyond the interface of the longest prefix that holds it, as a router's table has it; a packet both of
-    whose ends lie beyond one interface has no direction there."""
+    """By hand: an address is behind the interface with the longest prefix that contains it, as in a routing table. A packet with
+    both ends behind the same interface has no direction there."""
     file = text_file(tmp_path, HEAD + f"@0 pipe 1 config delay 5\n@0 add 5 pipe 1 ip {ends}\n@9 end\n")
     status, script, told = tool("to-ipfw", file, *(word for one in behind for word in ("--if", one)))
     if wanted:
@@ -81,7 +81,7 @@ def test_ipfw_directions(ends: str, behind: list[str], wanted: str, tmp_path: Pa
 
 
 def test_ipfw_says_what_it_removes(tmp_path: Path) -> None:
-    """Before anything is done the script's comments say what it does to the machine's own rules."""
+    """The comments at the start of the script state what it does to the machine's own rules."""
     _, script, _ = tool("to-ipfw", text_file(tmp_path, SCENARIO), "--host")
     head = script[:script.index("\nkldload")]
     assert "removes all existing rules and pipes" in head and "`65534 deny ip from any to any`" in head and "incoming packets" in head
@@ -101,13 +101,13 @@ def test_ipfw_moments(tmp_path: Path) -> None:
 def test_ipfw_limits_and_senders(tmp_path: Path) -> None:
     status, _, told = tool("to-ipfw", text_file(tmp_path, HEAD + "@0 pipe 1 config delay 10001\n@9 end\n"), "--host")
     assert status == 2 and "10000 ms" in told
-    # By hand: 228 bytes are 200 of load, every 2 ms: 800000 bit/s; 10 packets are 2000 bytes.
+    # By hand: 228 bytes have a payload of 200, every 2 ms: 800000 bit/s; 10 packets are 2000 bytes.
     status, script, _ = tool("to-ipfw", text_file(tmp_path, SCENARIO), "--host", "--iperf")
     assert "iperf3 -c 10.0.0.2 -p 5005 -u -l 200 -b 800000 -n 2000" in script
 
 
 def test_tc_words(tmp_path: Path) -> None:
-    """By hand: a class, its queue, and what flies for 20 ms at 10 Mbit/s in the smallest packets (390), and 1000 more."""
+    """By hand: a class, its queue, and the smallest packets in flight for 20 ms at 10 Mbit/s (390), and 1000 more."""
     text = SCENARIO.replace(" mask src-ip 0xffffffff", "")
     status, script, told = tool("to-tc", text_file(tmp_path, text), "--dev", "eth1", "--in", "eth0")
     assert (status, told) == (0, "")
@@ -140,7 +140,7 @@ def test_tc_refuses(lines: str, wanted: str, tmp_path: Path) -> None:
 
 
 def test_tc_itself(tmp_path: Path) -> None:
-    """tc, in a network namespace of its own, complains about no word: what it can't do is the kernel's."""
+    """tc, in its own network namespace, accepts every argument: its errors come from the kernel."""
     apart = ["unshare", "--map-root-user", "--net", "--mount"]
     if not shutil.which("tc") or subprocess.run([*apart, "true"], capture_output=True, check=False).returncode:
         pytest.skip("tc or namespaces are missing (Debian: iproute2, util-linux)")
@@ -167,7 +167,7 @@ def test_experiments(tmp_path: Path) -> None:
 
 @pytest.mark.parametrize("name", ["em0;touch X", "em0 em1", "$(x)", "`x`", "em0\nx", "-x", "0em", "a" * 40])
 def test_names_of_interfaces(name: str) -> None:
-    """They go into a script, so they have no other characters than FreeBSD's."""
+    """Names are written to a script, so only the characters of FreeBSD's names are allowed."""
     for words in (["to-ipfw", "none.txt"], ["from-ipfw", "none.sh"]):
         status, out, told = tool(*words, f"--if={name}=10.0.0.0/24")
         assert (status, out) == (2, "") and "an interface and the addresses behind it" in told

@@ -1,4 +1,4 @@
-"""tools/from-ipfw: five configurations of an administrator's, and what each word of ipfw(8) becomes.
+"""tools/from-ipfw: five configurations of an administrator, and the result of each word of ipfw(8).
 
 The expected commands beside the scripts (tests/ipfw/NAME.txt) were worked out by hand from ipfw(8) and docs/reference/scenario.md.
 """
@@ -15,14 +15,14 @@ from dnlab.io.ipfw_words import APPROXIMATED, DROPPED, REFUSED, REWRITTEN, SAME,
 
 FOLDER = Path(__file__).parent / "ipfw"
 INTERFACES = ("--if", "em1=10.0.1.0/24", "--if", "dc0=any", "--if", "igb0=any", "--if", "igb1=any", "--me", "203.0.113.10")
-# Counted by hand in the scripts: lines of ipfw and sysctl, those with nothing to do (`flush` at the beginning, the loopback
-# interface, `check-state`), and those that need what isn't here (icmp, frag, established; sched, queue, and rules to queues).
+# Counted by hand in the scripts: lines of ipfw and sysctl, those without an effect (`flush` at the start, the loopback
+# interface, `check-state`), and those that need missing features (icmp, frag, established; sched, queue, and rules to queues).
 LINES = {"wanem": (9, 3, 0), "handbook-stateful": (23, 3, 4), "hotel-per-host": (20, 2, 0), "bufferbloat-fq-codel": (12, 1, 6),
          "satellite-voip": (22, 3, 4)}
 
 
 def imported(*lines: str, **more: object) -> list[Became]:
-    """What lines of ipfw become."""
+    """Imports lines of ipfw."""
     one = Import(**{"behind": {"em1": "10.0.1.0/24"}, **more})  # type: ignore[arg-type]
     one.take_all([Line((("sysctl",) if line.startswith("net.") else ("ipfw",)) + tuple(line.split())) for line in lines])
     return one.became
@@ -49,7 +49,7 @@ def test_configurations(name: str, tmp_path: Path, alone: Callable[[bytes], byte
 
 
 def test_how_many_come_through() -> None:
-    """72 of 86: the fourteen that don't are the firewall's flags and ICMP, and weighted queues."""
+    """72 of 86 lines are imported. The other fourteen have the firewall's flags and ICMP, and weighted queues."""
     assert sum(lines for lines, _, _ in LINES.values()) == 86
     assert sum(lines - refused for lines, _, refused in LINES.values()) == 72
 
@@ -62,7 +62,7 @@ def test_refused_lines_leave_no_file(tmp_path: Path) -> None:
 
 
 def test_flattened() -> None:
-    """Queues hand to their pipes: by hand, rules 1000 and 1010 go to pipe 1, and nothing is refused."""
+    """Rules to queues become rules to their pipes. By hand: rules 1000 and 1010 go to pipe 1, and nothing is refused."""
     status, said, told = tool("from-ipfw", FOLDER / "satellite-voip.sh", "--flatten")
     assert status == 0 and " 0 refused" in told and "weight, queue, mask and red are lost" in told
     assert "@0 add 1000 pipe 1 udp from any 5060 to 192.0.2.0/24\n" in said
@@ -70,7 +70,7 @@ def test_flattened() -> None:
 
 
 def test_flattened_schedulers() -> None:
-    """FQ-CoDel's pipe becomes one of CoDel with its times."""
+    """A pipe with FQ-CoDel becomes a pipe with CoDel and the same times."""
     became = imported("pipe 1 config bw 9Mbit/s delay 5", "sched 1 config pipe 1 type fq_codel target 4ms interval 80ms flows 1024",
                       "queue 1 config sched 1 weight 9", "add 10 queue 1 ip from any to any", flatten=True)
     assert became[1].commands == ("pipe 1 config bw 9Mbit/s delay 5 codel target 4ms interval 80ms",)
@@ -79,8 +79,8 @@ def test_flattened_schedulers() -> None:
 
 
 def test_what_the_rules_do(tmp_path: Path, alone: Callable[[bytes], bytes]) -> None:
-    """By hand: to port 24 rule 2000 sends 320 bytes by pipe 2, 256 kbit/s and 270 ms, and 2099 allows them (1 ns): 280000001 ns.
-    To port 22 `not dst-port 22` goes around it: 1 ns. A packet of tcp to port 23 is denied by rule 2020 behind the pipe."""
+    """By hand: rule 2000 sends 320 bytes to port 24 through pipe 2, 256 kbit/s and 270 ms, and 2099 allows them (1 ns): 280000001 ns.
+    With `not dst-port 22`, packets to port 22 bypass it: 1 ns. Rule 2020 after the pipe denies a TCP packet to port 23."""
     traffic = tmp_path / "traffic.txt"
     traffic.write_text("@1000000000 inject udp 192.0.2.1 1000 198.51.100.1 24 320\n@2000000000 inject udp 192.0.2.1 1000 198.51.100.1 22 320\n"
                        "@3000000000 inject tcp 192.0.2.1 1000 198.51.100.1 23 320\n")
@@ -92,7 +92,7 @@ def test_what_the_rules_do(tmp_path: Path, alone: Callable[[bytes], bytes]) -> N
     assert "3280000000 drop 2 plain denied" in report
 
 
-# By the words of ipfw(8): what a unit is, what a number in front of a rule is, who matches.
+# According to ipfw(8): units, numbers in front of a rule, and the packets that match.
 @pytest.mark.parametrize("line, kind, commands", [
     ("pipe 1 config bw 10Mbit/s delay 20 queue 50 plr 0.01", SAME, ["pipe 1 config bw 10Mbit/s delay 20 queue 50 plr 0.01"]),
     ("pipe 1 config bw 10Mb/s", REWRITTEN, ["pipe 1 config bw 10Mbit/s"]),
@@ -151,7 +151,8 @@ def test_lines(line: str, kind: str, commands: list[str]) -> None:
     assert became(line) == (kind, tuple(commands))
 
 
-# What matches packets of tcp or udp: by ipfw(8) a body left out is any, `not` turns a protocol, and options may stand alone.
+# Rules that match packets of TCP or UDP. According to ipfw(8) an omitted body is any, `not` negates a protocol, and options
+# can appear alone.
 @pytest.mark.parametrize("line, command", [
     ("add 100 deny not icmp from any to any", "deny ip from any to any"),
     ("add 100 deny not tcp from any to any", "deny udp from any to any"),
@@ -183,14 +184,14 @@ def test_what_isnt_read_is_never_dropped(body: str) -> None:
 
 
 def test_directions_of_a_host() -> None:
-    """With --me and no --if what goes out has the host's address as its source, and what comes in as its destination."""
+    """With --me and no --if, outgoing packets have the host's address as source, and incoming ones as destination."""
     rules = imported("add 1 pipe 1 out", "add 2 pipe 2 in", "add 3 allow ip from 10.0.0.1 to any out", behind={}, me="10.0.0.9")
     assert [one.commands[0] for one in rules] == ["add 1 pipe 1 ip from 10.0.0.9 to any", "add 2 pipe 2 ip from any to 10.0.0.9",
                                                   "add 3 allow ip from 10.0.0.1 to any"]
 
 
 def test_any_address_behind_an_interface() -> None:
-    """Nothing narrows the rule, so the note says that the direction is lost."""
+    """Nothing narrows the rule, so the note states that the direction is lost."""
     deny, via = imported("add 1 deny tcp from any to any 113 in via em0", "add 2 deny udp from any to any via em0", behind={"em0": "any"})
     assert deny.commands == ("add 1 deny tcp from any to any 113",) and via.commands == ("add 2 deny udp from any to any",)
     assert "left out" in deny.said[0] and "packets the other way now match too" in deny.said[0] and "left out" in via.said[0]
@@ -209,8 +210,8 @@ def test_rates_that_arent_read(word: str) -> None:
 
 
 def test_denied_by_chance(alone: Callable[[bytes], bytes]) -> None:
-    """By hand: under one_pass 1 a packet that leaves pipe 1 is through (100 bytes at 1 Mbit/s: 0.8 ms, 1 ns of a delay of 0, and 1 ns of
-    `allow`), though rule 300 would deny it; one to port 9 goes by the pipe that loses nothing (1 ns) and is denied by rule 300."""
+    """By hand: with one_pass 1 a packet that leaves pipe 1 is delivered (100 bytes at 1 Mbit/s: 0.8 ms, 1 ns for a delay of 0, and 1 ns for
+    `allow`), although rule 300 would deny it. A packet to port 9 goes through the pipe without loss (1 ns), and rule 300 denies it."""
     lines = ["pipe 1 config bw 1Mbit/s", "add 100 pipe 1 udp from any to any 7", "add 200 prob 0 deny ip from any to any",
              "add 300 deny udp from any to any"]
     one = [command for each in imported(*lines) for command in each.commands]
@@ -221,7 +222,7 @@ def test_denied_by_chance(alone: Callable[[bytes], bytes]) -> None:
 
 
 def test_dummynets_own_examples() -> None:
-    """Of the 29 lines of ipfw(8)'s and dummynet's examples four are refused: two that route by chance, a rate by an interface, and `call`."""
+    """Four of the 29 lines of ipfw(8)'s and dummynet's examples are refused: two that route at random, a rate of an interface, and `call`."""
     status, said, told = tool("from-ipfw", FOLDER / "dummynet-examples.sh", "--flatten", "--me", "10.9.9.9", "--lenient")
     assert status == 0 and "29 lines: " in told and " 4 refused" in told
     assert [line.split(": add ")[-1].split(": pipe ")[-1] for line in told.splitlines() if line.startswith("refused: ")] == [
@@ -230,7 +231,7 @@ def test_dummynets_own_examples() -> None:
 
 
 def test_refusals_have_a_way_out() -> None:
-    """Each names the word, and says what to do instead."""
+    """Each refusal names the word, and what to do instead."""
     for line, *wanted in (("add 1 allow ip from any to any in via em7", "em7", "--if em7="), ("add 1 allow ip from me to any", "me", "--me"),
                           ("pipe 1 config plr 1%", "1%", "0.01"), ("pipe 1 config bw em0", "em0", "10Mbit/s"),
                           ("add 1 prob 0.5 allow ip from any to any", "prob", "addresses and ports")):
@@ -239,7 +240,7 @@ def test_refusals_have_a_way_out() -> None:
 
 
 def test_a_direction_left_out() -> None:
-    """Without `out` a pipe between any addresses gets packets that come in too; one from an address of its own doesn't."""
+    """Without `out`, a pipe between any addresses also receives incoming packets. A pipe from the host's own address does not."""
     pipe, rule, own = (imported(line)[-1].said for line in (
         "add 1 pipe 1 ip from any to any out", "add 1 deny ip from any to any in", "add 1 pipe 1 ip from 10.0.0.1 to any out"))
     assert len(pipe) == 1 and "packets the other way now go through this pipe too" in pipe[0] and "narrow" in pipe[0]
@@ -248,7 +249,7 @@ def test_a_direction_left_out() -> None:
 
 
 def test_numbers_of_rules() -> None:
-    """ipfw(8): by itself a rule's number is the greatest so far and 100."""
+    """ipfw(8): the default number of a rule is the maximum so far plus 100."""
     rules = imported("add allow ip from any to any", "add 250 allow ip from any to any", "add allow ip from any to any",
                      "add 60 allow ip from any to any", "add allow ip from any to any", "add fwd 1.2.3.4 ip from any to any",
                      "add allow ip from any to any")
@@ -256,7 +257,7 @@ def test_numbers_of_rules() -> None:
 
 
 def test_tables() -> None:
-    """The longest prefix goes first, as a table's value goes by it."""
+    """The longest prefix comes first, because it determines a table's value."""
     rules = imported("table 1 add 10.0.0.0/8 1", "table 1 add 10.1.0.0/16 2", "add 5 pipe tablearg ip from table(1) to any",
                      "add 6 allow ip from any to table(9)")
     assert rules[2].commands == ("add 5 pipe 2 ip from 10.1.0.0/16 to any", "add 5 pipe 1 ip from 10.0.0.0/8 to any")
@@ -278,7 +279,7 @@ def test_disabled_sets() -> None:
 
 
 def test_listings() -> None:
-    """What `ipfw pipe show` and `ipfw show` print (FreeBSD's ipfw(8))."""
+    """Reads the output of `ipfw pipe show` and `ipfw show` (FreeBSD's ipfw(8))."""
     text = """00001:  10.000 Mbit/s   20 ms burst 0
 q131073  50 sl.plr 0.010000 0 flows (1 buckets) sched 65537 weight 0 lmax 0 pri 0 droptail
  sched 65537 type FIFO flags 0x0 0 buckets 0 active

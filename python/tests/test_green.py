@@ -1,4 +1,4 @@
-"""Green means green: what went wrong is an error or a bound that fails, with the reason, in each tool."""
+"""Green means green: in each tool, a problem is an error or a failed bound, with the reason."""
 import gzip
 import json
 import os
@@ -17,7 +17,7 @@ from dnlab.analysis.tables import jitter
 
 np = pytest.importorskip("numpy", reason="numpy is missing (Debian: python3-numpy)")
 Alone = Callable[[bytes], bytes]
-# A call of 100 bytes each 20 ms beside five packets of 1000 bytes, over 8 Mbit/s and 10 ms: a packet of 1000 bytes takes
+# A call of 100 bytes every 20 ms and five packets of 1000 bytes, over 8 Mbit/s and 10 ms: a packet of 1000 bytes takes
 # 1 ms, one of 100 bytes 0.1 ms.
 CALL = """experiment a seed 0 budget 100
 @0 pipe 1 config bw 8Mbit/s delay 10
@@ -29,7 +29,7 @@ CALL = """experiment a seed 0 budget 100
 SLOW = CALL.replace("experiment a", "experiment b").replace("8Mbit/s", "4Mbit/s")
 REFUSED = CALL.replace("@1000000 train", "@0 add 70000 allow ip from any to any\n@1000000 train").replace("train 1 ", "train 9 ")
 SPENT = CALL.replace("budget 100", "budget 100 steps 8")
-# Two segments of 1000 bytes with headers, of which the second is lost for good at the end.
+# Two flows with segments of 1000 bytes, headers included. Flow 1 has 4 segments and ends, flow 2 has 4000 and does not.
 FLOWS = """experiment f seed 0 budget 100
 @0 pipe 1 config bw 8Mbit/s delay 10
 @0 pipe 2 config delay 10
@@ -43,7 +43,7 @@ FLOWS = """experiment f seed 0 budget 100
 
 @pytest.fixture
 def files(alone: Alone, tmp_path: Path) -> Callable[..., list[Path]]:
-    """Report and scenario of a text, as files."""
+    """Returns a function that writes the report and the scenario of a text to files."""
     def made(text: str, name: str = "call") -> list[Path]:
         report, scenario = tmp_path / f"{name}.report", tmp_path / f"{name}.txt"
         scenario.write_text(text)
@@ -61,7 +61,7 @@ def test_refused_commands_fail(files: Callable[..., list[Path]]) -> None:
     for words, wanted in ((["--allow", "refused"], 0), (["--allow", "spent"], 1), (["--allow", "spent,refused"], 0),
                           (["--allow", "denied"], 2), (["--first"], 1), (["--json"], 1), (["--allow=refused", "--json"], 0)):
         assert tool("expect", *texts, "train 9: delay.p95 < 50ms", *words)[0] == wanted, words
-    # Without the scenario it is known too.
+    # It is also known without the scenario.
     status, out, _ = tool("expect", texts[0], "all: drops == 0")
     assert status == 1 and "command 3 at 0 ns (10: " in out
     assert tool("expect", *texts, "all: refused == 2", "--allow", "refused")[0] == 0
@@ -139,7 +139,7 @@ def test_a_tolerance_that_judges_nothing(files: Callable[..., list[Path]]) -> No
 
 
 def test_what_both_lack_is_not_within(files: Callable[..., list[Path]]) -> None:
-    """Flow 1 ended and flow 2 didn't, in both: the tolerance on completion can't be kept by what isn't there."""
+    """In both runs flow 1 ended and flow 2 didn't. A missing value can't be within the tolerance on completion."""
     report, plan = files(FLOWS, "flows")
     status, out, _ = tool("compare", report, report, plan, "--tolerance", "fct=5%")
     row = next(line for line in out.split("\n") if " flow 2 " in line)
@@ -255,7 +255,7 @@ def test_patterns_name_flows(files: Callable[..., list[Path]]) -> None:
 
 
 def test_bounds_that_say_nothing(files: Callable[..., list[Path]]) -> None:
-    """A bound that holds whatever happens fails, with the reason, unless that is allowed."""
+    """A bound that always holds fails, with the reason, unless that is allowed."""
     call = files(CALL)
     for bound, said in (("train 9: loss >= 0%", "any value of loss satisfies it"), ("train 9: loss <= 100%", "any value of loss"),
                         ("train 9: drops >= 0", "any value of drops"), ("train 9: delay.p95 > 0ms", "")):
@@ -284,7 +284,7 @@ def test_percentiles_below_the_first(files: Callable[..., list[Path]]) -> None:
 
 
 def test_packets_dropped_for_the_budget_fail(files: Callable[..., list[Path]]) -> None:
-    """By hand: of five packets at once four go beyond the budget."""
+    """By hand: four of five packets at once exceed the budget."""
     texts = files(CALL.replace("budget 100", "budget 1"))
     status, out, _ = tool("expect", *texts, "train 9: delay.p95 < 150ms")
     assert status == 1 and "FAILS  budget: experiment a: train 9: 4 of 5 packets" in out
@@ -292,7 +292,7 @@ def test_packets_dropped_for_the_budget_fail(files: Callable[..., list[Path]]) -
 
 
 def test_run_and_judge_at_once(files: Callable[..., list[Path]], tmp_path: Path) -> None:
-    """`--run` judges a report that it has just made, so that none can be of another scenario."""
+    """`--run` judges a report that it has just made, so that it can't belong to another scenario."""
     report, scenario = files(CALL)
     report.unlink()
     bounds = tmp_path / "bounds.txt"
@@ -317,12 +317,12 @@ def test_a_bound_on_delay_that_losses_make_easy(files: Callable[..., list[Path]]
 
 
 def test_figures_by_hand(files: Callable[..., list[Path]]) -> None:
-    """Train 9: 11, 12, 13, 14, 15 ms. Train 1 is made at 1, 21 and 41 ms; its first packet waits for the five, to 5 ms, and
-    takes 0.1 ms: 14.1, 10.1, 10.1 ms. The pipe serves 5300 bytes from 0 to 41.1 ms: 42400 bit of 328800."""
+    """Train 9: 11, 12, 13, 14, 15 ms. Train 1 sends at 1, 21 and 41 ms; its first packet waits for the five until 5 ms, and
+    takes 0.1 ms: 14.1, 10.1, 10.1 ms. The pipe serves 5300 bytes from 0 to 41.1 ms: 42400 of 328800 bits."""
     texts = files(CALL)
     rows = {row["sender"]: row for row in json.loads(tool("summary", *texts, "--json")[1])}
     assert rows["train 9"]["mean"] == 13 * 10**6 and rows["train 1"]["mean"] == 34.3 * 10**6 / 3
-    # Four differences of 1 ms: 1 - (15/16)^4 of it. Then 4 ms and 0: 4/16 * 15/16.
+    # Four differences of 1 ms: (1 - (15/16)^4) ms. Then 4 ms and 0: 4/16 * 15/16.
     assert rows["train 9"]["jitter"] == pytest.approx(10**6 * (1 - (15 / 16) ** 4), rel=1e-12)
     assert rows["train 1"]["jitter"] == pytest.approx(4 * 10**6 / 16 * 15 / 16, rel=1e-12)
     assert rows["pipe 1.0"]["utilisation"] == pytest.approx(42400 / 328800, rel=1e-12)
@@ -333,7 +333,7 @@ def test_figures_by_hand(files: Callable[..., list[Path]]) -> None:
 
 
 def test_jitter_as_the_page_has_it() -> None:
-    """RFC 3550, section 6.4.1, step by step; of fewer than two packets there is none."""
+    """RFC 3550, section 6.4.1, step by step. Fewer than two packets have no jitter."""
     drawn = np.random.RandomState(1).randint(0, 10**9, 5000)
     told = 0.0
     for before, now in zip(drawn, drawn[1:]):
@@ -343,11 +343,11 @@ def test_jitter_as_the_page_has_it() -> None:
 
 
 def test_utilisation_of_a_link_that_changes(files: Callable[..., list[Path]]) -> None:
-    """8 Mbit/s to 2 ms, then 4: two packets by 2 ms, the three others by 2 ms each, to 8 ms: 40000 bit of 16000 + 24000."""
+    """8 Mbit/s until 2 ms, then 4: two packets by 2 ms, the other three in 2 ms each, until 8 ms: 40000 of 16000 + 24000 bits."""
     text = CALL.replace("@1000000 train", "@2000000 pipe 1 config bw 4Mbit/s delay 10\n@2000000 train").replace("2 100 count 3", "2 100 count 1")
     rows = {row["sender"]: row for row in json.loads(tool("summary", *files(text), "--json")[1])}
-    # The rate changes while the third packet is in service (from 2 ms on), since the command comes before that finish: the
-    # packet that finishes at 2 ms ends the period. The small one takes 0.2 ms: to 8.2 ms, 40800 bit of 16000 + 24800.
+    # The rate changes while the third packet is in service (from 2 ms on), because the command precedes that finish: the
+    # packet that finishes at 2 ms ends the period. The small one takes 0.2 ms: until 8.2 ms, 40800 of 16000 + 24800 bits.
     assert rows["pipe 1.0"]["last"] == 8_200_000 and rows["pipe 1.0"]["utilisation"] == 1
 
 
@@ -386,7 +386,7 @@ def test_stored_summaries(files: Callable[..., list[Path]], tmp_path: Path) -> N
     assert same[0] == 0 and "a: only rows are compared, since a summary has no lines" in same[1]
     assert tool("compare", first, base, plan)[0] == 0 and tool("compare", base, base)[0] == 0
     assert tool("compare", base, second, other)[0] == 1
-    # Of train 9 the 95th percentile is 15 ms, and 20 ms at half the rate: a third more.
+    # The 95th percentile of train 9 is 15 ms, and 20 ms at half the rate: a third more.
     for share, status in (("34%", 0), ("33%", 1)):
         assert tool("compare", base, second, other, "--tolerance", f"delay.p95={share}", "--of", "train 9")[0] == status
     got = tool("compare", base, second, other, "--tolerance", "delay.p99=5%")
@@ -401,7 +401,7 @@ def test_stored_summaries(files: Callable[..., list[Path]], tmp_path: Path) -> N
 
 
 def test_what_is_in_no_queue_is_said_where_it_counts(files: Callable[..., list[Path]], tmp_path: Path) -> None:
-    """At the end three packets wait or fly; only a picture of queues depends on where."""
+    """At the end three packets are in a queue or in flight. Only a picture of queues depends on where they are."""
     texts = files(CALL.replace("@100000000 end", "@21050000 end").replace("count 3 gap 20000000", "count 2 gap 20000000"))
     for name, words in (("summary", []), ("expect", ["all: in_flight == 1"]), ("plot", ["--what", "rate", "--out", tmp_path / "r.svg"])):
         status, _, err = tool(name, *texts, *words)
@@ -425,7 +425,7 @@ def test_nothing_to_read(files: Callable[..., list[Path]], tmp_path: Path) -> No
 
 
 def newest() -> str:
-    """The version that stands first in the changelog."""
+    """Returns the first version in the changelog."""
     return next(line[3:] for line in (ROOT / "CHANGELOG.md").read_text().splitlines() if line.startswith("## "))
 
 
@@ -438,7 +438,7 @@ def test_words_of_all_tools() -> None:
 
 
 def test_a_typed_text_may_lack_its_last_line_feed(program: str, tmp_path: Path) -> None:
-    """Python's quotes often end with the last line; a file without its last line feed may have been cut, and is refused."""
+    """Strings in Python often lack the last line feed, and are accepted. A file without it may have been cut, and is refused."""
     import dnlab
 
     typed = CALL.rstrip("\n")

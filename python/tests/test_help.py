@@ -1,4 +1,4 @@
-"""`--help` of each tool fits a terminal of 80 columns and shows two examples."""
+"""The `--help` of each tool fits a terminal of 80 columns and has two examples."""
 import os
 import subprocess
 from pathlib import Path
@@ -6,7 +6,7 @@ from pathlib import Path
 import pytest
 from conftest import ROOT
 
-# They answer dnlab's own words for ./dnlab, `--help` among them.
+# These run dnlab's own commands for ./dnlab, including `--help`.
 OF_DNLAB = {"tools/gate/by_try", "tools/gate/checked"}
 TOOLS = sorted(str(path.relative_to(ROOT)) for path in (
     *ROOT.glob("tools/**/*"), *ROOT.glob("cookbook/*"), *ROOT.glob("stacks/**/*"), ROOT / "examples/check", ROOT / "test")
@@ -14,7 +14,7 @@ TOOLS = sorted(str(path.relative_to(ROOT)) for path in (
 
 
 def help_of(tool: str) -> str:
-    """What a tool prints of its words, as for a terminal of 80 columns."""
+    """Returns the help of a tool for a terminal of 80 columns."""
     done = subprocess.run([f"./{tool}", "--help"], cwd=ROOT, capture_output=True, text=True, timeout=120, check=False,
                           stdin=subprocess.DEVNULL, env={**os.environ, "COLUMNS": "80", "PYTHONDONTWRITEBYTECODE": "1"})
     assert done.returncode == 0 and not done.stderr, done.stderr
@@ -22,7 +22,7 @@ def help_of(tool: str) -> str:
 
 
 def examples_in(text: str) -> list[str]:
-    """The commands below `Example:`; one that goes on is indented by more."""
+    """Returns the commands below `Example:`. A continued line is indented further."""
     _, _, after = text.partition("\nExample:\n")
     return [line.strip() for line in after.split("\n\n")[0].splitlines() if line[:2] == "  " and line[2:3] != " "]
 
@@ -33,7 +33,7 @@ def test_help_fits_and_shows_two_examples(tool: str) -> None:
     assert not [line for line in text.splitlines() if len(line) > 80]
     found = examples_in(text)
     assert len(found) >= 2
-    # Where a tool is called by its path, so are its examples.
+    # At least one example calls the tool by its path.
     assert sum(tool in line for line in found) >= 1
 
 

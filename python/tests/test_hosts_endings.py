@@ -1,4 +1,4 @@
-"""Runs of tools/hosts that are ended, by signals, by a limit or by a fault, and those by the wall clock."""
+"""Runs of tools/hosts that are ended by signals, by a limit or by a fault, and runs with the wall clock."""
 import os
 import pty
 import random
@@ -18,13 +18,13 @@ from conftest import QUICK, ROOT  # noqa: E402
 from guests import Run, one_host, processes_in  # noqa: E402
 
 run = guests.run
-# A shell that starts the tests in the background has them ignore it, and what they start inherits that.
+# A shell that starts the tests in the background makes them ignore it, and their children inherit this.
 signal.signal(signal.SIGINT, signal.default_int_handler)
 
 
 @pytest.mark.parametrize("seed", range(10 if QUICK else 30))
 def test_a_run_is_ended_at_any_time(seed: int, kernel: Path, program: str, tmp_path: Path) -> None:
-    """No process is left two seconds after SIGINT or SIGTERM, nor after SIGKILL of the command alone."""
+    """No process is left two seconds after SIGINT or SIGTERM, nor after SIGKILL of only the command."""
     drawn = random.Random(seed)
     (tmp_path / "test.yaml").write_text(one_host("{path: sh, args: \"-c 'while sleep 0.001; do ping -c 1 10.0.0.2; done'\"}", stop="24h")
                                         + "  two: {ip_addr: 10.0.0.2}\n")
@@ -44,7 +44,7 @@ def test_a_run_is_ended_at_any_time(seed: int, kernel: Path, program: str, tmp_p
 
 
 def test_a_guest_that_dies(kernel: Path, program: str, tmp_path: Path) -> None:
-    """The status is 3, and no summary.json takes the run for one that has ended."""
+    """The status is 3, and there is no summary.json, which would suggest a complete run."""
     (tmp_path / "test.yaml").write_text(one_host("{path: sh, args: \"-c 'while sleep 0.001; do :; done'\"}", stop="24h"))
     with subprocess.Popen([ROOT / "tools/hosts", "test.yaml", "--out", "run"], cwd=tmp_path, stderr=subprocess.PIPE,
                           env={**os.environ, "DNLAB": program}) as process:
@@ -65,7 +65,7 @@ def test_the_limit_of_real_time(run: Run) -> None:
 
 
 def typed(words: list[str], lines: bytes, program: str) -> tuple[int, str]:
-    """Starts a command on a terminal of its own and types lines; returns the status and what the terminal showed."""
+    """Runs a command in its own terminal and types lines. Returns the status and the output of the terminal."""
     child, terminal = pty.fork()
     if child == 0:
         os.environ.update(DNLAB=program, SHELL="/bin/sh", PS1="ready> ")

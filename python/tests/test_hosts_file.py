@@ -1,4 +1,4 @@
-"""A hosts file is read as it is meant, and each of 200 wrong files is refused with its line and its cause."""
+"""A hosts file is read as intended, and each of more than 200 wrong files is refused with its line and its cause."""
 from pathlib import Path
 
 import pytest
@@ -20,7 +20,7 @@ def changed(number: int, replacement: str) -> str:
 
 
 def judged(text: bytes) -> Experiment:
-    """Returns the experiment of a text, its network checked too."""
+    """Returns the experiment of a text, and checks its network too."""
     made = experiment_of(text, "hosts.yaml", Path("."))
     check(made)
     return made

@@ -1,4 +1,4 @@
-"""Programs run in the guest's kernel: the same bytes each time, and captures and tables that are the report's."""
+"""Programs run in the guest's kernel: each run has the same bytes, and captures and tables agree with the report."""
 import json
 import os
 import re
@@ -23,7 +23,7 @@ from dnlab.io import arrivals  # noqa: E402
 
 run = guests.run
 EXAMPLES = ROOT / "hosts" / "examples"
-# What each example runs besides Python and a shell.
+# The programs that each example runs, except for Python and a shell.
 PROGRAMS = {
     "iperf3": ("iperf3",), "bbr_beside_cubic": ("iperf3", "tc"), "near_and_far": ("iperf3",), "nginx_tls": ("nginx", "curl", "openssl"),
     "dns_loss": ("dnsmasq", "dig"), "python_service": (), "git_clone": ("git",), "redis": ("redis-server", "redis-benchmark"),
@@ -33,7 +33,7 @@ PATH = os.pathsep.join((os.environ["PATH"], "/usr/sbin", "/sbin"))
 
 
 def files_in(folder: Path) -> dict[str, bytes]:
-    """Returns what a run left that must be the same each time; the console and the real times aren't."""
+    """Returns the files of a run that must be the same each time, which excludes the console and the real times."""
     kept = {path.relative_to(folder): path for path in folder.rglob("*") if path.is_file()}
     return {str(name): path.read_bytes() for name, path in kept.items()
             if name.parts[0] != "guest" and str(name) != "summary.json"}
@@ -41,7 +41,7 @@ def files_in(folder: Path) -> dict[str, bytes]:
 
 @pytest.mark.parametrize("name", ["nginx_tls", "dns_loss", "python_service"] if QUICK else sorted(PROGRAMS))
 def test_an_example_twice(name: str, kernel: Path, program: str, alone: Callable[[bytes], bytes], tmp_path: Path) -> None:
-    """In two folders with names of other lengths, in other seconds of the wall clock: the same bytes, and alone's report."""
+    """Two runs, in folders with names of different lengths and at different times, have the same bytes and alone's report."""
     missing = [it for it in PROGRAMS[name] if shutil.which(it, path=PATH) is None]
     if missing:
         pytest.skip(f"missing programs: {' '.join(missing)}")
@@ -62,7 +62,7 @@ def test_all_examples_are_tried() -> None:
 
 
 def fates_in(folder: Path) -> tuple[list[tuple[int, tuple[str, ...]]], dict[int, int]]:
-    """Returns the packets of a transcript (moment, words after `inject`), and when each was delivered by the report."""
+    """Returns the packets of a transcript (time, arguments of `inject`), and the times of their deliveries in the report."""
     lines = [line.split() for line in (folder / "transcript.txt").read_text().splitlines()]
     sent = [(int(line[0][1:]), tuple(line[2:])) for line in lines if line[1:2] == ["inject"]]
     found = re.findall(r"(?m)^(\d+) deliver (\d+) ", (folder / "report.txt").read_text())
@@ -71,7 +71,7 @@ def fates_in(folder: Path) -> tuple[list[tuple[int, tuple[str, ...]]], dict[int,
 
 @pytest.mark.parametrize("name", ["nginx_tls", "dns_loss"])
 def test_each_capture_is_the_report(name: str, kernel: Path, program: str, tmp_path: Path) -> None:
-    """Each packet sent and each delivery is in the capture of its host, at its nanosecond, with its ports and its size."""
+    """Each packet sent and each delivery is in the capture of its host, with its exact time, ports and size."""
     status, _, err = tool("hosts", EXAMPLES / f"{name}.yaml", "--out", tmp_path / "run", DNLAB=program)
     assert status == 0, err
     sent, delivered = fates_in(tmp_path / "run")
@@ -128,7 +128,7 @@ def test_spent_steps_end_the_run(run: Run) -> None:
 
 
 def test_times_and_names_in_the_guest(run: Run, tmp_path: Path) -> None:
-    """The clock begins at start_date (plus 10 s of boot), and a sleep of an hour takes an hour and no real time."""
+    """The clock starts at start_date (plus 10 s of boot), and a sleep of an hour takes an hour, but no real time."""
     began = time.monotonic()
     status, _, err = run(one_host("{path: sh, args: \"-c 'date +%s; hostname; cat /etc/hostname; sleep 3600; date +%s'\"}", stop="2h"))
     assert status == 0, err
@@ -152,7 +152,7 @@ def test_the_guest_writes_nothing_outside(run: Run, tmp_path: Path) -> None:
 
 
 def test_a_root_of_its_own(run: Run, tmp_path: Path) -> None:
-    """A root file system with nothing but busybox, whose programs find no file of this machine."""
+    """In a root file system with only busybox, programs find no file of this machine."""
     if shutil.which("busybox") is None:
         pytest.skip("missing programs: busybox")
     (tmp_path / "root/bin").mkdir(parents=True)
@@ -191,7 +191,7 @@ def test_goodput_is_that_of_iperf3(kernel: Path, program: str, tmp_path: Path) -
     found_rows = {line[:line.index("  ")]: line.split() for line in out.splitlines()}
     for name, port in ("cubic", 5201), ("bbr", 5202):
         found = json.loads((tmp_path / f"run/hosts/{name}/iperf3.0.stdout").read_text())["end"]
-        # The table's time begins with the connection of control, and ends with the last byte.
+        # The table's time starts with the control connection, and ends with the last byte.
         goodput = float(found_rows[f"{name}:* > server:{port}"][-1])
         assert goodput == pytest.approx(found["sum_received"]["bits_per_second"] / 1e6, rel=0.02)
 
@@ -215,7 +215,7 @@ files:
 
 
 def test_each_byte_counts_once(run: Run, tmp_path: Path) -> None:
-    """A program counts 300000 bytes that arrive, and so does the table, although 5 % of the packets are lost and sent again."""
+    """A program and the table count 300000 bytes that arrive, although 5 % of the packets are lost and sent again."""
     text = one_host("{path: /usr/bin/python3, args: client.py, start_time: 1s}", stop="60s").replace("delay 20", "delay 20 plr 0.05")
     status, _, err = run(text + COUNTED)
     assert status == 0, err
@@ -227,14 +227,14 @@ def test_each_byte_counts_once(run: Run, tmp_path: Path) -> None:
 
 
 def test_what_covers_what() -> None:
-    """Segments out of order, twice, in part, and over the wrap of sequence numbers."""
+    """Segments can be out of order, duplicated, partial, and beyond the wrap of sequence numbers."""
     seen = Covered(2**32 - 10)
     assert [seen.add(2**32 - 10, 10), seen.add(10, 5), seen.add(0, 10), seen.add(2**32 - 5, 25), seen.add(100, 0)] == [10, 5, 10, 5, 0]
 
 
 @pytest.mark.parametrize("most", [repeating.MOST_BYTES, 0], ids=["alone", "live"])
 def test_a_report_that_is_not_repeated(most: int, run: Run, tmp_path: Path, monkeypatch: pytest.MonkeyPatch, program: str) -> None:
-    """A report with one other digit, or one line less, is not the transcript's, by `alone` and by `live`."""
+    """A report with a different digit, or a missing line, is not the transcript's, according to `alone` and `live`."""
     monkeypatch.setenv("DNLAB", program)
     monkeypatch.setattr(repeating, "MOST_BYTES", most)
     assert run(one_host("{path: ping, args: -c 2 10.0.0.2}") + "  two: {ip_addr: 10.0.0.2}\n")[0] == 0

@@ -1,4 +1,4 @@
-"""What is loaded before it is needed: help needs none of the packages for tables, and running a scenario neither."""
+"""Packages are not loaded before they are needed: neither help nor running a scenario needs the packages for tables."""
 import os
 import subprocess
 import sys
@@ -8,12 +8,12 @@ from conftest import ROOT
 
 from dnlab.__main__ import COMMANDS
 
-# Packages of Debian that take long to load, and what a stand-in for them would be made with.
+# Packages of Debian that take long to load, and unittest, which stand-ins for them would need.
 PACKAGES = {"numpy", "pandas", "scipy", "jinja2", "matplotlib", "plotly", "dpkt", "yaml", "unittest"}
 
 
 def loaded(*words: object, **more: str) -> set[str]:
-    """The packages that a call of Python loads, as Python itself lists them."""
+    """Returns the packages that a call of Python loads, as Python lists them."""
     done = subprocess.run([sys.executable, "-X", "importtime", *map(str, words)], capture_output=True, text=True, timeout=120,
                           check=False, env={**os.environ, "PYTHONPATH": str(ROOT / "python"), **more})
     assert done.returncode == 0, done.stderr
@@ -28,7 +28,7 @@ def test_help_loads_no_package(name: str) -> None:
 
 
 def test_tables_load_them() -> None:
-    """So that the test above has something to find."""
+    """This shows that the test above can fail."""
     example = next(ROOT.glob("examples/*/codel_one_drop"))
     assert "numpy" in loaded(ROOT / "tools" / "summary", example / "expected.txt", example / "scenario.txt")
 

@@ -1,4 +1,4 @@
-"""Lines that inject, read many at once: the same as by the grammar of docs/reference/scenario.md, line by line, and as by the program."""
+"""Lines `inject` that are read in blocks: the result agrees with the grammar of docs/reference/scenario.md and with the program."""
 import subprocess
 from pathlib import Path
 from typing import Callable, Iterator, Optional
@@ -15,7 +15,7 @@ from dnlab.io.scenario import Judged
 from dnlab.io.scenario_parts import Run, Sends
 
 GOOD = b"@5 inject udp 10.0.0.1 1000 10.0.1.1 2000 1000"
-# Each line with the cause of its fault by the grammar, None where it has none.
+# Each line with the cause of its fault by the grammar, or None if it has none.
 LINES: list[tuple[bytes, Optional[str]]] = [
     (GOOD, None), (b"  @5   inject udp  10.0.0.1 1000 10.0.1.1 2000 1000  ", None), (b"# @5 inject udp", None), (b"", None), (b"   ", None),
     (b"@5 inject tcp 0.0.0.0 0 255.255.255.255 65535 40", None), (b"@1000000000000000 inject udp 1.2.3.4 5 6.7.8.9 10 1500", None),
@@ -43,7 +43,7 @@ LINES: list[tuple[bytes, Optional[str]]] = [
 
 @pytest.fixture(params=[1, 10**9], ids=["many", "single"])
 def many(request: pytest.FixtureRequest, monkeypatch: pytest.MonkeyPatch) -> Iterator[int]:
-    """Reads lines that inject together, in blocks of few lines, or one by one."""
+    """Reads lines `inject` together, in blocks of few lines, or one by one."""
     monkeypatch.setattr(scenario, "MANY", request.param)
     monkeypatch.setattr(injections, "_BLOCK", 200)
     yield request.param
@@ -71,7 +71,7 @@ def test_a_moment_that_falls_among_many(many: int) -> None:
     assert Judged(b"experiment a seed 1 budget 9\n" + GOOD * 1 + b"\n" + GOOD).fault == (3, "cut")
 
 
-# Moment, protocol, source, its port, target, its port and size, with the words of the addresses.
+# The time, protocol, source and its port, target and its port, and size, with the texts of the addresses.
 PACKETS = [(place * 10**13, 6 if place % 3 else 17, (10 << 24) + place, place * 600, (255 << 24) + place * 65536, 65535 - place, 40 + place * 14)
            for place in range(101)]
 
@@ -119,7 +119,7 @@ def test_a_checksum_is_of_the_commands(monkeypatch: pytest.MonkeyPatch) -> None:
 
 
 def test_tables_by_hand(many: int, tmp_path: Path, alone: Callable[[bytes], bytes]) -> None:
-    """The rows that test_naming.py works out by hand, whichever way lines are read."""
+    """The rows are those that test_naming.py calculates by hand, whichever way lines are read."""
     (tmp_path / "scenario.txt").write_text(SCENARIO)
     (tmp_path / "report.txt").write_bytes(alone(SCENARIO.encode()))
     report = dnlab.read(tmp_path / "report.txt", tmp_path / "scenario.txt", names=MINE)
@@ -138,7 +138,7 @@ def test_another_moment_is_refused(many: int, tmp_path: Path, alone: Callable[[b
 
 
 def test_runs_have_no_line_that_has_a_fault() -> None:
-    """Only lines that the grammar certainly accepts are read together."""
+    """Only lines that the grammar certainly accepts are read in blocks."""
     text = b"\n".join(line for line, _ in LINES) + b"\n"
     taken = [line for _, part in injections.parts_of(text) if isinstance(part, Run) for line in part.text.split(b"\n")[:-1]]
     good = [line for line, cause in LINES if line.startswith(b"@") and cause in (None, "backwards") and not line.endswith(b" ")]

@@ -1,4 +1,4 @@
-"""Scripts for from-ipfw: they are read as sh(1) reads them, and none of them does anything to the machine.
+"""Scripts for from-ipfw: they are read as sh(1) reads them, and none of them affects the machine.
 
 What a script means is compared with the real `sh`, which runs the texts of this file with functions in place of ipfw and sleep. The attacks
 are tried as root and as nobody, in a process that ends when it starts a program, opens a socket, or opens a file of the user's.
@@ -50,7 +50,7 @@ def test_as_sh_reads_it(text: str) -> None:
 
 @given(st.lists(st.sampled_from(["'", '"', "\\", " ", "a", "$x", "${x}", "$((1+2))", "=", "#", "\t", "b'c'", '"$x"', "${y:-d e}"]), max_size=8))
 def test_words_as_sh_cuts_them(pieces: list[str]) -> None:
-    """Either the words of sh, or a refusal; sh refuses what isn't closed."""
+    """The result is sh's words or a refusal. sh refuses an unclosed quotation."""
     text = f"x='1  2'; ipfw k{''.join(pieces)}\n"
     try:
         mine = words_of(text)
@@ -101,7 +101,7 @@ ATTACKS = [
 
 @pytest.fixture
 def home() -> Iterator[Path]:
-    """A folder that everybody may write to, with a secret, a program and the socket of an agent."""
+    """Returns a folder that everybody may write to, with a secret, a program and the socket of an agent."""
     import socket
     with tempfile.TemporaryDirectory() as name:
         folder = Path(name)
@@ -121,7 +121,7 @@ def home() -> Iterator[Path]:
 @pytest.mark.parametrize("who", ["caller", "nobody"])
 @pytest.mark.parametrize("attack", ATTACKS, ids=range(len(ATTACKS)))
 def test_no_way_out(attack: str, who: str, home: Path) -> None:
-    """A script starts nothing, opens nothing but itself, and ends within its bounds of time, memory and output."""
+    """A script starts nothing, opens only itself, and ends within its limits of time, memory and output."""
     if who == "nobody" and os.getuid() != 0:
         pytest.skip("only root can become nobody")
     (home / "script.sh").write_text("#!/bin/sh\n" + attack.format(home=home) + "\n")

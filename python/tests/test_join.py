@@ -1,4 +1,4 @@
-"""Report and scenario joined: times worked out by hand, pairs that don't belong together, random scenarios."""
+"""Report and scenario joined: times calculated by hand, pairs that don't belong together, random scenarios."""
 import os
 import random
 
@@ -12,7 +12,7 @@ from dnlab.errors import ParseError
 from dnlab.io import report, scenario
 from dnlab.io.lines import DATA, INSTANCE, LISTINGS, pipe_code, pipe_name
 
-# What is changed in the scenario or the report of reno_four_segments: the text, by what, which, line and cause.
+# Changes of the scenario or the report of reno_four_segments: which of them, old and new text, line and cause.
 JOINS = [
     ("report", "11200000 deliver 0 data 1 0", "11200000 deliver 0 data 1 1460", 10, "isn't this scenario's"),
     ("report", "21200000 deliver 3 ack 1 1460", "21200000 deliver 3 plain", 17, "doesn't follow its delivery"),
@@ -23,7 +23,7 @@ JOINS = [
     ("scenario", "smss 1460", "smss 1000", 12, "isn't this scenario's"),
     ("scenario", "segments 4", "segment 4", 6, "not a line of a scenario"),
     ("scenario", "@0 add 100", "@0 ad 100", 4, "not a line of a scenario"),
-    # A packet more, of which no line tells: only the counters do.
+    # An additional packet that no line names; only the counters include it.
     ("scenario", "@100000000 end", "@99999999 inject udp 10.0.0.1 1 10.0.1.1 2 100\n@100000000 end", 27, "command 5"),
     ("scenario", "@100000000 end", "@100000000 show\n@100000000 end", 28, "ends before command 6"),
 ]
@@ -41,7 +41,7 @@ def test_pairs_that_dont_belong_together(which: str, old: str, new: str, line: i
 
 
 def test_a_packet_that_no_line_names() -> None:
-    """A train's last packet is held at the end: only the counters tell of it."""
+    """A train's last packet is held at the end, so only the counters include it."""
     text = b"experiment t seed 0 budget 9\n@0 pipe 1 config delay 50\n@0 add 1 pipe 1 ip from any to any\n" \
            b"@0 train 1 udp 10.0.0.1 1 10.0.0.2 2 100 count 2 gap 60000000\n@100000000 end\n"
     told = b"experiment t\n0 ok 0\n0 ok 1\n0 ok 2\n0 finish 0 1.0\n50000000 deliver 0 plain\n60000000 finish 1 1.0\n" \
@@ -57,13 +57,13 @@ def test_a_packet_that_no_line_names() -> None:
 def test_makings_by_hand() -> None:
     table = view_of("reno_four_segments").packets
     made = [(table.names[who], moment, size) for who, moment, size in zip(table.who, table.made, table.size)]
-    # Three segments at once; each delivery makes an acknowledgement; the fourth segment at the first of these.
+    # Three segments at once; each delivery creates an acknowledgement; the fourth segment is sent at the first of these.
     assert made == [("flow 1", 0, 1500), ("flow 1", 0, 1500), ("flow 1", 0, 1500), ("flow 1 acks", 11200000, 40),
                     ("flow 1 acks", 12400000, 40), ("flow 1 acks", 13600000, 40), ("flow 1", 21200000, 1500),
                     ("flow 1 acks", 32400000, 40)]
     timeouts = view_of("reno_timeouts").packets
     assert timeouts.made.tolist() == [0, 0, 0, 10**9, 3 * 10**9]
-    # The first segment is sent anew by both timeouts.
+    # Both timeouts send the first segment again.
     assert timeouts.retransmission.tolist() == [False, False, False, True, True]
 
 
@@ -87,7 +87,7 @@ FLOWS = ("", " window 3000", " ssthresh 4000", " rto 100", " rto adaptive", " rt
 
 
 def pipe_words(chance: random.Random, number: int) -> str:
-    """A configuration, each option there or not."""
+    """Generates a configuration, in which each option may be missing."""
     words = [f"pipe {number} config"]
     choices = ((0.8, "bw", ("0", "1Mbit/s", "8Mbit/s", "100Kbit/s")), (0.8, "delay", ("0", "1", "5", "20")),
                (0.6, "queue", ("2", "5", "50", "3KB")), (0.4, "plr", ("0.1", "0.3", "0.01")),
@@ -100,7 +100,7 @@ def pipe_words(chance: random.Random, number: int) -> str:
 
 
 def command(chance: random.Random, pipes: int, flows: list[int]) -> str:
-    """One command of those that may stand in the middle."""
+    """Generates a command for the middle of a scenario."""
     kind = chance.randrange(8)
     number = chance.randrange(1, 9)
     if kind <= 2:
@@ -120,8 +120,8 @@ def command(chance: random.Random, pipes: int, flows: list[int]) -> str:
 
 
 def random_scenario(seed: int) -> str:
-    """Pipes of all kinds, flows, trains, loss, commands in the middle, short budgets, and four listings; a third of them
-    traced from the beginning, a third from somewhere in the middle."""
+    """Generates scenarios with pipes of all kinds, flows, trains, loss, later commands, small budgets, and four listings. A third
+    of them are traced from the start, and a third from a later time."""
     chance = random.Random(seed)
     pipes = chance.randrange(1, 4)
     lines = [f"experiment x seed {seed} budget {chance.choice((5, 20, 100, 1000))}"
@@ -140,7 +140,7 @@ def random_scenario(seed: int) -> str:
         lines.append(f"@{moment} {command(chance, pipes, flows)}")
     lines += [f"@{moment} trace 1"] if seed % 3 == 1 else []
     for _ in range(4):
-        # No command stands at these moments, so a listing has what was there before it.
+        # There is no other command at these times, so a listing has the state before it.
         moment += chance.choice((1000003, 10000019, 100000007))
         lines.append(f"@{moment} pipe show")
     lines.append(f"@{moment + chance.choice((0, 10**9, 6 * 10**10))} end")
@@ -148,13 +148,13 @@ def random_scenario(seed: int) -> str:
 
 
 def is_told(view: View) -> bool:
-    """Whether each packet's pipes can be told."""
+    """Returns true if the pipes of every packet are known."""
     deleted = (view.packets.outcome == OUTCOMES.index("deleted")).any()
     return not lost_in(view.packets, view.visits) and not deleted
 
 
 def listed(view: View, moment: int, pipe: int) -> tuple[int, int]:
-    """How many packets wait or are in service, and how many are in the delay line, before all of a moment."""
+    """Returns the number of packets that wait or are in service, and the number in the delay line, just before a time."""
     table = view.visits
     own = table.pipe == pipe
     arrival, finish, left, packet = table.arrival[own], table.finish[own], table.exit[own], table.packet[own]
@@ -169,7 +169,7 @@ def listed(view: View, moment: int, pipe: int) -> tuple[int, int]:
 
 
 def compare_listings(view: View) -> int:
-    """Compares each `instance` line with the join; how many were compared."""
+    """Compares each `instance` line with the join. Returns the number of lines compared."""
     commands = view.plan.commands
     shown = [one.moment for one in commands if one.word == "pipe"][-4:]
     columns, moment, compared = view.experiment.columns, 0, 0
@@ -187,8 +187,8 @@ def compare_listings(view: View) -> int:
 
 @pytest.mark.parametrize("tens", range(int(os.environ.get("DNLAB_JOINS", "20" if QUICK else "100")) // 10))
 def test_random_scenarios(tens: int, alone) -> None:
-    """Ten at a time: the join agrees with each line, with the counters and with each listing, and a traced report tells
-    the same without its scenario. DNLAB_JOINS=1000 tries more."""
+    """Tries ten at a time: the join agrees with each line, with the counters and with each listing, and a traced report gives
+    the same result without its scenario. DNLAB_JOINS=1000 tries more."""
     compared = segments = 0
     for seed in range(10 * tens, 10 * tens + 10):
         text = random_scenario(seed).encode()

@@ -1,4 +1,4 @@
-"""The guest's kernel is built once, whole or not at all, and what is missing is named. A script replaces the build."""
+"""The guest's kernel is built once, completely or not at all, and missing packages are named. A script replaces the build."""
 import os
 import signal
 import subprocess
@@ -13,7 +13,7 @@ pytest.importorskip("yaml", reason="yaml is missing (Debian: python3-yaml)")
 
 from conftest import ROOT  # noqa: E402  (yaml is looked for first)
 
-# It writes a line each time it builds, and takes as long as SLEEP says.
+# It writes a line each time it builds, and takes SLEEP seconds.
 BUILD = """#!/bin/sh
 if [ "$1" = --checksum ]; then echo c0ffee; exit; fi
 echo $$ >> "$LOG"
@@ -44,7 +44,7 @@ except ResourceError as lacking:
 
 
 class Caller:
-    """Calls the cache in a process of its own, with a build that is a script."""
+    """Calls the cache in its own process, with a script as the build."""
 
     def __init__(self, folder: Path) -> None:
         self.folder = folder
@@ -82,7 +82,7 @@ def test_it_is_built_once(caller: Caller) -> None:
     assert (status, out) == (0, folder) and "building the guest's kernel, once for these sources" in err
     assert sorted(os.listdir(folder)) == ["SOURCE.txt", "link", "linux", "start"]
     assert caller.call() == (0, folder, "")
-    # Without the note of the sources the checksum is asked for, and the kernel is there.
+    # Without the note about the sources, the checksum is computed, and the kernel is found.
     next((caller.folder / "cache/dnlab/hosts").glob("at-*.json")).write_text("{}")
     assert caller.call() == (0, folder, "")
     assert len(caller.builds()) == 1

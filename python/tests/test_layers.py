@@ -1,4 +1,4 @@
-"""The package's layers: which may import which, and how long a module is."""
+"""The package's layers: the imports that are allowed, and the length of modules."""
 import ast
 from pathlib import Path
 from typing import Iterator
@@ -8,23 +8,24 @@ import pytest
 from conftest import ROOT
 
 PACKAGE = ROOT / "python" / "dnlab"
-# What a layer may import besides itself and the modules of the package's own folder, as docs/explanation/architecture.md has it.
+# The layers that a layer may import, in addition to itself and the modules of the package's own folder
+# (docs/explanation/architecture.md).
 BELOW = {"processes": "", "io": "processes", "analysis": "processes io", "plot": "processes io analysis", "library": "io",
          "sweeps": "processes io analysis plot library", "session": "processes io library", "senders": "session analysis",
          "emulation": "processes io analysis", "cli": "processes io analysis plot sweeps session emulation"}
-# An experiment has its figure as a method, as frames of pandas have.
+# An experiment has a method for its figure, like a frame of pandas.
 ASIDE = {("analysis/results.py", "plot")}
 FILES = sorted(PACKAGE.rglob("*.py"))
 
 
 def layer_of(name: str) -> str:
-    """The layer of a module by its name; '' of those that stand in the package's own folder."""
+    """Returns the layer of a module by its name, or '' for the modules of the package's own folder."""
     parts = name.split(".")
     return parts[1] if len(parts) > 1 and parts[1] in BELOW else ""
 
 
 def imported(file: Path) -> Iterator[str]:
-    """The modules of the package that a file imports, anywhere in it."""
+    """Returns the modules of the package that a file imports, anywhere in the file."""
     for node in ast.walk(ast.parse(file.read_text(encoding="utf-8"))):
         if isinstance(node, ast.Import):
             yield from (alias.name for alias in node.names if alias.name.startswith("dnlab"))
@@ -47,6 +48,6 @@ def test_a_module_keeps_to_its_layer(file: Path) -> None:
 
 
 def test_what_stands_below_needs_no_session() -> None:
-    """What a layer imports by the modules of the package's own folder counts too: these have no numbers of their own."""
+    """Imports through the modules of the package's own folder count too, because these modules belong to no layer."""
     for name in "chance", "errors", "programs", "units":
         assert {layer_of(one) for one in imported(PACKAGE / f"{name}.py")} <= {""}, name

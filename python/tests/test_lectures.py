@@ -1,5 +1,5 @@
-"""What a lecture shows: the effective window, thresholds of many flows, segments, the link's rate, two experiments side by
-side, and one flow in every panel. Values are worked out by hand."""
+"""Pictures for lectures: the effective window, thresholds of many flows, segments, the link's rate, two experiments side by
+side, and one flow in every panel. The values are calculated by hand."""
 from pathlib import Path
 from typing import Callable
 
@@ -20,7 +20,7 @@ from dnlab.plot import pictures
 
 MS = 10**6
 Alone = Callable[[bytes], bytes]
-# A link of 8 Mbit/s with 10 ms each way: flow 1 may have 3000 bytes under way, flow 2 has one segment.
+# A link of 8 Mbit/s with 10 ms in each direction: flow 1 may have 3000 bytes in flight, flow 2 has one segment.
 NARROW = b"""experiment narrow seed 0 budget 99
 @0 pipe 1 config bw 8Mbit/s delay 10
 @0 add 100 pipe 1 tcp from any to 10.0.0.2
@@ -37,8 +37,8 @@ def seen(text: bytes, alone: Alone) -> View:
 
 
 def test_the_effective_window(alone: Alone) -> None:
-    """cwnd begins with 4 segments and grows by one for each acknowledgement; 3000 bytes may be under way all the time. Of flow 2,
-    whose window is wider than cwnd, there is no such line."""
+    """cwnd starts with 4 segments and grows by one for each acknowledgement; 3000 bytes may always be in flight. Flow 2, whose
+    window is larger than cwnd, has no such line."""
     panel = windows(seen(NARROW, alone))
     lines = {one.label: one for one in panel.series}
     assert lines["cwnd 1"].values.tolist() == [4000 + 1000 * k for k in range(7)]
@@ -49,7 +49,7 @@ def test_the_effective_window(alone: Alone) -> None:
 
 
 def test_windows_are_in_segments(alone: Alone) -> None:
-    """1000 bytes are a segment; if segments differ the axis has kB."""
+    """A segment has 1000 bytes. If segments differ in size, the axis is in kB."""
     axes, = pictures.figure_of([seen(NARROW, alone)], ["window"]).axes
     assert axes.get_ylabel() == "Congestion window (segments)"
     assert [line.get_ydata().tolist() for line in axes.get_lines() if line.get_label() == "cwnd 1"] == [[4, 5, 6, 7, 8, 9, 10]]
@@ -65,7 +65,7 @@ def many(flows: int) -> bytes:
 
 
 def test_thresholds_of_sixteen_flows(alone: Alone) -> None:
-    """Each has its line and its threshold, told apart; of a seventeenth it is said that it is left out."""
+    """Each flow has a line and a threshold that can be distinguished. A note says that the seventeenth flow is left out."""
     panel = windows(seen(many(16), alone))
     assert len([one for one in panel.series if one.label.startswith("ssthresh")]) == 16
     axes, = pictures.figure_of([seen(many(16), alone)], ["window"]).axes
@@ -77,7 +77,7 @@ def test_thresholds_of_sixteen_flows(alone: Alone) -> None:
 
 
 def test_one_flow_s_window(alone: Alone) -> None:
-    """`--of 'flow 3'` chooses in the panel of windows too."""
+    """`--of 'flow 3'` also applies to the panel of windows."""
     view = seen(many(5), alone)
     view.senders = [(name, packets) for name, packets in view.senders if name == "flow 3"]
     assert [one.label for one in windows(view).series] == ["cwnd 3", "ssthresh 3"]
@@ -96,7 +96,7 @@ CHANGING = b"""experiment changing seed 0 budget 9
 
 
 def test_the_rate_of_the_link(alone: Alone) -> None:
-    """8, then 4 Mbit/s, then no limit, which is no number; it stands beside the throughput."""
+    """8, then 4 Mbit/s, then no limit, which is not a number. It is drawn with the throughput."""
     view = seen(CHANGING, alone)
     rate, = link_rates(view)
     assert rate.moments[:3].tolist() == [0, MS, 4 * MS] and rate.values[:2].tolist() == [8, 4] and np.isnan(rate.values[2:]).all()
@@ -104,7 +104,7 @@ def test_the_rate_of_the_link(alone: Alone) -> None:
 
 
 def test_utilisation_by_what_the_link_could_carry(alone: Alone) -> None:
-    """1000 bytes take 1 ms, then 2 ms: it served all that it could, 8 Mbit/s for 1 ms and 4 for 2."""
+    """1000 bytes take 1 ms, then 2 ms: the link was always busy, at 8 Mbit/s for 1 ms and at 4 Mbit/s for 2 ms."""
     text = CHANGING.replace(b"@4000000 pipe 1 config bw 0 delay 1\n@5000000 inject udp 10.0.0.1 1 10.0.0.2 2 1000\n", b"")
     rows = {row["sender"]: row for row in Tables(seen(text, alone)).rows()}
     assert rows["pipe 1.0"]["utilisation"] == 1.0
@@ -119,7 +119,7 @@ SELECT = ("const one = document.getElementById('%s'); one.value = '%s'; one.disp
 
 @browsing
 def test_two_side_by_side(tmp_path: Path) -> None:
-    """Both have one span of time and one frame; the address names both."""
+    """Both have the same span of time and the same frame, and the address names both."""
     folder = COOKBOOK / "bufferbloat"
     page = page_of(tmp_path, folder / "report.txt", folder / "scenario.txt")
     tops = "told.tops = ['panel-queue', 'panel-beside-queue'].map((name) => document.getElementById(name)._fullLayout.yaxis.range[1]);"

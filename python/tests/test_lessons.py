@@ -1,4 +1,4 @@
-"""The answers of the playground's lessons hold: each number of theirs is measured in a run of the lesson's scenario."""
+"""The answers of the playground's lessons are correct: each of their numbers is measured in a run of the lesson's scenario."""
 import re
 from fractions import Fraction
 from typing import Callable
@@ -11,7 +11,7 @@ Alone = Callable[[bytes], bytes]
 
 
 def text_of(name: str, **moved: int) -> str:
-    """The scenario of a lesson, with its sliders where they are at first, or moved."""
+    """Returns the scenario of a lesson, with its sliders at their first values, or moved."""
     text = LESSONS[name].split("\n---\n")[3]
     values = {**dict(re.findall(r"^#\? (\w+) .*= (\d+)$", text, re.MULTILINE)), **{slider: str(value) for slider, value in moved.items()}}
     assert {*moved} <= {*values}
@@ -19,13 +19,13 @@ def text_of(name: str, **moved: int) -> str:
 
 
 def report(alone: Alone, name: str, **moved: int) -> list[list[list[str]]]:
-    """The lines of each experiment of a lesson, in words."""
+    """Returns the lines of each experiment of a lesson, split into words."""
     parts = alone(text_of(name, **moved).encode()).decode().split("experiment ")[1:]
     return [[line.split() for line in part.splitlines()] for part in parts]
 
 
 def delays(lines: list[list[str]], gap: int, first: int = 0, load: str = "plain") -> list[Fraction]:
-    """The delays in ms of the packets of a train that were delivered; they leave in the order in which they were sent."""
+    """Returns the delays (ms) of the delivered packets of a train, which leave in the order in which they were sent."""
     came = [int(words[0]) for words in lines if words[1:2] == ["deliver"] and words[3] == load]
     return [Fraction(at - first - k * gap, 10**6) for k, at in enumerate(came)]
 
@@ -35,12 +35,12 @@ def test_there_are_five() -> None:
     for name, text in LESSONS.items():
         title, question, answer, _ = text.split("\n---\n")
         assert title and question.count("\n") >= 2 and answer.count("\n") >= 1, name
-        # Each has the numbers of the other.
+        # Questions and answers have the same numbers.
         assert re.findall(r"^(\d)\.", question, re.MULTILINE) == re.findall(r"^(\d)\.", answer, re.MULTILINE), name
 
 
 def test_a_packet(alone: Alone) -> None:
-    """1000 * 8 bits at 1 Mbit/s are 8 ms; 10 ms of delay."""
+    """1000 * 8 bits at 1 Mbit/s take 8 ms, and the delay is 10 ms."""
     assert delays(report(alone, "packet")[0], 0) == [18]
     assert delays(report(alone, "packet", rate=10000)[0], 0) == [Fraction("10.8")]
 
@@ -63,7 +63,7 @@ def test_bufferbloat(alone: Alone) -> None:
     assert max(delays(short, 170_000_000, 50_000_000)) == 124 and [words[3] for words in short if words[1:2] == ["drop"]] == ["data"] * 2
     four, = report(alone, "bufferbloat", queue=4)
     assert [words[3] for words in four if words[1:2] == ["drop"]].count("plain") == 3
-    # Nobody uploads: 100 bytes at 200 kbit/s are 4 ms.
+    # Without the upload: 100 bytes at 200 kbit/s take 4 ms.
     alone_there = re.sub(r"(?m)^@0 flow .*\n", "", text_of("bufferbloat"))
     assert {*delays([line.split() for line in alone(alone_there.encode()).decode().splitlines()], 170_000_000, 50_000_000)} == {14}
 
@@ -76,11 +76,11 @@ def test_the_sawtooth(queue: int, most: int, half: int, alone: Alone) -> None:
     assert len(drops) > 5 and not [words for words in lines if words[1:2] == ["expire"]]
     if queue == 10:
         assert {after - before for before, after in zip(drops, drops[1:])} == {1_136_000_000}
-    # The window at each loss, in whole segments, and half of it from then on.
+    # The window at each loss, in whole segments, and half of it afterwards.
     assert {[window for at, window, _ in windows if at <= drop][-1] // 960 for drop in drops} == {most}
     assert windows[-1][2] == half and most * 960 // 2 == half
     delivered = [int(words[0]) for words in lines if words[1:2] == ["deliver"] and words[3] == "data" and int(words[0]) > drops[0]]
-    # A packet takes 8 ms on the link: where two come with more between, it was idle.
+    # A packet takes 8 ms on the link, so the link was idle if more time is between two packets.
     assert (max(after - before for before, after in zip(delivered, delivered[1:])) > 8_000_000) == (queue == 4)
 
 
@@ -98,7 +98,7 @@ def test_codel(alone: Alone) -> None:
 
 
 def test_the_answers_of_the_worksheet(alone: Alone) -> None:
-    """Those of docs/howto/teaching.md."""
+    """Checks the answers in docs/howto/teaching.md."""
     page = (ROOT / "docs/howto/teaching.md").read_text()
     packet = delays(report(alone, "packet", rate=500, delay=30, size=1500)[0], 0)
     assert packet == [54] and "= 54 ms" in page and Fraction(1500 * 8, 400) == 30

@@ -1,4 +1,4 @@
-"""The library in this process: which one is called, what it refuses, and that a run by it is a run by the program."""
+"""The library in this process: the choice of the library, its refusals, and that its runs equal the program's."""
 import os
 import pickle
 import subprocess
@@ -55,7 +55,7 @@ def test_a_fault_passes_between_processes() -> None:
 def test_a_run_by_the_library(tmp_path: Path) -> None:
     report = dnlab.run(ONE / "scenario.txt", engine="library", out=tmp_path / "report.txt")
     assert (tmp_path / "report.txt").read_bytes() == (ONE / "expected.txt").read_bytes()
-    # 1000 bytes at 1 Mbit/s are 8 ms in service, and the delay is 10 ms.
+    # 1000 bytes at 1 Mbit/s take 8 ms in service, and the delay is 10 ms.
     assert report["a"].packets().delay.tolist() == [18_000_000]
     kept = read_beside(tmp_path / "report.txt")
     assert kept is not None and kept.command == (os.path.abspath(NAMED), "alone") and kept.version.startswith(f"libdnlab {dnlab.__version__} (")
@@ -75,13 +75,13 @@ def test_a_fault_is_said_as_by_the_program() -> None:
 def test_a_report_longer_than_the_first_room() -> None:
     text = "experiment a seed 0 budget 9\n@0 train 1 udp 1.1.1.1 1 1.1.1.2 1 100 count 5000 gap 1\n@1000000 end\n".encode()
     report = library.alone(text)
-    # Each of 5000 packets is denied by the rule that stands there alone.
+    # The only rule, the default one, denies each of 5000 packets.
     assert len(report) > 1 << 16 and report.count(b" drop ") == 5000 and report.count(b" denied\n") == 5000
 
 
 @there
 def test_a_limit_of_steps() -> None:
-    # Two experiments, which may take 7 and 10^6 steps: the second may have any number of steps that its text leaves out.
+    # Two experiments, which may take 7 and 10^6 steps: the second text has no `steps`, so the default applies.
     text = b"experiment a seed 0 budget 1 steps 7\n@0 end\nexperiment b seed 0 budget 1\n@0 end\n"
     assert library.alone(text, max_steps=1_000_007) == library.alone(text)
     for most, number in (1_000_006, 2), (7, 2), (6, 1), (0, 1):
@@ -116,7 +116,7 @@ def test_lines_of_a_session() -> None:
         assert talk.take(b"#> next") == b"#< fault noexperiment\n"
         assert talk.take(b"experiment a seed 0 budget 9") == b"experiment a\n#< ok\n"
         assert talk.take(b"") == b""
-        # The rule that stands there alone denies it.
+        # The only rule, the default one, denies it.
         assert talk.take(b"@5 inject udp 1.1.1.1 1 1.1.1.2 2 100") == b"5 ok 0\n5 drop 0 plain denied\n#< packet 0\n"
         with pytest.raises(library.FaultIn, match="line 5: noend"):
             talk.close()
@@ -141,7 +141,7 @@ def test_what_is_said_is_longer_than_the_first_room() -> None:
 
 @there
 def test_a_session_here_is_one_there(program: str) -> None:
-    """The same answers, transcript and report, and the same faults."""
+    """Both have the same replies, transcript, report and faults."""
     kept = []
     for words in {"dnlab": program}, {"engine": "library"}:
         with dnlab.live(**words) as session:

@@ -1,4 +1,4 @@
-"""A scenario that isn't the report's: rates, sizes, delays and queues, each told by both lines; times are worked out by hand."""
+"""A scenario that isn't the report's is refused by its rates, sizes, delays or queues, with both lines. Times are calculated by hand."""
 from typing import Callable
 
 import pytest
@@ -18,16 +18,16 @@ TRAIN = """experiment a seed 0 budget 100
 @100000000 end
 """
 FOUR = TRAIN.replace("delay 10", "delay 10 queue 3")
-# A thin link of 100 places: 150 packets of 200 bytes at once, each served in 1.6 ms.
+# A slow link with a queue for 100 packets: 150 packets of 200 bytes at once, each served in 1.6 ms.
 THIN = """experiment a seed 0 budget 200
 @0 pipe 1 config bw 1Mbit/s delay 20 queue 100
 @0 add 100 pipe 1 ip from any to any
 @0 train 1 udp 10.0.0.1 1 10.0.0.2 2 200 count 150 gap 0
 @1000000000 end
 """
-# The rate falls while the packet of 1 to 2 ms is in service: it keeps its finish, the next take 2 ms and leave 20 ms later.
+# The rate falls while the packet of 1 to 2 ms is in service: its finish does not change, the next take 2 ms and leave 20 ms later.
 CHANGED = TRAIN.replace("@100000000", "@1500000 pipe 1 config bw 4Mbit/s delay 20\n@100000000")
-# Through two pipes, one behind the other.
+# Through two pipes, one after the other.
 TWO = """experiment a seed 0 budget 100
 @0 one_pass 0
 @0 pipe 1 config bw 8Mbit/s delay 10
@@ -44,7 +44,7 @@ def joined(alone: Alone, ran: str, given: str) -> View:
     return View(next(read(alone(ran.encode()))), scenario.read(given.encode())["a"])
 
 
-# What ran, what is changed in it, and of the refusal the line of the report and its words.
+# The scenario that ran, its change, and the refusal: the line of the report and its words.
 OTHERS = [
     (TRAIN, "delay 10", "delay 11", 10, "packet 0 leaves its pipe at 11000000, but the scenario has 12000000 (line 2: delay 11"),
     (TRAIN, " delay 10", "", 10, "leaves its pipe at 11000000, but the scenario has 1000001 (line 2: delay 0"),
@@ -56,8 +56,8 @@ OTHERS = [
     (TRAIN, "delay 10", "delay 10 queue 3KBytes", 9, "packet 4 was accepted at 0, when 3 packets waited"),
     (FOUR, "queue 3", "queue 4", 5, "packet 4 is dropped as `full` at 0, but no queue of the scenario is full then (line 2)"),
     (FOUR, "queue 3", "queue 4KBytes", 5, "packet 4 is dropped as `full` at 0"),
-    # 101 packets are taken and 49 dropped, in lines 5 to 53; 13 finish before the first is delivered. Behind 91 finishes
-    # and 79 deliveries stands the finish of packet 91, at 92 * 1.6 ms.
+    # 101 packets are accepted and 49 dropped, in lines 5 to 53; 13 finish before the first is delivered. After 91 finishes
+    # and 79 deliveries there is the finish of packet 91, at 92 * 1.6 ms.
     (THIN, "delay 20", "delay 21", 67, "but the scenario has 22600000 (line 2: delay 21; it finished at 1600000)"),
     (THIN, "queue 100", "queue 90", 224, "when 90 packets waited"),
     (THIN, "2 200 count", "2 210 count", 54, "packet 0 finishes at 1600000, but the scenario has 1680000"),
@@ -76,33 +76,33 @@ def test_another_scenario(alone: Alone, ran: str, old: str, new: str, line: int,
     with pytest.raises(ParseError) as refused:
         joined(alone, ran, ran.replace(old, new, 1))
     assert said in refused.value.cause and "isn't this scenario's" in refused.value.cause
-    # Line 0: some line, of a drop by CoDel, whose moment isn't worked out here.
+    # Line 0 means any line, for a drop by CoDel whose time isn't calculated here.
     assert refused.value.line == line or not line, str(refused.value)
 
 
 @pytest.mark.parametrize("text", [TRAIN, FOUR, THIN, CHANGED, TWO])
 def test_the_same_scenario(alone: Alone, text: str) -> None:
-    """Its own is taken, and so is what only looks different."""
+    """The report's own scenario is accepted, and so is one that only looks different."""
     joined(alone, text, text)
     joined(alone, text, "# a word\n" + text.replace("@0 add", "@0  add").replace("bw 8Mbit/s", "bw 8000000"))
 
 
 def test_what_no_line_shows(alone: Alone) -> None:
-    """A queue that never was so full says nothing of its limit, and a pipe without a rate nothing of sizes."""
+    """A queue that was never full does not show its limit, and a pipe without a rate does not show sizes."""
     joined(alone, TRAIN, TRAIN.replace("delay 10", "delay 10 queue 4"))
     free = TRAIN.replace("bw 8Mbit/s ", "")
     joined(alone, free, free.replace("1000 count", "900 count"))
 
 
 def test_a_packet_that_stays(alone: Alone) -> None:
-    """By the scenario it had left long before the end."""
+    """According to the scenario, the packet should have left long before the end."""
     text = TRAIN.replace("delay 10", "delay 200")
     with pytest.raises(ParseError, match="line 5: packet 0 stays in flight to the end, but the scenario has 51000000"):
         joined(alone, text, text.replace("delay 200", "delay 50"))
 
 
 def test_rounding_of_a_busy_period(alone: Alone) -> None:
-    """Rounded up once, as a whole: 1000 bytes at 7 Mbit/s are 1142857.14 ns, two are 2285714.29, three 3428571.43."""
+    """The total is rounded up once: 1000 bytes at 7 Mbit/s take 1142857.14 ns, two packets 2285714.29, three 3428571.43."""
     text = TRAIN.replace("8Mbit/s", "7Mbit/s").replace("count 5", "count 3")
     view = joined(alone, text, text)
     assert view.visits.finish.tolist() == [1142858, 2285715, 3428572]
@@ -112,7 +112,7 @@ def test_rounding_of_a_busy_period(alone: Alone) -> None:
 
 
 def test_more_bytes_than_fit_in_a_number(alone: Alone) -> None:
-    """A busy period of more than 2^63 / (8 * 10^9) bytes is reckoned in whole numbers too."""
+    """A busy period of more than 2^63 / (8 * 10^9) bytes is calculated in whole numbers too."""
     from dnlab.analysis.links import _service
     import numpy as np
 

@@ -1,4 +1,4 @@
-"""live.h: both compilers accept it without a warning, and a small program in C gets the replies that were worked out by hand."""
+"""live.h: both compilers accept it without a warning, and a small program in C receives the replies calculated by hand."""
 import os
 import shutil
 import subprocess
@@ -10,7 +10,7 @@ from conftest import ROOT
 
 WARNINGS = ["-std=c99", "-O1", "-Wall", "-Wextra", "-Wpedantic", "-Wconversion", "-Werror", f"-I{ROOT}/stacks"]
 SANITIZED = ["-g", "-fsanitize=address,undefined", "-fno-sanitize-recover"]
-# 1 Mbit/s and 10 ms: 1000 bytes come at 18 ms; of four one is in service, two wait and the last finds no room.
+# 1 Mbit/s and 10 ms: 1000 bytes arrive at 18 ms. Of four packets, one is in service, two wait and the last finds no room.
 BY_HAND = r"""
 #define _POSIX_C_SOURCE 200809L
 #include "live.h"
@@ -96,7 +96,7 @@ def built(folder: Path, text: str, compiler: str, *more: str) -> Path:
 
 
 def here() -> list[str]:
-    """The words by which a session is in the process itself."""
+    """Returns the compiler's arguments for a session in the process itself."""
     named = os.environ.get("LIBDNLAB")
     if not named:
         pytest.skip("no library is named by LIBDNLAB (tools/library makes one)")
@@ -117,10 +117,10 @@ def test_by_hand(compiler: str, engine: str, program: str, alone: Callable[[byte
 
 @pytest.mark.parametrize("engine", ["process", "library"])
 def test_more_than_pipes_hold(engine: str, program: str, tmp_path: Path) -> None:
-    """14 MB go out in four waits, 50 MB come back."""
+    """14 MB are sent in four exchanges, and 50 MB are received."""
     words = here() if engine == "library" else []
     done = subprocess.run([built(tmp_path, MANY, "gcc", *words), program], capture_output=True, text=True, timeout=60, check=False)
-    # Of 50000 at one moment, under a budget of 65535, none is dropped.
+    # With a budget of 65535, none of 50000 packets at the same time is dropped.
     assert (done.stdout, done.returncode) == ("200000\n", 0)
 
 

@@ -1,4 +1,4 @@
-"""docs/howto/own_protocol.md: what its sessions show is what comes of them."""
+"""docs/howto/own_protocol.md shows sessions as they really run."""
 import os
 import re
 import subprocess

@@ -1,4 +1,4 @@
-"""Texts of a template: made once where they are needed again, and how long a report of them can be."""
+"""Texts of a template: they are made only once, and there is a bound for the length of their reports."""
 from pathlib import Path
 
 import pytest
@@ -12,7 +12,7 @@ pytest.importorskip("jinja2")
 
 @pytest.fixture
 def maker(tmp_path: Path) -> Maker:
-    """Makes texts of a template that includes another file, which is read each time that a text is made."""
+    """Makes texts of a template that includes another file, which is read each time a text is made."""
     (tmp_path / "part.txt").write_text("first")
     (tmp_path / "whole.tmpl").write_text("# {{ seed }} {{ queue }} {% include 'part.txt' %}\n")
     found = Maker(Template(tmp_path / "whole.tmpl"))
@@ -21,7 +21,7 @@ def maker(tmp_path: Path) -> Maker:
 
 
 def changed(maker: Maker, folder: Path) -> list[str]:
-    """Three texts of one name, the second and third of which are made after the included file changed."""
+    """Makes three texts of the same name, the second and third after the included file has changed."""
     texts = [maker.made("a", 1, {"queue": 5}, "a")]
     (folder / "part.txt").write_text("second, another length")
     maker.close()
@@ -38,13 +38,13 @@ def test_many_texts_are_not_kept(maker: Maker, tmp_path: Path, monkeypatch: pyte
 
 
 def test_listings_count_by_their_kind() -> None:
-    """A listing of pipes may have 4194304 bytes, one of rules 65536, and each line 256 more."""
+    """A listing of pipes can have 4194304 bytes, one of rules 65536, and each line 256 more."""
     begin = b"experiment a seed 1 budget 1 steps 10\n"
     none = most_report(begin + b"@0 end\n")
     assert most_report(begin + b"@0 pipe   show\n@0 end\n") - none == 4194304 + 256
     assert most_report(begin + b"@0  show\n@0 end\n") - none == 65536 + 256
     assert most_report(begin + b"@0 shows\n@0 end\n") - none == 256
-    # Without `steps` an experiment has 1000000 of them, where 10 are given above; each writes 1024 bytes at most.
+    # Without `steps` an experiment has 1000000 of them, instead of the 10 above; each writes at most 1024 bytes.
     assert most_report(begin.replace(b" steps 10", b"") + b"@0 end\n") - none == 999990 * 1024
 
 

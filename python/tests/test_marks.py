@@ -1,4 +1,4 @@
-"""What may be silently wrong: each mark by a text that people would write, and by its neighbour that is as it should be."""
+"""Warnings about silent mistakes: each has a realistic scenario with the mistake, and a similar one without it."""
 import json
 from pathlib import Path
 from typing import Callable
@@ -26,7 +26,7 @@ def view(alone: Alone, commands: str, end: int = 5 * 10**9, heading: str = "seed
     return View(next(read(alone(text))), scenario.read(text)["a"])
 
 
-# The commands, the moment of the end, and the marks.
+# The commands, the time of the end, and the warnings.
 MARKS = [
     ("a flow and a train, each way a pipe", BOTH + TRAIN + FLOW, 5 * 10**9, ""),
     ("a rule's number past the last", BOTH + TRAIN + "@0 add 70000 allow ip from any to any\n", 5 * 10**9, "refused"),
@@ -64,7 +64,7 @@ MARKS = [
     ("any to any, without a rate", ANY.replace("bw 10Mbit/s ", "") + FLOW, 5 * 10**9, ""),
     ("any to any, an instance for each sender", ANY.replace("queue 50", "queue 50 mask src-ip 0xffffffff") + FLOW, 5 * 10**9, ""),
     ("any to any, trains alone", ANY + TRAIN, 5 * 10**9, ""),
-    # A round trip of 40 ms at 100 Mbit/s holds 500000 bytes, and the window 65535.
+    # A round trip of 40 ms at 100 Mbit/s has 500000 bytes in flight, and the window allows 65535.
     ("a long fat link", BOTH.replace("10Mbit/s", "100Mbit/s").replace("queue 50", "queue 1000")
      + FLOW.replace("segments 30", "segments 1000000"), 5 * 10**9, "window-limited"),
     ("a window of two segments", BOTH + FLOW.replace("segments 30", "segments 30 window 2920"), 5 * 10**9, "window-limited"),
@@ -100,14 +100,14 @@ def test_spent_and_budget(alone: Alone) -> None:
 
 
 def test_a_pipe_that_is_deleted(alone: Alone) -> None:
-    """By hand: the train's packets come at 0, 20, .. 180 ms; the pipe goes at 90 ms, so the last five find none."""
+    """By hand: the train's packets arrive at 0, 20, .. 180 ms. The pipe is deleted at 90 ms, so the last five find no pipe."""
     made = view(alone, BOTH + TRAIN + "@90000000 pipe delete 1\n")
     notes = [note for note in made.notes if note.mark == "nopipe"]
     assert [note.of for note in notes] == ["train 9"] and "train 9: 5 of 10 packets" in notes[0].text
 
 
 def test_whose_rows(alone: Alone) -> None:
-    """A sender's mark stands in its own rows and in those of all."""
+    """A sender's warning is in its own rows and in those of all senders."""
     made = view(alone, BOTH + TRAIN + FLOW.replace("segments 30", "segments 1000000 window 2920"))
     assert [made.marks(of) for of in ("flow 1", "train 9", "")] == ["window-limited", "", "window-limited"]
 
@@ -120,14 +120,14 @@ def test_what_refusals_say(alone: Alone) -> None:
     assert codes_of(made.refused) == "10:1 13:2 22:1"
     note = made.notes[0]
     assert note.mark == "refused" and note.text.startswith("4 of 10 commands were refused") and "; and 1 more" in note.text
-    # Without the scenario the moment and the command's number are told.
+    # Without the scenario, the warning has the time and the command's number.
     alone_told = View(made.experiment).refused[0].told()
     assert alone_told == "command 5 at 0 ns (22: a flow or a train has this number already)"
     assert sorted(MEANS) == [10, 11, 12, 13, 20, 21, 22, 23, 24, 25]
 
 
 def test_too_many_of_each(alone: Alone) -> None:
-    """256 flows and trains, 256 rules, 64 pipes: what comes behind them is refused."""
+    """After 256 flows and trains, 256 rules or 64 pipes, further ones are refused."""
     trains = "".join(TRAIN.replace("train 9", f"train {number}") for number in range(1, 260))
     assert codes_of(view(alone, BOTH + trains).refused) == "25:3"
     rules = "".join(f"@0 add {number} allow ip from any to any\n" for number in range(1, 260))
@@ -139,7 +139,7 @@ def test_too_many_of_each(alone: Alone) -> None:
 
 
 def test_columns_of_the_summary(alone: Alone, tmp_path: Path) -> None:
-    """The count and the codes stand in each row; another experiment's rows have none."""
+    """Each row has the count and the codes; the rows of another experiment have none."""
     good = f"experiment a seed 0 budget 1000\n{BOTH}{TRAIN}@5000000000 end\n"
     bad = good.replace("experiment a", "experiment b").replace(TRAIN, TRAIN + TRAIN)
     (tmp_path / "s").write_text(good + bad)
@@ -154,7 +154,7 @@ def test_columns_of_the_summary(alone: Alone, tmp_path: Path) -> None:
 
 
 def test_what_is_unused(alone: Alone) -> None:
-    """It names the pipe and the rule, in the notes that summary and expect print."""
+    """The notes of summary and expect name the unused pipe and rule."""
     made = view(alone, "@0 add 10 allow ip from any to any\n" + BOTH + TRAIN)
     note = next(note for note in made.notes if note.mark == "unused")
     assert "pipe 1" in note.text and "`add 100 pipe 1 ip" in note.text and note.of == ""

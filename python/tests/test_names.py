@@ -24,7 +24,7 @@ def opened(of: Run, folder: Path) -> dnlab.Report:
 
 
 def test_the_names_in_use(run: dnlab.Report, tmp_path: Path) -> None:
-    """None of them is a name of pandas' own, but `min` and `max`, which are written with brackets; no one warns."""
+    """None of them is a name that pandas uses, except `min` and `max`, which need brackets. There are no warnings."""
     with warnings.catch_warnings():
         warnings.simplefilter("error")
         one = run["train"]
@@ -48,7 +48,7 @@ def test_a_table_passes_to_another_process(run: dnlab.Report) -> None:
 
 
 def test_sweeps_have_them(program: str) -> None:
-    """A setting of a user's own keeps its name, whatever it is called."""
+    """A user's own setting keeps its name, whatever it is."""
     text = TRAIN.scenario.decode().replace("experiment train seed 0", "experiment {{ name }} seed {{ seed }}")
     made = dnlab.sweep(text.replace("queue 2", "queue {{ size }}"), settings={"size": [2, 3]}, of="train 1",
                        stat=["fct", "delay.max", "in_flight", "delay.p50"], dnlab=program)

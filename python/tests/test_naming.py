@@ -1,4 +1,4 @@
-"""Names for the sources of injected packets: rows of their own, with delays worked out by hand, and what is refused."""
+"""Names for the sources of injected packets: they have their own rows, with delays calculated by hand, and wrong names are refused."""
 import json
 import pickle
 from pathlib import Path
@@ -13,8 +13,8 @@ from dnlab.testing import expecting
 
 MS = 10**6
 Alone = Callable[[bytes], bytes]
-# At 8 Mbit/s 1000 bytes take 1 ms and 500 take 0.5 ms; then 10 ms. Two wait besides the one that is served, so the fourth
-# packet of moment 0, in line 7, finds no room. What comes at 30 ms and at 60 ms waits for nobody.
+# At 8 Mbit/s 1000 bytes take 1 ms and 500 take 0.5 ms, and then 10 ms of delay. One packet is in service and two wait, so the
+# fourth packet at time 0, in line 7, finds no room. Those at 30 ms and at 60 ms need not wait.
 LINK = """@0 pipe 1 config bw 8Mbit/s delay 10 queue 2
 @0 add 100 pipe 1 ip from any to any
 @0 inject udp 10.0.0.1 1000 10.0.1.1 2000 1000
@@ -32,7 +32,7 @@ SOURCES = "the sources are 10.0.0.1:1000, 10.0.0.1:2000, 10.0.0.2:53"
 
 @pytest.fixture
 def files(tmp_path: Path, alone: Alone) -> tuple[Path, Path]:
-    """A report and its scenario."""
+    """Returns a report and its scenario."""
     report, scenario = tmp_path / "report.txt", tmp_path / "scenario.txt"
     scenario.write_text(SCENARIO)
     report.write_bytes(alone(SCENARIO.encode()))
@@ -40,7 +40,7 @@ def files(tmp_path: Path, alone: Alone) -> tuple[Path, Path]:
 
 
 def row_of(rows: object, sender: str) -> list[int]:
-    """Packets, delivered, drops, bytes, least and greatest delay and rate of a sender."""
+    """Returns packets, delivered, drops, bytes, minimum and maximum delay, and rate of a sender."""
     found = rows[rows.sender == sender]
     assert len(found) == 1, sender
     return [int(found[name].iloc[0]) for name in ("packets", "delivered", "full", "bytes", "min", "max", "rate")]
@@ -49,7 +49,7 @@ def row_of(rows: object, sender: str) -> list[int]:
 def test_rows_of_a_name(files: tuple[Path, Path]) -> None:
     rows = dnlab.read(*files, names={**MINE, "10.0.0.2": "other"}).summary()
     assert list(rows.sender) == ["mine", "injected", "other", "train 1", "pipe 1.0", "all"]
-    # Served up to 1 ms and, after the 0.5 ms of port 2000, from 1.5 to 2.5 ms: 16000 bits in 12.5 ms.
+    # Served until 1 ms and, after the 0.5 ms of port 2000, from 1.5 to 2.5 ms: 16000 bits in 12.5 ms.
     assert row_of(rows, "mine") == [3, 2, 1, 2000, 11 * MS, 12_500_000, 1_280_000]
     # 4000 bits in 11.5 ms, and 8000 bits in 11 ms, both rounded down.
     assert row_of(rows, "injected") == [1, 1, 0, 500, 11_500_000, 11_500_000, 347_826]
@@ -65,7 +65,7 @@ def test_all_tables_have_the_name(files: tuple[Path, Path]) -> None:
     assert list(one.packets().sender) == ["mine", "injected", "mine", "mine", "injected", "train 1"]
     assert one.losses()[["sender", "cause", "packets"]].values.tolist() == [["mine", "full", 1]]
     windows = one.throughput(10 * MS)
-    # Both come in the second window of 10 ms: 16000 bits in 10 ms.
+    # Both arrive in the second window of 10 ms: 16000 bits in 10 ms.
     assert windows[windows.sender == "mine"].rate.tolist()[:3] == [0, 1_600_000, 0]
 
 
@@ -74,14 +74,14 @@ def test_an_address_names_all_its_ports(files: tuple[Path, Path]) -> None:
     rows = report.summary(names={"10.0.0.1": "host", "10.0.0.2:53": "host"})
     assert list(rows.sender) == ["host", "train 1", "pipe 1.0", "all"]
     assert row_of(rows, "host")[:4] == [5, 4, 1, 3500]
-    # The report itself keeps its own; one that is read with names keeps them in another process.
+    # The original report keeps its own names. A report that is read with names keeps these in another process.
     assert list(report.summary().sender)[0] == "injected"
     named = pickle.loads(pickle.dumps(dnlab.read(*files, names=MINE)))
     assert list(named.summary(of="mine").sender) == ["mine"]
 
 
 def test_beside_a_flow(program: str) -> None:
-    """The injected packet is served first, up to 1 ms, the flow's segment up to 2 ms; its acknowledgement takes 1 ns."""
+    """The injected packet is served first, until 1 ms, and the flow's segment until 2 ms; its acknowledgement takes 1 ns."""
     text = """experiment both seed 1 budget 20
 @0 pipe 1 config bw 8Mbit/s delay 10
 @0 add 100 pipe 1 ip from any to 10.0.0.2
@@ -97,7 +97,7 @@ def test_beside_a_flow(program: str) -> None:
 
 
 def test_a_session(program: str, tmp_path: Path) -> None:
-    """1000 bytes take 8 ms at 1 Mbit/s, the answer's 40 bytes 0.32 ms; each way is 10 ms."""
+    """1000 bytes take 8 ms at 1 Mbit/s, the reply's 40 bytes 0.32 ms, and each direction has a delay of 10 ms."""
     with dnlab.live(program) as session:
         link = session.experiment("asked", seed=1, budget=10)
         link.command("pipe 1 config bw 1Mbit/s delay 10")
@@ -117,7 +117,7 @@ def test_a_session(program: str, tmp_path: Path) -> None:
 
 
 def test_another_scenario_is_still_refused(files: tuple[Path, Path]) -> None:
-    """With 600 bytes in line 5 the second packet would be served up to 1.6 ms, and not 1.5."""
+    """With 600 bytes in line 5 the second packet would be served until 1.6 ms instead of 1.5."""
     files[1].write_text(SCENARIO.replace("2000 500", "2000 600"))
     with pytest.raises(dnlab.InputError, match="line 5: injected, 600 bytes"):
         dnlab.read(*files, names=MINE).summary()
@@ -135,7 +135,7 @@ def test_the_tools(files: tuple[Path, Path], tmp_path: Path) -> None:
     assert tool("expect", *files, *name, "mine: delay.max < 12.5ms")[0] == 1
     picture = tmp_path / "plot.svg"
     status, _, said = tool("plot", *files, *name, "--what", "sojourn", "--of", "mine", "--out", picture)
-    # The train that isn't drawn sent all that it should, so nothing is to be said of it.
+    # The train that isn't drawn sent all of its packets, so there is no note about it.
     assert (status, said) == (0, "")
     assert ">mine</text>" in picture.read_text() and ">injected</text>" not in picture.read_text()
 
@@ -165,7 +165,7 @@ def test_the_others_refuse_it_too(files: tuple[Path, Path], name: str, more: lis
 
 
 def test_of_several_experiments(tmp_path: Path, alone: Alone) -> None:
-    """In the second, port 1000 of 10.0.0.1 is port 3000: a name must be of a packet in those that are asked for."""
+    """In the second experiment port 1000 of 10.0.0.1 is port 3000. A name must match a packet of the requested experiments."""
     text = SCENARIO + f"experiment two seed 1 budget 20\n{LINK}".replace("10.0.0.1 1000", "10.0.0.1 3000")
     report, scenario = tmp_path / "report.txt", tmp_path / "scenario.txt"
     scenario.write_text(text)

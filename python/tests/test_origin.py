@@ -1,4 +1,4 @@
-"""What made a report is kept beside it, and what doesn't match is refused in one line."""
+"""The origin of a report is stored next to it, and a report that doesn't match is refused in one line."""
 import json
 from pathlib import Path
 
@@ -54,7 +54,7 @@ def test_another_scenario_is_refused(stored: tuple[Path, Path, Path], tmp_path: 
     assert tool("summary", report, plan)[0] == 0 and tool("summary", report)[0] == 0
     with pytest.raises(dnlab.InputError, match="is not the scenario of"):
         dnlab.read(report, other)
-    # Without the file beside it, no line distinguishes the sizes.
+    # Without the file next to it, no line distinguishes the sizes.
     beside(report).unlink()
     assert tool("summary", report, other)[0] == 0 and dnlab.read(report, plan).origin is None
 
@@ -78,7 +78,7 @@ def test_a_report_that_was_changed(stored: tuple[Path, Path, Path]) -> None:
 
 
 def test_files_that_are_something_else(stored: tuple[Path, Path, Path]) -> None:
-    """A summary under that name, or what is no JSON, is nobody's record."""
+    """A summary with that name, or a file that is not JSON, is not a record of the origin."""
     report, plan, other = stored
     for text in ("[]", "{}", "hello", '{"dnlab report": 2}'):
         beside(report).write_text(text)

@@ -1,11 +1,11 @@
-"""CUBIC's window (`dnlab.senders.cubic`) beside numbers that were worked out by hand from the formulas of RFC 9438."""
+"""CUBIC's window (`dnlab.senders.cubic`), compared with numbers calculated by hand from the formulas of RFC 9438."""
 import pytest
 
 from dnlab.senders.cubic import Cubic, curve, plateau_time
 
 
 def test_the_curve() -> None:
-    """W_max = 100 and a window of 70: K is the cube root of 30 / 0.4 = 75, which lies between 4.217163^3 = 74.999983
+    """W_max = 100 and a window of 70: K is the cube root of 30 / 0.4 = 75, which is between 4.217163^3 = 74.999983
     and 4.217164^3 = 75.000036."""
     plateau = plateau_time(100, 70)
     assert 4.217163 < plateau < 4.217164
@@ -14,7 +14,7 @@ def test_the_curve() -> None:
     assert curve(2, 100, plateau) == pytest.approx(95.640336, abs=1e-6)
     assert curve(plateau, 100, plateau) == 100
     assert curve(6, 100, plateau) == pytest.approx(102.266703, abs=1e-6)
-    # A window at or above W_max begins at the plateau.
+    # A window at or above W_max starts at the plateau.
     assert plateau_time(70, 70) == plateau_time(60, 70) == 0
 
 
@@ -25,8 +25,8 @@ def test_slow_start_and_a_loss() -> None:
     assert window.cwnd == 100
     window.lost(100)
     assert (window.cwnd, window.ssthresh, window.top, window.prior) == (70, 70, 100, 100)
-    # The first acknowledgement at 5 s begins the epoch. The curve at 0 s isn't below W_est = 70 + 0.529412 / 70 but at 70 it
-    # is: the window is W_est (Reno-friendly), 9/17 being 3 (1 - 0.7) / (1 + 0.7).
+    # The first acknowledgement, at 5 s, starts the epoch. At 0 s the curve is at 70, which is below W_est = 70 + 0.529412 / 70,
+    # so the window is W_est (Reno-friendly). 9/17 is 3 (1 - 0.7) / (1 + 0.7).
     window.acknowledged(5.0, 0.1)
     assert window.cwnd == pytest.approx(70 + 9 / 17 / 70)
 
@@ -40,21 +40,21 @@ def test_concave_growth() -> None:
 
 
 def test_the_target_is_at_most_half_more() -> None:
-    """20 s after the epoch the curve is far above: 1.5 * 80 = 120, so the window grows by 40 / 80."""
+    """20 s after the epoch the curve is far above the limit of 1.5 * 80 = 120, so the window grows by 40 / 80."""
     window = Cubic(80.0, 70.0, top=100.0, plateau=plateau_time(100, 70), epoch=10.0, friendly=70.0, prior=100.0)
     window.acknowledged(30.0, 0.1)
     assert window.cwnd == 80.5
 
 
 def test_the_target_isn_t_below_the_window() -> None:
-    """At 2 s the curve is at 95.64, below the window 97: it stays."""
+    """At 2 s the curve is at 95.64, below the window of 97, which does not change."""
     window = Cubic(97.0, 70.0, top=100.0, plateau=plateau_time(100, 70), epoch=10.0, friendly=70.0, prior=100.0)
     window.acknowledged(12.0, 0.01)
     assert window.cwnd == 97
 
 
 def test_fast_convergence() -> None:
-    """A window of 90 that is lost below W_max = 100: W_max is 90 * 1.7 / 2 = 76.5; 60 under way leave 42."""
+    """A loss at a window of 90, below W_max = 100: W_max becomes 90 * 1.7 / 2 = 76.5, and 60 in flight leave a window of 42."""
     window = Cubic(90.0, 70.0, top=100.0)
     window.lost(60)
     assert (window.top, window.ssthresh, window.cwnd) == pytest.approx((76.5, 42, 42))
@@ -63,7 +63,7 @@ def test_fast_convergence() -> None:
 
 
 def test_a_timeout() -> None:
-    """One segment; slow start to 70% of what was under way; then the curve begins at its plateau, at 28 there."""
+    """The window is one segment, then slow start up to 70 % of the segments that were in flight. Then the curve starts at its plateau, 28."""
     window = Cubic(50.0, 30.0, top=60.0)
     window.timed_out(40)
     assert (window.cwnd, window.ssthresh) == (1, pytest.approx(28))
@@ -72,14 +72,14 @@ def test_a_timeout() -> None:
     assert window.cwnd == 28
     window.acknowledged(1.0, 0.1)
     assert (window.top, window.plateau) == (28, 0)
-    # 3 s later 0.4 * 3.1^3 + 28 = 39.9164 is wanted, at most half more: 42.
+    # 3 s later the target is 0.4 * 3.1^3 + 28 = 39.9164, below the limit of half more, 42.
     before = window.cwnd
     window.acknowledged(4.0, 0.1)
     assert window.cwnd == pytest.approx(before + (39.9164 - before) / before)
 
 
 def test_as_reno_once_it_has_come_back() -> None:
-    """Up to the window before the loss W_est grows by 9/17 a window, from there on by 1."""
+    """W_est grows by 9/17 per window up to the window before the loss, and by 1 afterwards."""
     window = Cubic(100.0, 70.0, top=1000.0, plateau=100.0, epoch=0.0, friendly=99.999, prior=100.0)
     window.acknowledged(100.0, 0.1)
     slow = window.friendly

@@ -17,7 +17,7 @@ BOUND = "injected: delay.p50 == 18ms"
 
 
 def packet(folder: Path) -> tuple[Path, Path, Path]:
-    """The example of one packet in a folder: its scenario packed and plain, and its report."""
+    """Returns a folder with the example of one packet: its scenario, compressed and plain, and its report."""
     text, report = text_of("one_packet", "scenario.txt"), text_of("one_packet", "expected.txt")
     packed, plain, found = folder / "scenario.txt.gz", folder / "scenario.txt", folder / "report.txt"
     packed.write_bytes(gzip.compress(text))
@@ -70,7 +70,7 @@ def test_spread_keeps_the_scenario_that_run_keeps(tmp_path: Path, program: str) 
 
 @pytest.mark.parametrize("is_file", [True, False])
 def test_a_bomb(tmp_path: Path, is_file: bool) -> None:
-    """4 GB of zeros in 4 MB, without a line feed, are refused within their first blocks, and as a scenario within its bytes."""
+    """4 GB of zeros in 4 MB, without a line feed, are refused after the first blocks, and as a scenario after its maximum length."""
     bomb = tmp_path / "bomb.gz"
     packer = zlib.compressobj(9, zlib.DEFLATED, 31)
     with open(bomb, "wb") as file:

@@ -1,4 +1,4 @@
-"""Each command that a page shows in an indented block runs and ends with status 0, or stands in a list with who runs it else.
+"""Each command that a page shows in an indented block runs and ends with status 0, or is in a list with the test that runs it.
 
 What a page shows in a block `console` is run with its output by test_pages.py. Here the files that pages name and don't show
 (`scenario.txt`, `rules.sh`, `call.pcap`) are made first; a block ``text title="NAME"`` is one of the page's own.
@@ -24,7 +24,7 @@ PAGES = [page for page in [ROOT / "README.md", ROOT / "python/README.md", *sorte
 BLOCK = re.compile(r"^```(\w*)(?: title=\"([\w.]+)\")?\n(.*?)^```\n", re.DOTALL | re.MULTILINE)
 COMMAND = re.compile(r"(?:\$ )?(?:[A-Z_]+=\S+ )*(?:\./|(?:tools|cookbook|stacks|examples)/|dnlab(?:-\w+)? |"
                      r"(?:python3|pip|apt-get|git|cc|rt|tc|sed|export) |\(cd )")
-# What isn't run here, by page and by how the command begins, and why.
+# The commands that aren't run here, by page and by the start of the command, with the reason.
 ELSEWHERE = {
     ("README.md", "git clone"): "a network",
     ("README.md", "apt-get install"): "root",
@@ -79,7 +79,7 @@ SENDERS = """@0 flow 1 10.0.1.1 80 10.0.0.1 40000 smss 1460 segments 20
 
 
 def commands_in(page: Path) -> list[str]:
-    """The commands of a page's indented blocks, each on one line."""
+    """Returns the commands of a page's indented blocks, each on one line."""
     text = BLOCK.sub("", page.read_text()).replace("\\\n", "")
     return [line[4:] for line in text.split("\n") if line.startswith("    ") and COMMAND.match(line[4:])]
 
@@ -95,12 +95,12 @@ def here(page: Path) -> list[str]:
 
 @pytest.fixture
 def given(folder: Path, program: str, alone: Callable[[bytes], bytes]) -> Path:
-    """A folder with the files that pages name."""
+    """Returns a folder with the files that pages name."""
     scenario = LINK.format(name="plain").encode()
     for name, text in {"scenario.txt": scenario, "link.txt": scenario.replace(b"@0 trace 1\n", b""), "rules.sh": RULES.encode(),
                        "first.txt": LINK.format(name="first").encode(), "second.txt": LINK.format(name="second").encode(),
                        "senders.txt": SENDERS.encode(),
-                       # a packet each millisecond: some 12 Mbit/s
+                       # a packet every millisecond: about 12 Mbit/s
                        "verizon.trace": "".join(f"{moment}\n" for moment in range(1, 1001)).encode(),
                        **{name: alone(scenario) for name in ("report.txt", "before.txt", "after.txt")}}.items():
         (folder / name).write_bytes(text)
@@ -131,7 +131,7 @@ def test_what_is_not_run_is_there() -> None:
 
 
 def test_no_command_hides_in_another_block() -> None:
-    """A block of `sh` or `bash` would be seen neither here nor by test_pages.py."""
+    """Neither this file nor test_pages.py would find the commands of a block `sh` or `bash`."""
     for page in PAGES:
         assert not [kind for kind, _, _ in BLOCK.findall(page.read_text()) if kind in ("sh", "bash", "shell")], page
 

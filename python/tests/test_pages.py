@@ -1,4 +1,4 @@
-"""What the pages show is what comes out: each command of a block `console`, and each program with its output.
+"""The pages show real output: that of each command of a block `console`, and of each program.
 
 A page is read from its top. A block ``text title="NAME"`` is written to a file; of a block `console` each line behind `$`
 is a command, and what follows is what it prints (a line `...` stands for any lines). A block `python` before an indented
@@ -23,26 +23,26 @@ PAGES = [page for page in [ROOT / "README.md", *sorted((ROOT / "docs").rglob("*.
 
 
 def commands(block: str) -> Iterator[tuple[str, str]]:
-    """Each command of a block, with what it has to print."""
+    """Yields each command of a block with its expected output."""
     for part in re.split(r"^\$ ", block.replace("\\\n", ""), flags=re.MULTILINE)[1:]:
         command, _, shown = part.partition("\n")
         yield command, shown
 
 
 def stripped(text: str) -> str:
-    """A text without spaces at the ends of its lines."""
+    """Returns a text without spaces at the ends of its lines."""
     return "\n".join(line.rstrip() for line in text.rstrip().split("\n"))
 
 
 def same(said: str, shown: str) -> bool:
-    """Whether a command said what the page shows; a line `...` stands for any lines."""
+    """Returns true if the output is the one that the page shows. A line `...` matches any lines."""
     pattern = "".join(re.escape(part) if part != "...\n" else r"(?:.*\n)*?"
                       for part in re.split(r"^(\.\.\.\n)", f"{stripped(shown)}\n", flags=re.MULTILINE))
     return re.fullmatch(pattern, f"{stripped(said)}\n") is not None
 
 
 def run(words: list[str], folder: Path, program: str) -> str:
-    """What a command says on both streams."""
+    """Returns the output of a command on both streams."""
     done = subprocess.run(words, cwd=folder, stdout=subprocess.PIPE, stderr=subprocess.STDOUT, text=True, timeout=300,
                           stdin=subprocess.DEVNULL, check=False,
                           env={**os.environ, "DNLAB": program, "PYTHONPATH": str(ROOT / "python"), "PYTHONDONTWRITEBYTECODE": "1"})
@@ -51,7 +51,7 @@ def run(words: list[str], folder: Path, program: str) -> str:
 
 @pytest.fixture
 def folder(tmp_path: Path, program: str) -> Path:
-    """An empty folder in which the commands of the pages find the program and the tools."""
+    """Returns an empty folder in which the commands of the pages find the program and the tools."""
     # It starts the program, which DNLAB names.
     (tmp_path / "dnlab").symlink_to(ROOT / "dnlab")
     for name in LINKED:
@@ -88,7 +88,7 @@ def test_what_a_page_shows_is_compared() -> None:
 
 
 def text_of(name: str) -> str:
-    """A scenario of the tutorial, which makes two of them from others by sed."""
+    """Returns a scenario of the tutorial, which makes two of them from others with sed."""
     if name == "rate.txt":
         return text_of("packet.txt").replace("delay", "bw 1Mbit/s delay")
     if name == "codel.txt":
@@ -129,14 +129,14 @@ TITLED = {f"{page.name} {block[2]}": block[3] for page in PAGES for block in BLO
 
 @pytest.mark.parametrize("name", [*SCENARIOS, *TITLED])
 def test_no_text_of_a_page_has_a_seed_that_is_warned_of(name: str, program: str) -> None:
-    """A reader types these first; a warning about a habit of the pages themselves would hide those that count."""
+    """Readers type these first. A warning about the pages' own habits would hide the important warnings."""
     text = {**SCENARIOS, **TITLED}[name]
     done = subprocess.run([program, "check", "--explain"], input=text, capture_output=True, text=True, check=False)
     assert done.returncode in (0, 1) and "its seed" not in done.stderr
 
 
 def test_the_cookbook_is_as_it_is_meant(program: str) -> None:
-    """`--explain` says nothing of the worked scenarios."""
+    """`--explain` prints nothing about the worked scenarios."""
     said = [subprocess.run([program, "check", "--explain"], input=text, capture_output=True, text=True, check=False).stderr
             for text in SCENARIOS.values()]
     assert len(said) >= 9 and not any(said)

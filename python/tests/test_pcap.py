@@ -1,4 +1,4 @@
-"""What `pcap` writes, as tcptrace, tshark and dpkt read it, beside values worked out by hand and beside `summary`."""
+"""The captures of `pcap`, read by tcptrace, tshark and dpkt, and compared with values calculated by hand and with `summary`."""
 import io
 import re
 import shutil
@@ -29,7 +29,7 @@ TWO = """experiment a seed 0 budget 100
 @5000001 train 9 udp 10.0.0.2 5 10.0.1.2 6 100 count 1 gap 0
 @100000000 end
 """
-# Losses by chance and by a short queue, so that segments are sent again.
+# Random losses and losses at a short queue, so that segments are sent again.
 LOSSY = """experiment lossy seed 5 budget 1000
 @0 trace 1
 @0 pipe 1 config bw 10Mbit/s delay 20 queue 20 plr 0.02
@@ -44,7 +44,7 @@ LOSSY = """experiment lossy seed 5 budget 1000
 
 
 def written(alone: Alone, folder: Path, text: str, *words: str) -> Path:
-    """The capture of a scenario."""
+    """Returns the capture of a scenario."""
     (folder / "s").write_text(text)
     (folder / "r").write_bytes(alone(text.encode()))
     status, out, err = tool("pcap", folder / "r", folder / "s", "--out", folder / "a.pcap", *words)
@@ -62,7 +62,7 @@ def test_by_hand(alone: Alone, tmp_path: Path) -> None:
         found.append((socket.inet_ntoa(inner.src), inner.len, inner.id, getattr(inner.data, "seq", None), getattr(inner.data, "ack", None)))
     assert found == [("10.0.0.1", 1000, 0, 1, 1), ("10.0.0.1", 1000, 1, 961, 1), ("10.0.0.2", 100, 2, None, None),
                      ("10.0.1.1", 40, 3, 1, 961), ("10.0.1.1", 40, 4, 1, 1921)]
-    # Seconds and nanoseconds of each, as bytes stand in the file: behind 24 of the file, each has 16 and what is kept.
+    # Seconds and nanoseconds of each packet, by their places: the file's header has 24 bytes, each packet 16 and its data.
     at, moments = 24, []
     while at < len(data):
         second, rest, kept, length = (int.from_bytes(data[at + k:at + k + 4], "little") for k in (0, 4, 8, 12))
@@ -79,7 +79,7 @@ def test_the_receiver_s_side(alone: Alone, tmp_path: Path) -> None:
 
 
 def counts_of(said: str) -> list[dict[str, tuple[int, int]]]:
-    """Of each connection tcptrace's counts there and back."""
+    """Returns tcptrace's counts in both directions of each connection."""
     found = []
     for part in re.split(r"TCP connection [0-9]+:", said)[1:]:
         found.append({name.strip(): (int(there), int(back)) for name, there, back in
@@ -109,7 +109,7 @@ def test_tcptrace_counts_what_summary_does(alone: Alone, tmp_path: Path) -> None
 
 @pytest.mark.skipif(shutil.which("tshark") is None, reason="tshark is missing (Debian: tshark)")
 def test_tshark_reads_it(alone: Alone, tmp_path: Path) -> None:
-    """Times, numbers and checksums; tshark says which segments were sent again by itself."""
+    """Compares times, numbers and checksums. tshark detects retransmitted segments by itself."""
     path = written(alone, tmp_path, LOSSY)
     checks = [word for name in ("ip", "tcp", "udp") for word in ("-o", f"{name}.check_checksum:TRUE")]
     fields = [word for name in ("frame.time_epoch", "ip.id", "ip.src", "tcp.len", "ip.checksum.status", "tcp.checksum.status",
@@ -119,12 +119,12 @@ def test_tshark_reads_it(alone: Alone, tmp_path: Path) -> None:
     rows = [line.split("\t") for line in said.splitlines()]
     report = alone(LOSSY.encode()).decode().split("\n")
     makes = [line.split() for line in report if " make " in line]
-    # Packets that were made by the senders, by the lines of the report; acknowledgements by theirs.
+    # The packets that senders created, according to the report; also acknowledgements.
     sent = [(int(words[0]), int(words[2])) for words in makes if words[3] != "ack"]
     came = [(int(words[0]), int(words[2])) for words in (line.split() for line in report) if words[1:2] == ["deliver"] and words[3] == "ack"]
     got = [(int(row[0].replace(".", "")), int(row[1], 16)) for row in rows]
     assert sorted(got) == sorted(sent + came) and len(came) > 700
-    # No checksum is bad (0); of a cut packet tshark may not judge those within (2, 3).
+    # No checksum is bad (0). tshark can't check those inside a truncated packet (2, 3).
     assert {row[4] for row in rows} == {"1"} and all(row[5] != "0" and row[6] != "0" for row in rows)
     segments = {words[2]: words for words in makes if words[3] == "data"}
     assert all(int(row[7]) == int(segments[str(int(row[1], 16))][5]) + 1 and int(row[3]) == int(segments[str(int(row[1], 16))][-1]) - 40
@@ -150,7 +150,7 @@ def test_what_pcap_refuses(alone: Alone, tmp_path: Path) -> None:
 
 
 def test_injected_tcp_is_refused(tmp_path: Path, alone: Callable[[bytes], bytes]) -> None:
-    """No report has a program's sequence numbers, so none are made up; other senders, and UDP, are written."""
+    """A report doesn't have a program's sequence numbers, and none are invented. Other senders, and UDP, are written."""
     text = ("experiment a seed 1 budget 9\n@0 trace 1\n@0 add 1 allow ip from any to any\n@1 inject tcp 10.0.0.1 1 10.0.0.2 2 100\n"
             "@2 inject udp 10.0.0.1 1 10.0.0.2 2 100\n@3 train 4 tcp 10.0.0.3 1 10.0.0.2 2 100 count 2 gap 1\n@99 end\n")
     scenario, report, out = tmp_path / "s.txt", tmp_path / "r.txt", tmp_path / "o.pcap"
@@ -166,7 +166,7 @@ def test_injected_tcp_is_refused(tmp_path: Path, alone: Callable[[bytes], bytes]
 
 
 def test_it_says_what_the_capture_lacks(alone: Alone, tmp_path: Path) -> None:
-    """Steps that were spent cut the capture; that a window held a flow back is for `summary` to judge."""
+    """A run whose steps ran out truncates the capture. `summary` judges whether a window held a flow back."""
     (tmp_path / "s").write_text(LOSSY.replace("budget 1000", "budget 1000 steps 500"))
     (tmp_path / "r").write_bytes(alone((tmp_path / "s").read_bytes()))
     status, _, err = tool("pcap", tmp_path / "r", tmp_path / "s", "--out", tmp_path / "a.pcap")

@@ -1,4 +1,4 @@
-"""The axes of figures, against values worked out by hand from the reports; times in ms. Long series are thinned."""
+"""The axes of figures, compared with values calculated by hand from the reports (times in ms). Long series are thinned."""
 import numpy as np
 import pytest
 from conftest import view_of
@@ -11,7 +11,7 @@ pictures = pytest.importorskip("dnlab.plot.pictures", reason="matplotlib is miss
 
 
 def lines_on(axes) -> dict[str, list[tuple[float, float]]]:
-    """What is drawn on the axes: each line's values by its label."""
+    """Returns the values of each line on the axes by its label."""
     return {line.get_label(): [(float(x), float(y)) for x, y in line.get_xydata()] for line in axes.get_lines()}
 
 
@@ -23,7 +23,7 @@ PANELS = ["window", "queue", "sojourn", "delivered", "drops"]
 
 
 def test_four_segments() -> None:
-    """Windows in segments of 1460 bytes. Of the three packets at 0 one is in service, and two wait; one packet alone never
+    """Windows are in segments of 1460 bytes. Of the three packets at 0, one is in service and two wait; a single packet never
     waits. Acknowledgements of 40 bytes, and their pipe, are drawn on request."""
     figure = pictures.figure_of([view_of("reno_four_segments")], PANELS)
     window, queue, sojourn, delivered, drops = figure.axes
@@ -59,7 +59,7 @@ def test_acknowledgements_on_request() -> None:
 
 
 def test_two_columns() -> None:
-    """The names are above the columns; time and values go over one range. ssthresh is drawn from where it is on the axis."""
+    """The names are above the columns, which have the same ranges of time and values. ssthresh is drawn once it is on the axis."""
     figure = pictures.figure_of([view_of("codel_one_drop"), view_of("reno_timeouts")], ["window", "drops"])
     first, second, one, five = figure.axes
     assert near(lines_on(one)["codel"], [(0.0, 0.0), (0.112, 1.0), (0.232000001, 1.0)])
@@ -90,7 +90,7 @@ def test_a_traced_report_alone() -> None:
        some.randoms(use_true_random=False))
 @settings(max_examples=200)
 def test_thinned(values: list[int], stretches: int, chance) -> None:
-    """In each stretch of time the first, the least, the greatest and the last value stay, and no more."""
+    """In each interval only the first, the minimum, the maximum and the last value remain."""
     moments = np.cumsum([chance.randrange(0, 3) for _ in values])
     one = Series("x", "steps", moments, np.array(values))
     few = thinned(one, stretches)

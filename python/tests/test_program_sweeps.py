@@ -1,4 +1,4 @@
-"""Sweeps run any program that leaves transcript.txt and report.txt, and hosts files as templates."""
+"""Sweeps run any program that writes transcript.txt and report.txt, and hosts files as templates."""
 import os
 from pathlib import Path
 
@@ -22,7 +22,7 @@ printf '@0 add 100 pipe 1 ip from any to any\\n@1000000 inject udp 10.0.0.1 1000
 
 @pytest.fixture
 def mine(tmp_path: Path, program: str, monkeypatch: pytest.MonkeyPatch) -> str:
-    """The command line of a program of one's own."""
+    """Returns the command line of a user's own program."""
     (tmp_path / "mine").write_text(PROGRAM)
     (tmp_path / "mine").chmod(0o755)
     monkeypatch.setenv("DNLAB", program)
@@ -35,7 +35,7 @@ def test_a_program_with_each_setting_and_seed(mine: str) -> None:
     assert status == 0, err
     rows = [line.split(",") for line in out.splitlines()]
     means = {row[0]: row[rows[0].index("mean")] for row in rows[1:] if "delay.p50" in row}
-    # Delays of 11, 12 and 13 ms, so 12 in the mean.
+    # Delays of 11, 12 and 13 ms, so the mean is 12.
     assert {rate: float(mean) for rate, mean in means.items()} == {"1Mbit/s": 20e6, "2Mbit/s": 16e6}
 
 

@@ -1,4 +1,4 @@
-"""The words of `dnlab` that the package adds to those of its program: a file's name, `check --json`, and their help."""
+"""The arguments that the package adds to those of the program `dnlab`: a file's name, `check --json`, and their help."""
 import json
 import os
 import re
@@ -23,7 +23,7 @@ FAULTY = "experiment a seed 0 budget 10\n@0 pipe 1 config bw 10Mbps\n@5 shw\n@9 
 
 
 def dnlab(program: str, *words: object, text: bytes = b"", script: Path = ROOT / "dnlab") -> tuple[int, bytes, str]:
-    """Status, standard output and standard error of the script ./dnlab, which starts a program."""
+    """Runs the script ./dnlab, which starts a program. Returns status, standard output and standard error."""
     done = subprocess.run([script, *map(str, words)], input=text, capture_output=True, timeout=60, check=False, env={**os.environ, "DNLAB": program})
     return done.returncode, done.stdout, done.stderr.decode()
 
@@ -44,7 +44,7 @@ def test_files_that_can_not_be_read(tmp_path: Path, program: str) -> None:
     assert dnlab(program, "check", tmp_path) == (3, b"", f"dnlab: {tmp_path}: Is a directory\n")
     status, out, said = dnlab(program, "run", PACKET, none)
     assert (status, out) == (2, b"") and str(none) in said and said.count("\n") == 1
-    # A word that the program doesn't know is its own to refuse.
+    # The program itself refuses an argument that it doesn't know.
     assert dnlab(program, "alone", "--nothing")[0] == 2
     assert dnlab(program, "alone", "--json", PACKET)[0] == 2
 
@@ -75,7 +75,7 @@ def test_which_words_are_files() -> None:
 
 
 def found(program: str, text: bytes, *words: str) -> tuple[int, list[dict[str, Any]]]:
-    """Status and objects of `check --json`, which says nothing else."""
+    """Returns the status and the objects of `check --json`, which prints nothing else."""
     status, out, said = dnlab(program, "check", "--json", *words, text=text)
     assert not said
     return status, json.loads(out)
@@ -104,7 +104,7 @@ CASES = [case for case in explained_cases.cases() if case.words == ["check", "--
 
 
 def test_each_worked_case_has_its_objects(program: str) -> None:
-    """As many as the cases of tools/gate/explained have, whose marks stand in the column, and each row of them in an object."""
+    """There are as many objects as the cases of tools/gate/explained have, with the column of their marks, and each row is in one."""
     assert len(CASES) > 100
     for case in CASES[::20]:
         status, objects = found(program, case.text)
@@ -137,7 +137,7 @@ def test_what_can_not_be_written(words: str, output: str, program: str) -> None:
 
 
 def test_where_it_is_installed(tmp_path: Path, program: str) -> None:
-    """As tools/install leaves it: the script in bin, the program in libexec, the package in share."""
+    """It works as installed by tools/install: the script in bin, the program in libexec, the package in share."""
     (tmp_path / "bin").mkdir()
     script = Path(shutil.copy(ROOT / "dnlab", tmp_path / "bin"))
     (tmp_path / "libexec/dnlab").mkdir(parents=True)

@@ -1,4 +1,4 @@
-"""Which program is called, and what the commands say of themselves."""
+"""The choice of the program, and the commands' help and versions."""
 import os
 import re
 import shutil
@@ -17,7 +17,7 @@ from dnlab import programs
 from dnlab.__main__ import COMMANDS, NEEDS, said_of
 from dnlab.cli.words import renamed
 
-# A package that stands alone, as pip installs it: a copy without its repository.
+# A package without its repository, as pip installs it.
 ALONE = "import sys; sys.path.insert(0, {place!r}); from dnlab.{module} import {name}; print({name}())"
 
 
@@ -29,7 +29,7 @@ def script(place: Path, text: str) -> Path:
 
 
 def copied(to: Path) -> Path:
-    """The package alone in a folder."""
+    """Returns a folder that contains only the package."""
     shutil.copytree(ROOT / "python" / "dnlab", to / "dnlab", ignore=shutil.ignore_patterns("__pycache__"))
     return to
 
@@ -42,7 +42,7 @@ def asked(place: Path, module: str, name: str, *words: str, **names: str) -> "su
 
 @pytest.mark.parametrize("name", COMMANDS)
 def test_help_needs_no_package(name: str) -> None:
-    """By -S Python has none of Debian's packages; all else of a tool says there what is lacking."""
+    """With -S Python has none of Debian's packages. Everything else that a tool does reports the missing package."""
     bare = [sys.executable, "-S", ROOT / "tools" / name]
     help_there, help_bare, version, other = (
         subprocess.run(words, capture_output=True, text=True, check=False)
@@ -117,7 +117,7 @@ def test_all_say_the_same_version() -> None:
 
 
 def test_a_missing_module_is_said_in_one_line(tmp_path: Path) -> None:
-    # A Python without packages of others.
+    # A Python without third-party packages.
     done = subprocess.run([sys.executable, "-S", "-B", str(ROOT / "tools" / "summary"), "report.txt"], capture_output=True, text=True, check=False)
     assert done.returncode == 3 and done.stdout == ""
     assert done.stderr.startswith(f"summary: numpy is missing in {sys.executable} (pip install numpy; Debian, for /usr/bin/python3: "
@@ -143,7 +143,7 @@ def test_help_names_the_installed_commands(tmp_path: Path) -> None:
 
 
 def test_pip_install_of_the_sources(tmp_path: Path) -> None:
-    """The sources have no program: they are not installed where there is none, and then use one that is on the PATH, never the script itself."""
+    """The sources have no program. They are only installed if there is one, and use the one on the PATH, never the script itself."""
     shutil.copytree(ROOT / "python", tmp_path / "python", ignore=shutil.ignore_patterns("__pycache__", "tests", "bin"))
     subprocess.run([sys.executable, "-m", "venv", "--without-pip", "--system-site-packages", tmp_path / "v"], check=True, timeout=60)
     pip = [sys.executable, "-m", "pip", "--python", tmp_path / "v/bin/python3", "install", "-q", "--no-index", "--no-deps", "--no-build-isolation"]

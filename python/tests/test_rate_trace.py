@@ -1,4 +1,4 @@
-"""tools/rate-trace: rates worked out by hand, and outages run by the program."""
+"""tools/rate-trace: rates calculated by hand, and outages run by the program."""
 import json
 from pathlib import Path
 from typing import Callable
@@ -7,7 +7,7 @@ import pytest
 from conftest import tool
 
 Run = Callable[[bytes], bytes]
-# 1500 bytes take 10 ms at 1.2 Mbit/s; a packet comes each 100 ms, the last at 2.9 s.
+# 1500 bytes take 10 ms at 1.2 Mbit/s; a packet arrives every 100 ms, the last one at 2.9 s.
 SCENARIO = """experiment a seed 1 budget 1000
 @0 pipe 1 config bw 5Mbit/s queue {} codel target 9s
 @0 add 1 pipe 1 ip from any to any
@@ -28,7 +28,7 @@ def finishes(report: bytes) -> list[int]:
 
 
 def test_mahimahi(tmp_path: Path) -> None:
-    """10 packets of 1504 bytes in 100 ms are 1203200 bit/s; then 5; then none; then 1 in the 50 ms that are left."""
+    """10 packets of 1504 bytes in 100 ms are 1203200 bit/s; then 5; then none; then 1 in the remaining 50 ms."""
     moments = [*range(10, 101, 10), *range(120, 201, 20), 350]
     (tmp_path / "trace").write_text("".join(f"{moment}\n" for moment in moments))
     status, said, told = tool("rate-trace", tmp_path / "trace", "--config", "delay 20 queue 9KB mask dst-ip 0xff codel target 7 interval 99",
@@ -44,7 +44,7 @@ def test_mahimahi(tmp_path: Path) -> None:
 def test_repeated(tmp_path: Path) -> None:
     (tmp_path / "trace").write_text("100\n")
     status, said, _ = tool("rate-trace", tmp_path / "trace", "--every", "50ms", "--repeat", "250ms", "--outage", "drop")
-    # A packet in the second half of each 100 ms: 1504 bytes in 50 ms. A link that begins with an outage has no rate yet.
+    # A packet in the second half of each 100 ms: 1504 bytes in 50 ms. A link that starts with an outage has no rate yet.
     assert status == 0 and [line.split()[0] for line in said.splitlines()] == ["@0", "@50000000", "@100000000", "@150000000", "@200000000"]
     assert [" plr 1" in line for line in said.splitlines()] == [True, False, True, False, True]
     assert "@50000000 pipe 1 config bw 240640bit/s\n" in said
@@ -64,7 +64,7 @@ def test_an_outage_holds_packets(tmp_path: Path, alone: Run) -> None:
 
 
 def test_an_outage_fills_the_queue(tmp_path: Path, alone: Run) -> None:
-    """One is in service and five wait, so those of 1.6 to 2.0 s find it full."""
+    """One is in service and five wait, so those at 1.6 to 2.0 s find the queue full."""
     trace, scenario = files(tmp_path, OUTAGE, "5")
     _, text, _ = tool("rate-trace", trace, "--scenario", scenario, "--outage", "hold")
     report = alone(text.encode()).decode()
@@ -73,7 +73,7 @@ def test_an_outage_fills_the_queue(tmp_path: Path, alone: Run) -> None:
 
 
 def test_an_outage_that_comes_to_an_idle_link(tmp_path: Path, alone: Run) -> None:
-    """A packet that comes in the middle of the outage, between two steps, is late by less than a step."""
+    """A packet that arrives in the middle of the outage, between two steps, is late by less than a step."""
     trace, scenario = files(tmp_path, OUTAGE)
     text = scenario.read_text().replace("@0 train", "@1234567890 train").replace("count 30", "count 1")
     scenario.write_text(text)
@@ -84,7 +84,7 @@ def test_an_outage_that_comes_to_an_idle_link(tmp_path: Path, alone: Run) -> Non
 
 
 def test_what_a_low_rate_would_do(tmp_path: Path, alone: Run) -> None:
-    """1 kbit/s in place of the outage: the packet in service takes 12 s, long after its end, which the tool says."""
+    """With 1 kbit/s instead of the outage, the packet in service takes 12 s, until long after its end, which the tool reports."""
     trace, scenario = files(tmp_path, OUTAGE.replace("1,0\n", "1,1000\n"))
     status, text, told = tool("rate-trace", trace, "--scenario", scenario)
     assert status == 0 and "1 rates are so low" in told and "--lowest" in told
@@ -102,7 +102,7 @@ def test_an_outage_that_drops(tmp_path: Path, alone: Run) -> None:
 
 
 def test_what_the_link_could_have_carried(tmp_path: Path, alone: Run) -> None:
-    """1 Mbit/s for a second and 3 for another are 500000 bytes; 12 Mbit/s come, so the pipe is busy all the time."""
+    """1 Mbit/s for a second and 3 for another are 500000 bytes; 12 Mbit/s arrive, so the pipe is always busy."""
     trace, scenario = files(tmp_path, "moment,rate\n0,1000000\n1000000000,3Mbit/s\n2000000000,3Mbit/s\n")
     scenario.write_text(scenario.read_text().replace("count 30 gap 100000000", "count 2000 gap 1000000").replace("@9000000000", "@2000000000"))
     _, text, told = tool("rate-trace", trace, "--scenario", scenario, "--out", tmp_path / "made.txt")

@@ -1,4 +1,4 @@
-"""The pages of reference: the Python package's is what its docstrings say, and each row of limits.md is so."""
+"""The reference pages: the Python page has the package's docstrings, and each row of limits.md is correct."""
 import re
 import subprocess
 import sys
@@ -7,7 +7,7 @@ import pytest
 from conftest import ROOT
 
 TOOL = ROOT / "tools" / "gate" / "python_api"
-# Of each row of the table a line that has one number of it: NAME of the row, and the line with {} for the number.
+# For each row of the table, a line that contains one of its numbers: the name of the row, and the line with {} for the number.
 LINES = {
     "number of a pipe": "@0 pipe {} config",
     "size of a packet, with headers": "@0 inject udp 10.0.0.1 1 10.0.0.2 1 {}",
@@ -27,14 +27,14 @@ LINES = {
 
 
 def number(cell: str) -> int:
-    """A limit of the table: 65535, or 10^15 ns, some 11 days."""
+    """Returns a limit of the table: 65535, or 10^15 ns, about 11 days."""
     found = re.match(r"(\d+)(?:\^(\d+))?", cell)
     assert found, cell
     return int(found[1]) ** int(found[2] or 1)
 
 
 def rows() -> dict[str, tuple[int, int]]:
-    """The least and the most of each row."""
+    """Returns the minimum and the maximum of each row."""
     page = (ROOT / "docs/reference/limits.md").read_text()
     found = re.findall(r"^\| ([^|]+) \| ([^|]*) \| ([^|]+) \| `outofrange`", page, re.MULTILINE)
     return {name: (number(least), number(most)) for name, least, most in found if name in LINES}

@@ -1,4 +1,4 @@
-"""tools/replay: captures made by hand, byte by byte, and tables; what leaves the link is worked out by hand."""
+"""tools/replay: captures made by hand, byte by byte, and tables. The packets that leave the link are calculated by hand."""
 import csv
 import shutil
 import struct
@@ -41,7 +41,7 @@ def tcp(length: int, first: int) -> bytes:
 
 
 def pcap(path: Path, packets: Iterable[tuple[int, bytes]], nano: bool = False, link: int = 1, before: bytes = ETHERNET) -> Path:
-    """A capture: moments are us, or ns, behind `BEGIN`."""
+    """Returns a capture, with times in us or ns after `BEGIN`."""
     unit = 10**9 if nano else 10**6
     data = struct.pack("<IHHiIII", 0xa1b23c4d if nano else 0xa1b2c3d4, 2, 4, 0, 0, 65535, link)
     for moment, packet in packets:
@@ -52,7 +52,7 @@ def pcap(path: Path, packets: Iterable[tuple[int, bytes]], nano: bool = False, l
 
 
 def pcapng(path: Path, packets: Iterable[tuple[int, bytes]]) -> Path:
-    """A capture of pcapng, in ns (if_tsresol 9)."""
+    """Returns a capture in pcapng, in ns (if_tsresol 9)."""
     data = struct.pack("<IIIHHqI", 0x0a0d0d0a, 28, 0x1a2b3c4d, 1, 0, -1, 28)
     data += struct.pack("<IIHHI", 1, 32, 1, 0, 65535) + struct.pack("<HHBxxx", 9, 1, 9) + struct.pack("<HHI", 0, 0, 32)
     for moment, packet in packets:
@@ -65,7 +65,7 @@ def pcapng(path: Path, packets: Iterable[tuple[int, bytes]]) -> Path:
 
 
 def left(path: Path) -> list[tuple[int, int, bytes]]:
-    """The packets of a capture of nanoseconds: moment behind `BEGIN`, length of IP, frame."""
+    """Returns the packets of a capture in nanoseconds: time after `BEGIN`, length of IP, frame."""
     data = path.read_bytes()
     assert struct.unpack("<I", data[:4])[0] == 0xa1b23c4d
     found, place = [], 24
@@ -78,8 +78,8 @@ def left(path: Path) -> list[tuple[int, int, bytes]]:
 
 
 def test_a_capture_leaves_a_link(tmp_path: Path) -> None:
-    """1 Mbit/s: 1000 bytes take 8 ms, the delay is 10 ms. At 0, 1, 2 and 3 ms they come: the first is served until 8, two wait until
-    16 and 24, the fourth finds the queue of two full."""
+    """1 Mbit/s: 1000 bytes take 8 ms, and the delay is 10 ms. They arrive at 0, 1, 2 and 3 ms: the first is served until 8, two wait
+    until 16 and 24, and the fourth finds the queue of two full."""
     came = pcap(tmp_path / "in.pcap", [(1000 * number, udp(1000)) for number in range(4)])
     status, said, told = tool("replay", came, *LINK, "--out", tmp_path / "out.pcap")
     assert (status, said) == (0, "")
@@ -90,7 +90,7 @@ def test_a_capture_leaves_a_link(tmp_path: Path) -> None:
 
 
 def test_other_programs_read_it(tmp_path: Path) -> None:
-    """tcpdump shows moments, sequence numbers and lengths; by hand 1000 bytes take 8 ms and 500 take 4, and both 10 ms more."""
+    """tcpdump shows times, sequence numbers and lengths. By hand: 1000 bytes take 8 ms and 500 take 4, and both 10 ms more."""
     if not shutil.which("tcpdump"):
         pytest.skip("tcpdump is missing (Debian: tcpdump)")
     came = pcap(tmp_path / "in.pcap", [(0, tcp(1000, 5)), (500, udp(500))])
@@ -103,7 +103,7 @@ def test_other_programs_read_it(tmp_path: Path) -> None:
 
 @pytest.mark.parametrize("form", [pcapng, lambda path, packets: pcap(path, packets, nano=True)])
 def test_nanoseconds_are_exact(form: Callable[[Path, list[tuple[int, bytes]]], Path], tmp_path: Path) -> None:
-    """1 ns between two packets, in 2023: a float of seconds can't tell them apart."""
+    """1 ns is between two packets in 2023, which a float of seconds can't distinguish."""
     came = form(tmp_path / "in.pcap", [(5, udp(100)), (6, udp(100))])
     assert tool("replay", came, "--link", "delay 1", "--out", tmp_path / "out.pcap")[0] == 0
     assert [moment for moment, _, _ in left(tmp_path / "out.pcap")] == [1000005, 1000006]
@@ -121,7 +121,7 @@ def test_large_packets(tmp_path: Path) -> None:
     parts = left(out)
     assert [length for _, length, _ in parts] == [1514, 1514, 1134]
     assert [struct.unpack(">I", frame[38:42])[0] for _, _, frame in parts] == [100, 1560, 3020]
-    # PSH is the last's alone, and the header's checksum makes the sum of its words 65535.
+    # Only the last part has PSH, and the header's checksum makes the sum of its words 65535.
     assert [frame[47] for _, _, frame in parts] == [0x10, 0x10, 0x18]
     for _, _, frame in parts:
         total = sum(struct.unpack(">10H", frame[14:34]))
@@ -129,7 +129,7 @@ def test_large_packets(tmp_path: Path) -> None:
 
 
 def test_two_captures(tmp_path: Path) -> None:
-    """By one clock, and each from its own begin."""
+    """Two captures can use one clock, or each can start at its own beginning."""
     first = pcap(tmp_path / "a.pcap", [(0, udp(100)), (4000, udp(100))])
     second = pcap(tmp_path / "b.pcap", [(2000, udp(100, source=2))], before=b"", link=101)
     out = tmp_path / "out.pcap"
@@ -159,7 +159,7 @@ def test_no_frame_is_cut(tmp_path: Path) -> None:
 
 
 def test_a_capture_and_a_table(tmp_path: Path) -> None:
-    """One run writes both. By hand: 1000 bytes take 8 ms at 1 Mbit/s, and 10 ms of delay."""
+    """One run writes both. By hand: 1000 bytes take 8 ms at 1 Mbit/s, and the delay is 10 ms."""
     came = pcap(tmp_path / "in.pcap", [(0, udp(1000))])
     assert tool("replay", came, *LINK, "--out", tmp_path / "out.pcap", "--out", tmp_path / "out.csv")[0] == 0
     assert [moment for moment, _, _ in left(tmp_path / "out.pcap")] == [18000000]
@@ -178,7 +178,7 @@ def test_other_endings_are_refused(names: list[str], wanted: str, tmp_path: Path
 
 
 def test_tables(tmp_path: Path) -> None:
-    """The same packets as a table give the same moments."""
+    """The same packets in a table have the same times."""
     came = tmp_path / "in.csv"
     came.write_text("seconds,size,source\n0,1000,10.0.0.1\n0.001,1000,10.0.0.1\n0.002,1000,10.0.0.3\n0.003,1000,10.0.0.1\n")
     assert tool("replay", came, *LINK, "--out", tmp_path / "out.csv")[0] == 0
@@ -191,7 +191,7 @@ def test_tables(tmp_path: Path) -> None:
 
 
 def test_injected_the_same(tmp_path: Path, alone: Callable[[bytes], bytes]) -> None:
-    """`alone` on the `inject` lines delivers at the same moments as the session."""
+    """`alone` on the `inject` lines delivers at the same times as the session."""
     came = tmp_path / "in.csv"
     lines = [f"{number * number % 7919 * 1000 + number * 300000},{40 + number * 37 % 1461}" for number in range(3000)]
     came.write_text("moment,size\n" + "\n".join(sorted(lines, key=lambda line: int(line.split(",")[0]))) + "\n")
@@ -206,7 +206,7 @@ def test_injected_the_same(tmp_path: Path, alone: Callable[[bytes], bytes]) -> N
 
 
 def test_longer_than_a_scenario(tmp_path: Path) -> None:
-    """320000 packets would be a scenario of more than 16 MiB: refused as such, and replayed by a session."""
+    """320000 packets would be a scenario of more than 16 MiB, which is refused, but a session replays them."""
     came = tmp_path / "in.csv"
     came.write_text("moment,size,source,target\n" + "".join(f"{number * 20000},1500,192.168.100.100,192.168.100.200\n" for number in range(320000)))
     status, _, told = tool("replay", came, "--link", "bw 1Gbit/s", "--inject", tmp_path / "scenario.txt")

@@ -1,4 +1,4 @@
-"""The reader of reports: lines counted by hand, faulty reports with the line that must be named, changed bytes."""
+"""The reader of reports: lines counted by hand, faulty reports with the line that the message must name, and changed bytes."""
 import io
 import re
 
@@ -16,7 +16,7 @@ from dnlab.io.drops import CAUSES
 from dnlab.io.line_reader import Reader
 from dnlab.io.lines import CODES, LISTINGS, WORDS, pipe_code
 
-# Counted by hand in the reports: lines by word, then what the counters must be.
+# Counted by hand in the reports: lines by word, then the expected counters.
 COUNTED = {
     "reno_four_segments": ({"ok": 6, "finish": 8, "deliver": 8, "ack": 4}, (8, 8, 0, {})),
     "reno_timeouts": ({"ok": 4, "drop": 5, "expire": 2}, (5, 0, 0, {"lost": 5})),
@@ -32,7 +32,7 @@ pipe 1 bw 0 delay 0 queue 50 plr 0 mask 00/00000000/00000000/0000/0000 droptail
 10 spent
 counters 1 1 0 0 0 0 0 0 0 0 0
 """
-# What is changed in the text above, and the line and a word of the cause that must be told.
+# Changes of the text above, with the line and a word of the cause that the message must have.
 FAULTS = [
     ("experiment a", "experiment A", 1, "experiment NAME"),
     ("0 ok 1", "0 okay 1", 3, "not a line of a report"),
@@ -54,7 +54,7 @@ FAULTS = [
     ("counters 1 1 0 0 0 0 0 0 0 0 0\n", "", 8, "without the counters"),
     ("0 0 0\n", "0 0 0\nexperiment a\n", 9, "second experiment"),
     ("finish", "fin\u00ecsh", 5, "byte"),
-    # What the reader in columns could overlook.
+    # Faults that the reader in columns could overlook.
     ("counters 1", "counters " + "1" * 5000, 8, "not a line of a report"),
     ("0 ok 1", "0\tok 1", 3, "not a line of a report"),
     ("0 ok 1", "0 ok 1 ", 3, "not a line of a report"),
@@ -76,7 +76,7 @@ FAULTS = [
 
 
 def refused(text: bytes) -> tuple[object, str]:
-    """Line and cause of what is refused."""
+    """Returns the line and the cause of a refusal."""
     try:
         list(report.read(text))
     except ParseError as fault:
@@ -112,7 +112,7 @@ ALL = sorted([*EXAMPLES.glob("*/expected.txt"), *(ROOT / "cookbook").glob("*/rep
 
 @pytest.mark.parametrize("path", ALL, ids=lambda path: path.parent.name)
 def test_all_examples(path) -> None:
-    """Each report is read and joined; those whose output is none (faults, `check`) are read as empty or refused."""
+    """Each report is read and joined. Outputs that are not reports (of faults and `check`) are read as empty or refused."""
     folder, data = path.parent, path.read_bytes()
     if (folder / "args.txt").exists() and (folder / "args.txt").read_text().split() == ["check"]:
         assert refused(data)[0] == 1
@@ -136,7 +136,7 @@ LINE = re.compile("|".join([
 
 
 def is_line(text: bytes) -> bool:
-    """Whether a line is one of a report's, by a plain pattern, and its numbers are in their ranges."""
+    """Returns true if a line is a line of a report, by a simple pattern, and its numbers are in their ranges."""
     if not text.isascii() or not LINE.fullmatch(text.decode()):
         return False
     words = text.decode().split(" ")
@@ -160,7 +160,7 @@ LINES = sorted({line for path in ALL for line in path.read_bytes().split(b"\n")
 @given(some.lists(some.sampled_from(LINES), min_size=1, max_size=30), some.data())
 @settings(max_examples=400, deadline=None)
 def test_changed_lines(lines: list[bytes], data) -> None:
-    """The reader in columns finds the first line that a plain pattern refuses, wherever a byte is changed."""
+    """The reader in columns finds the first line that a simple pattern refuses, wherever a byte is changed."""
     lines = list(lines)
     for _ in range(data.draw(some.integers(0, 3))):
         place = data.draw(some.integers(0, len(lines) - 1))
@@ -189,7 +189,7 @@ def test_changed_lines(lines: list[bytes], data) -> None:
 
 @given(some.lists(some.text("0123456789ab", min_size=1, max_size=18), min_size=1, max_size=50))
 def test_numbers(words: list[str]) -> None:
-    """Columns of numbers, beside Python's own."""
+    """Columns of numbers are read as Python reads the numbers."""
     text = Text(" ".join(words).encode() + b"\n")
     begins = np.concatenate((np.zeros(1, dtype=np.int64), text.ends[:-1] + 1))
     values, good = text.numbers(begins, text.ends)
@@ -200,7 +200,7 @@ def test_numbers(words: list[str]) -> None:
 
 @pytest.mark.parametrize("size", [1, 7, 64, 1000, 1 << 22])
 def test_blocks_of_any_size(size: int, monkeypatch: pytest.MonkeyPatch) -> None:
-    """A report is the same in whatever blocks it is read, from a file and from a stream."""
+    """A report is the same for every block size, from a file and from a stream."""
     path = EXAMPLES / "four_experiments" / "expected.txt"
     whole = [(one.name, one.line, one.columns.moment.tolist()) for one in report.read(path.read_bytes())]
     monkeypatch.setattr(pieces, "_LOOK", size)

@@ -1,4 +1,4 @@
-"""What notebooks use: read, run, and the tables of experiments as DataFrames."""
+"""The functions for notebooks: read, run, and the tables of experiments as DataFrames."""
 import os
 import subprocess
 import sys
@@ -55,7 +55,7 @@ def test_other_tables() -> None:
 
 
 def test_nothing_is_rounded() -> None:
-    """Moments beyond what a float holds stay whole."""
+    """Times that a float can't represent exactly stay exact."""
     view = view_of("reno_four_segments")
     view.packets.made[0] = 2**53 + 1
     assert Experiment(view).packets().made.iloc[0] == 2**53 + 1
@@ -111,7 +111,7 @@ def test_intervals() -> None:
 
 
 def test_without_numpy() -> None:
-    """What it takes is named, and what needs nothing works; by -S Python has no packages."""
+    """Missing packages are named, and functions that need none work. With -S Python has no packages."""
     words = ("import dnlab, dnlab.io.scenario, dnlab.io.splitting\ntry:\n    dnlab.read\nexcept ModuleNotFoundError as fault:\n"
              "    print(fault)")
     done = subprocess.run([sys.executable, "-B", "-S", "-c", words], capture_output=True, text=True, check=False,

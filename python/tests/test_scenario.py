@@ -1,4 +1,4 @@
-"""The reader of scenarios: what each command tells, and faults in lines that docs/reference/scenario.md names."""
+"""The reader of scenarios: the result of each command, and faults as in docs/reference/scenario.md."""
 import doctest
 import importlib
 import pkgutil
@@ -57,7 +57,7 @@ def test_limits() -> None:
 
 
 def test_all_examples(program: str) -> None:
-    """Each text of examples/ is one, or has the fault that its stderr.txt says."""
+    """Each text of examples/ is a scenario, or has the fault in its stderr.txt."""
     for path in sorted(EXAMPLES.glob("*/scenario.txt")):
         fault = Judged(path.read_bytes()).fault
         stderr = path.parent / "stderr.txt"

@@ -1,5 +1,5 @@
-"""What a study says over seeds: pairs, how many are enough, long form, and its picture. Values are worked out by hand: a
-packet of S bytes takes S * 8000 ns over 1 Mbit/s and the delay, and Student's t is that of the printed tables."""
+"""Studies over several seeds: pairs, the number of seeds needed, the long form, and the picture. Values are calculated by hand: a
+packet of S bytes takes S * 8000 ns at 1 Mbit/s plus the delay, and Student's t is from printed tables."""
 import csv
 import io
 import re
@@ -20,7 +20,7 @@ import dnlab  # noqa: E402
 from dnlab.analysis.seeds import compared, needed  # noqa: E402
 
 MS = 10**6
-# One packet of a size that the seed draws; with `cut` the train is longer than the run.
+# One packet of a random size that depends on the seed; with `cut` the train is longer than the run.
 ONE = """experiment {{ name }} seed {{ seed }} budget 10
 @0 pipe 1 config bw {{ bw | default("1Mbit/s") }} delay {{ delay }}
 @0 add 100 pipe 1 ip from any to any
@@ -38,7 +38,7 @@ def template(tmp_path: Path) -> Path:
 # ---- pairs
 
 def test_the_same_chance_leaves_the_setting_alone(program: str) -> None:
-    """Means over seeds are wide, since sizes differ; 15 ms more of delay are 15 ms more at each seed."""
+    """Intervals over seeds are wide, because sizes differ. 15 ms more delay are 15 ms more with each seed."""
     made = dnlab.sweep(ONE, delay=[5, 20, 9], seed=range(1, 6), of="train 1", stat="delay.p50", dnlab=program)
     found = made.compare("delay")
     assert [(row.delay, row.base, row.n, row.mean, row.low, row.high, row.differs) for row in found.itertuples()] == [
@@ -49,8 +49,8 @@ def test_the_same_chance_leaves_the_setting_alone(program: str) -> None:
 
 
 def test_pairs_by_hand() -> None:
-    """Differences 1, 2 and 3: their mean is 2, and t of two degrees, 4.303, by their spread 1 over the root of 3 is 2.484.
-    A seed that one of both lacks is left out; 0 lies in the interval."""
+    """Differences 1, 2 and 3: their mean is 2, and t for two degrees, 4.303, times their deviation of 1 over the root of 3 is 2.484.
+    A seed that one of the two lacks is left out, and 0 is in the interval."""
     rows = pd.DataFrame({"q": [1, 1, 1, 1, 2, 2, 2, 2], "seed": [1, 2, 3, 4, 4, 3, 2, 1], "sender": "all", "warnings": [""] * 7 + ["spent"],
                          "goodput": pd.array([10, 20, 30, 5, None, 33, 22, 11], "Int64")})
     found = compared(rows, ["q"], ["goodput"], "q").iloc[0]
@@ -72,7 +72,7 @@ def test_pairs_are_printed(template: Path) -> None:
 
 
 def test_names_of_columns_are_no_settings(template: Path) -> None:
-    """A setting called as a column of the tables would hide it."""
+    """A setting with the name of a column of the tables would hide that column."""
     for name in ("value", "base", "min", "sender", "n"):
         status, out, err = tool("sweep", template, "--set", f"{name}=1,2")
         assert (status, out) == (2, "") and f"no setting can be called {name}: the tables" in err and f"call it {name}_ " in err
@@ -81,7 +81,7 @@ def test_names_of_columns_are_no_settings(template: Path) -> None:
 
 
 def test_the_name_that_is_advised_works(template: Path) -> None:
-    """`n`, the most natural name of a number of senders, is a column; a template that uses it says the same."""
+    """`n`, the most natural name for a number of senders, is a column. A template that uses it has the same message."""
     template.write_text(ONE.replace("{{ delay }}", "{{ n }}"))
     status, _, err = tool("sweep", template)
     assert status == 2 and "'n' is undefined" in err and "call it n_ here and in the template" in err
@@ -94,11 +94,11 @@ def test_the_name_that_is_advised_works(template: Path) -> None:
 # ---- how many seeds
 
 def test_needed_by_the_tables() -> None:
-    """A spread of 10 around 100, to 2 on both sides: t of 98 degrees is 1.9845, by 10 over the root of 99 that is 1.994;
-    with 98 seeds it is 2.005. To 10: t of 6 degrees is 2.447 and gives 9.25, of 5 degrees 2.571 and gives 10.5."""
+    """A deviation of 10 around 100, to within 2: t for 98 degrees is 1.9845, which times 10 over the root of 99 is 1.994;
+    with 98 seeds it is 2.005. To within 10: t for 6 degrees is 2.447 and results in 9.25, for 5 degrees 2.571 and 10.5."""
     assert needed([90.0, 100.0, 110.0], 0.02) == 99 and needed([90.0, 100.0, 110.0], 0.10) == 7
     assert needed([5.0], 0.1) is None and needed([-1.0, 1.0], 0.1) is None and needed([3.0, 3.0], 0.1) == 2
-    # At 99 %: t of 9 degrees is 3.250 and gives 10.3; of 10 degrees 3.169 and gives 9.56.
+    # At 99 %: t for 9 degrees is 3.250 and results in 10.3, for 10 degrees 3.169 and 9.56.
     assert needed([90.0, 100.0, 110.0], 0.10, 99) == 11
 
 
@@ -114,7 +114,7 @@ def test_needed_is_said_and_a_column(template: Path) -> None:
 # ---- long form, marks
 
 def test_long_form(template: Path, tmp_path: Path) -> None:
-    """A row for each experiment, sender and statistic: 2 settings, 3 seeds, 2 statistics."""
+    """There is a row for each experiment, sender and statistic: 2 settings, 3 seeds, 2 statistics."""
     status, _, err = tool("sweep", template, "--set", "delay=5,20", "--seeds", "1-3", "--of", "train 1", "--stat",
                           "delivered,fct", "--long", tmp_path / "long.csv")
     rows = list(csv.DictReader(open(tmp_path / "long.csv")))
@@ -133,7 +133,7 @@ def test_marked_cells_are_told_in_the_table(template: Path) -> None:
 # ---- the picture
 
 def test_a_picture_for_a_paper(program: str, tmp_path: Path) -> None:
-    """Labels have words and units, panels stand by settings, axes are logarithmic, and marked points are hollow."""
+    """Labels have words and units, there is a panel for each setting, axes are logarithmic, and marked points are hollow."""
     pytest.importorskip("matplotlib")
     made = dnlab.sweep(ONE, delay=[5, 20], count=[1, 5], bw=["1Mbit/s", "2Mbit/s"], seed=[1, 2], of="train 1",
                        stat="delay.p95", dnlab=program)
@@ -144,9 +144,9 @@ def test_a_picture_for_a_paper(program: str, tmp_path: Path) -> None:
     assert [axes.get_title("left") for axes in figure.axes] == ["Packets: 1", "Packets: 5"]
     assert left.get_xscale() == left.get_yscale() == "log"
     assert [tick.get_text() for tick in left.get_xticklabels()] == ["5", "20"]
-    # Plain numbers, 1, 2 and 5 in each decade.
+    # The ticks are plain numbers: 1, 2 and 5 in each decade.
     assert all(re.fullmatch(r"[125]0*|0\.0*[125]", tick.get_text()) for tick in left.get_yticklabels())
-    # The legend is beside the last panel.
+    # The legend is next to the last panel.
     legend = right.get_legend()
     assert legend.get_title().get_text() == "Link" and [text.get_text() for text in legend.get_texts()] == ["1 Mbit/s", "2Mbit/s"]
 
@@ -185,7 +185,7 @@ def test_a_pdf_by_the_tool(template: Path, tmp_path: Path) -> None:
 # ---- other machines
 
 def test_dask_has_the_same_table(template: Path, tmp_path: Path, program: str) -> None:
-    """By a scheduler and two workers on the loopback, with a statistic of one's own among the others."""
+    """It uses a scheduler and two workers on the loopback interface, with a user's own statistic among the others."""
     pytest.importorskip("distributed", reason="distributed is missing (Debian: python3-distributed)")
     (tmp_path / "mine.py").write_text("def made(run):\n    return run.counters.made\n")
     scheduler = "tcp://127.0.0.1:18786"

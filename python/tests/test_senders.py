@@ -1,5 +1,5 @@
-"""Closed-loop senders in a session: beside the link's own Reno flow, which is proved, and beside what follows from the RFCs by
-hand. A session answers a packet 1 ns after it came, so a round trip takes 2 ns more than that of the link's own flow."""
+"""Closed-loop senders in a session, compared with the link's own Reno flow, which is proved, and with values calculated by hand
+from the RFCs. A session reacts to a packet 1 ns after its arrival, so a round trip takes 2 ns more than for the link's own flow."""
 from pathlib import Path
 from typing import Any, Callable, Optional
 
@@ -18,7 +18,7 @@ COMMANDS = ("pipe 1 config bw {bw} delay 20 queue {queue} plr {plr}", "pipe 2 co
 
 
 def on_link(program: str, play: Callable[[Network], Any], seed: int = 1, steps: int = 10**6, **settings: Any) -> tuple[Network, Any]:
-    """What is played on a link of its own, run to its end."""
+    """Plays senders on their own link, until they end."""
     with dnlab.live(program) as session:
         link = session.experiment("x", seed=seed, budget=5000, steps=steps)
         for command in COMMANDS:
@@ -30,12 +30,12 @@ def on_link(program: str, play: Callable[[Network], Any], seed: int = 1, steps: 
     return network, made
 
 
-# ---- beside the link's own flow
+# ---- compared with the link's own flow
 
 @pytest.mark.parametrize("seed, queue, plr", [(1, 50, "0.01"), (2, 20, "0.05"), (3, 20, "0.05"), (1, 30, "0.2"), (6, 50, "0")])
 def test_reno_is_the_link_s_own_flow(program: str, seed: int, queue: int, plr: str) -> None:
-    """The same losses, since the link draws them by the seed: the same windows one by one, segments sent again, timeouts and
-    completion. After 85 timeouts and 500 s they are 300 ns apart, 2 for each round trip."""
+    """The losses are the same, because they depend on the seed, and so are all windows, retransmissions, timeouts and the
+    completion. After 85 timeouts and 500 s the two differ by 300 ns, 2 ns for each round trip."""
     _, flow = on_link(program, lambda network: network.flow(300 * 1460, Reno, ("10.0.0.1", 1000), limit=65535, record=True),
                       seed, queue=queue, plr=plr)
     commands = "".join(f"@0 {command.format(bw='10Mbit/s', queue=queue, plr=plr)}\n" for command in COMMANDS)
@@ -48,14 +48,14 @@ def test_reno_is_the_link_s_own_flow(program: str, seed: int, queue: int, plr: s
     theirs = [pair for pair in zip(windows.cwnd.tolist(), windows.ssthresh.tolist())]
     theirs = [one for one, before in zip(theirs, [None, *theirs]) if one != before]
     ours = [(cwnd, min(ssthresh, S)) for _, cwnd, ssthresh in flow.history]
-    # The ends differ: the link's own has no line once all is acknowledged.
+    # The ends differ: the link's own flow has no line once everything is acknowledged.
     assert ours[:len(theirs) - 1] == theirs[:-1] and len(theirs) > 40
 
 
 # ---- a flow by hand
 
 class Fake:
-    """A network without a link: what goes out is noted."""
+    """A network without a link, which records the segments that are sent."""
 
     def __init__(self) -> None:
         self.now, self.out, self.called = 0, [], []  # type: int, list[Any], list[tuple[int, Flow]]
@@ -70,7 +70,7 @@ class Fake:
         pass
 
     def sent(self) -> list[int]:
-        """The segments that went out since the last call, by number."""
+        """Returns the segments sent since the last call, by number."""
         found = [one.first // 1000 for one in self.out if isinstance(one, Segment)]
         self.out.clear()
         return found
@@ -84,7 +84,7 @@ def begun(window: Any, segments: int = 40, limit: Optional[int] = None) -> tuple
 
 
 def ack(fake: Fake, flow: Flow, upto: int, times: int = 1) -> list[int]:
-    """Acknowledges the first segments, and returns what is sent."""
+    """Acknowledges the first segments. Returns the segments that are sent then."""
     for _ in range(times):
         fake.now += MS
         flow.acknowledged(upto * 1000)
@@ -92,20 +92,20 @@ def ack(fake: Fake, flow: Flow, upto: int, times: int = 1) -> list[int]:
 
 
 def test_slow_start_and_fast_retransmit() -> None:
-    """RFC 5681: 4 segments at first, two for each acknowledgement; at the third duplicate the missing one again, and the
-    window is half of the 8 in flight and 3; each further duplicate adds one."""
+    """RFC 5681: 4 segments at first, two for each acknowledgement. The third duplicate sends the missing segment again, and the
+    window is half of the 8 in flight plus 3; each further duplicate adds one."""
     fake, flow = begun(Reno)
     assert fake.sent() == [0, 1, 2, 3] and ack(fake, flow, 1) == [4, 5] and ack(fake, flow, 2) == [6, 7]
     assert ack(fake, flow, 3) == [8, 9] and ack(fake, flow, 4) == [10, 11]
     assert ack(fake, flow, 4, 2) == [] and ack(fake, flow, 4) == [4] and (flow.window.cwnd, flow.window.ssthresh) == (4000, 4000)
-    # In flight are 8 and the window is 4 + 3: the next duplicates make it 8 and 9, and a ninth segment goes out.
+    # 8 segments are in flight and the window is 4 + 3: the next duplicates make it 8 and 9, and a ninth segment is sent.
     assert ack(fake, flow, 4) == [] and ack(fake, flow, 4) == [12]
-    # What was missing came: recovery ends with a window of 4, and there are 3 in flight behind 10.
+    # The missing segment has arrived: recovery ends with a window of 4, and 3 segments after 10 are in flight.
     assert ack(fake, flow, 10) == [13] and flow.retransmissions == 1
 
 
 def test_reno_waits_where_newreno_sends() -> None:
-    """Two losses in a window. A partial acknowledgement ends Reno's recovery; by RFC 6582 the next hole is sent at once."""
+    """After two losses in a window, a partial acknowledgement ends Reno's recovery. With RFC 6582 it sends the next hole at once."""
     fake, flow = begun(Reno)
     fake.sent()
     for upto in (1, 2, 3, 4):
@@ -113,15 +113,15 @@ def test_reno_waits_where_newreno_sends() -> None:
     assert ack(fake, flow, 4, 3) == [4] and ack(fake, flow, 6) == []
     fake, flow = begun(Cubic)
     assert fake.sent() == list(range(10)) and ack(fake, flow, 0, 3) == [0] and flow.window.cwnd == 7000
-    # 10 in flight, 7 + 3 allowed. The first 4 came: 4 less and 1 more, so 7 allowed; 6 in flight, and the hole goes out again.
+    # 10 in flight, 7 + 3 allowed. The first 4 arrive: 4 less and 1 more, so 7 are allowed; 6 in flight, and the hole is sent again.
     assert ack(fake, flow, 4) == [4, 10] and flow.retransmissions == 2
-    # All that was sent before the loss came: recovery ends with the window of 7, one is in flight.
+    # Everything sent before the loss has arrived: recovery ends with a window of 7, and one segment is in flight.
     assert ack(fake, flow, 10) == [11, 12, 13, 14, 15, 16]
 
 
 def test_the_timer() -> None:
-    """RFC 6298: a second at first; the measured round trip of 1 ms leaves it there; it doubles when it expires, and what was
-    sent twice is no sample. RFC 5681: one segment then, and half of the flight as the threshold."""
+    """RFC 6298: the timeout is a second at first, and remains so after a round trip of 1 ms; it doubles when it expires, and a
+    segment that was sent twice is not a sample. RFC 5681: then the window is one segment, and the threshold half of the flight."""
     fake, flow = begun(Reno)
     assert fake.called == [(S, flow)]
     ack(fake, flow, 1)
@@ -140,14 +140,14 @@ def test_the_timer() -> None:
 
 
 def test_a_shorter_timer_isn_t_missed() -> None:
-    """After a timeout it is 2 s; a sample brings it back to 1 s, before the call that was asked for."""
+    """After a timeout the timer is 2 s. A sample sets it back to 1 s, which is before the call that was requested."""
     fake, flow = begun(Reno)
     fake.now = S
     flow.woken()
     ack(fake, flow, 1)
     ack(fake, flow, 3)
     assert flow.timeout.value == 2 * S and fake.called[-1][0] == 3 * S
-    # The first segment that was never sent before, 4, is acknowledged 1 ms after it went out.
+    # Segment 4, the first one that was not sent before, is acknowledged 1 ms after it was sent.
     ack(fake, flow, 5)
     assert flow.timeout.value == S and fake.called[-1][0] == fake.now + S < 3 * S
 
@@ -161,7 +161,7 @@ def test_the_receiver_keeps_what_came_early() -> None:
 
 
 def test_the_limit_and_the_last_bytes() -> None:
-    """The receiver's window of 2500 bytes takes two segments of 1000; the last segment has what is left."""
+    """The receiver's window of 2500 bytes allows two segments of 1000. The last segment has the remaining bytes."""
     fake, flow = begun(Reno, limit=2500)
     assert fake.sent() == [0, 1]
     fake = Fake()
@@ -175,8 +175,8 @@ def test_the_limit_and_the_last_bytes() -> None:
 # ---- patterns
 
 def test_a_chain(program: str) -> None:
-    """The next begins when the sender knows of the last: 1000 bytes at 10 Mbit/s are 0.832 ms with headers, 20 ms there and 20
-    back, each answered 1 ns later; then 7 ms go by."""
+    """The next transfer starts when the sender knows that the last one is done: 1000 bytes at 10 Mbit/s take 0.832 ms with
+    headers, 20 ms there and 20 back, each with a reaction 1 ns later; then 7 ms pass."""
     network, chain = on_link(program, lambda network: Chain(network, [1000, 1000, 3000], gap=7 * MS))
     one, two, three = chain.flows
     assert (one.begun, one.arrived, one.done) == (0, 20_832_001, 40_832_002)
@@ -192,15 +192,15 @@ def test_then_is_called_at_once_if_it_is_done(program: str) -> None:
 
 
 def test_requests(program: str) -> None:
-    """300 bytes there: 340 at 10 Mbit/s are 0.272 ms, and 20 ms; 5 ms of work; 1000 bytes back by a pipe without a rate, 20 ms.
-    Between them 1 ns each. Then 2 ms to think."""
+    """300 bytes there: 340 bytes at 10 Mbit/s take 0.272 ms, and 20 ms; 5 ms of work; 1000 bytes back through a pipe without a
+    rate, 20 ms. Each step takes 1 ns more. Then 2 ms of think time."""
     network, asked = on_link(program, lambda network: Requests(network, 3, 300, 1000, work=5 * MS, think=2 * MS, begin=MS))
     assert asked.times == [45_272_002] * 3 and len(network.flows) == 6
     assert network.flows[2].begun == MS + 45_272_002 + 2 * MS
 
 
 def test_users_of_a_web(program: str) -> None:
-    """Each user's pages are drawn by his own chance: another window changes when they come, and not what is asked."""
+    """Each user has an independent random stream: another window changes the times of the pages, and not the requests."""
     def play(window: Any) -> Callable[[Network], Web]:
         return lambda network: Web(network, 5, lambda chance: chance.pareto(1.3, 3000), 200 * MS, 2 * S, seed=7, window=window)
 
@@ -216,13 +216,13 @@ def test_users_of_a_web(program: str) -> None:
 
     assert pages(one) == pages(other) and len(pages(one)) == 5
     assert len(web.times()) == len(one.flows) // 2 and min(web.times()) > 40 * MS
-    # A user's moment of beginning is exponential, of his own chance.
+    # A user's start time is exponential, from the user's own random stream.
     begins = sorted(Chance(f"7 begin {user}").exponential(200 * MS) for user in range(1, 6))
     assert one.flows[0].begun == begins[0]
 
 
 def test_arrivals_are_a_poisson_process(program: str) -> None:
-    """Moments and sizes are drawn in turn by one chance; the windows take turns; a table has a row for each."""
+    """Times and sizes alternate in one random stream, and the windows alternate too. A table has a row for each."""
     network, made = on_link(program, lambda network: Arrivals(network, 300, 5 * MS, lambda chance: chance.whole(100, 9000),
                                                               seed=3, window=[Reno, Cubic]), bw="100Mbit/s")
     chance, moment, wanted = Chance(3), 0, []
@@ -233,7 +233,7 @@ def test_arrivals_are_a_poisson_process(program: str) -> None:
         wanted.append(chance.whole(100, 9000))
     table = network.table()
     assert table["bytes"].tolist() == wanted and table["window"].value_counts().to_dict() == {"Reno": 150, "Cubic": 150}
-    # The last begins at the sum of gaps, and what is added up of 1 ns where a packet of another moment is.
+    # The last one starts at the sum of the gaps, plus 1 ns for each time at which there is another packet.
     assert abs(made.flows[-1].begun - moment) < 1000 and (table.fct > 20 * MS).all() and table.retransmissions.sum() == 0
     goodput = table["bytes"].astype(float) * 8e9 / table.fct.astype(float)
     assert (abs(goodput - table.goodput.astype(float)) <= 1).all()
@@ -252,17 +252,17 @@ def test_steps_that_are_spent_are_told(program: str) -> None:
 def test_a_window_of_one_s_own(program: str) -> None:
     class Fixed(Reno):
         def acknowledged(self, count: int, now: int, rtt: int) -> None:
-            """It stays at 3 segments."""
+            """A window that stays at 3 segments."""
 
     network, flow = on_link(program, lambda network: network.flow(30 * 1460, Fixed))
-    # Ten round trips of three segments each: 1.2 ms a segment, 20 ms there and back.
+    # Ten round trips of three segments each: 1.2 ms per segment, 20 ms there and back.
     assert network.rows()[0]["window"] == "Fixed" and 10 * 41_200_000 - 21 * MS < flow.arrived < 10 * 41_200_000 + 4 * MS
 
 
-# ---- where a retransmission is lost
+# ---- lost retransmissions
 
 def lost_twice(program: str, window: Any, **more: Any) -> tuple[Flow, int]:
-    """A flow of which one segment and its first retransmission are lost; and the most bytes in flight at once."""
+    """Runs a flow that loses a segment and its first retransmission. Returns the flow and the maximum number of bytes in flight."""
     flights: list[int] = []
     lost = [0]
 
@@ -286,22 +286,22 @@ def lost_twice(program: str, window: Any, **more: Any) -> tuple[Flow, int]:
 
 
 def test_a_lost_retransmission(program: str) -> None:
-    """By RFC 5681's letter each duplicate sends another segment until the timer expires after a second or more, in which 10 Mbit/s carry
-    1.2 MB; the limit that is there by default ends that."""
+    """By the letter of RFC 5681, each duplicate sends another segment until the timer expires after a second or more, in which 10 Mbit/s
+    carry 1.2 MB. The default limit prevents that."""
     _, without = lost_twice(program, Reno, limit=None)
     _, usual = lost_twice(program, Reno)
     assert usual <= 262144 < 10**6 < without
 
 
 def test_new_reno_needs_fewer_timeouts(program: str) -> None:
-    """Where several segments of a window are lost: RFC 6582 sends them again in turn, RFC 5681 waits for the timer."""
+    """If several segments of a window are lost, RFC 6582 sends them again one by one, and RFC 5681 waits for the timer."""
     timeouts = {window: sum(on_link(program, lambda network: network.flow(600_000, window), seed, plr="0.03")[1].timeouts for seed in range(1, 6))
                 for window in (Reno, NewReno)}
     assert timeouts[NewReno] < timeouts[Reno]
 
 
 def test_what_has_arrived() -> None:
-    """Bytes count once, also those that wait behind a gap."""
+    """Each byte counts once, even if it waits behind a gap."""
     fake, flow = begun(Reno)
     for first in (0, 2000, 2000, 3000):
         flow.received(Segment(flow, first, first + 1000))

@@ -1,4 +1,4 @@
-"""Sessions in Python: replies about packets, worked out by hand; errors; and how a session ends."""
+"""Sessions in Python: replies about packets, calculated by hand; errors; and the end of a session."""
 import io
 import os
 import signal
@@ -27,7 +27,7 @@ def session(program: str) -> Iterator[dnlab.Session]:
 
 @pytest.fixture
 def link(session: dnlab.Session) -> dnlab.Link:
-    """1 Mbit/s and 10 ms for all: 1000 bytes take 8 ms and 10 ms."""
+    """Returns a link of 1 Mbit/s and 10 ms for all packets: 1000 bytes take 8 ms and 10 ms."""
     opened = session.experiment("by-hand", seed=1, budget=10)
     opened.command("pipe 1 config bw 1Mbit/s delay 10 queue 2")
     opened.command("add 100 pipe 1 ip from any to any")
@@ -57,7 +57,7 @@ def test_only_the_first_next_due_costs_a_round_trip(session: dnlab.Session, link
     before = session.round_trips
     link.until(8 * MS + 1)
     assert (link.next_due(), session.round_trips) == (18 * MS, before + 1)
-    # Another experiment has events of its own, and says nothing of them before it is asked.
+    # Another experiment has its own events, and only reports them on request.
     other = session.experiment("other", seed=1)
     other.until(5)
     before = session.round_trips
@@ -70,7 +70,7 @@ def test_only_the_first_next_due_costs_a_round_trip(session: dnlab.Session, link
 def test_drops_at_once_are_told_with_their_packets(link: dnlab.Link) -> None:
     packets = [link.send(CLIENT, SERVER, 1000, payload=number) for number in range(4)]
     events = link.until(100 * MS)
-    # One is in service and two wait; the fourth finds no room.
+    # One packet is in service and two wait; the fourth finds no room.
     assert [(it.packet, it.cause) for it in events] == [(packets[3], "full"), (packets[0], ""), (packets[1], ""), (packets[2], "")]
     assert [it.moment for it in events] == [0, 18 * MS, 26 * MS, 34 * MS]
 
@@ -96,7 +96,7 @@ def test_until_any_is_told_of_trains(link: dnlab.Link) -> None:
     mine = link.send(CLIENT, SERVER, 1000)
     first, second = link.until_any(), link.until_any()
     told = [(it.moment, it.packet, it.load) for it in first + second]
-    # The command that injects comes before the train's first emission of the same moment.
+    # The command `inject` precedes the train's first packet at the same time.
     assert told == [(18 * MS, mine, "plain"), (26 * MS, None, "plain")]
     link.command("flow 1 10.0.0.3 1 10.0.1.3 2 smss 960 segments 1")
     (segment,) = link.until_any()
@@ -110,7 +110,7 @@ def test_only_mine(session: dnlab.Session) -> None:
     link.send(CLIENT, SERVER, 1000)
     assert [it.moment for it in link.until_mine()] == [1]
     link.command("show")
-    # Time has come to 2: the packet that was sent, and the train's at 0 and 1.
+    # The time is 2: there are the packet that was sent, and the train's packets at 0 and 1.
     assert link.now == 2 and link.listings[0] == "rule 00100 3 3000 allow ip from any to any"
     with pytest.raises(ValueError, match="alone"):
         link.report()
@@ -137,7 +137,7 @@ def test_faults_have_their_cause_and_line(session: dnlab.Session, link: dnlab.Li
     link.end()
     with pytest.raises(dnlab.ExperimentEndedError):
         link.until(10)
-    # What was refused stands in the transcript, what was not taken doesn't.
+    # A refused command is in the transcript, a rejected line is not.
     assert "@0 delete 7\n" in link.transcript() and "Mbps" not in link.transcript()
 
 
@@ -182,7 +182,7 @@ def test_files_in_place_of_memory(session: dnlab.Session, tmp_path: Path, link: 
 
 
 def test_more_than_pipes_hold(session: dnlab.Session) -> None:
-    """5 MB go out and 20 MB come back: neither waits for the other for ever."""
+    """5 MB are sent and 20 MB are received, and neither side blocks the other."""
     link = session.experiment("many", budget=65535)
     link.command("add 100 allow ip from any to any")
     link.command("trace 1")
@@ -213,7 +213,7 @@ def test_hosts_hear_of_deliveries_alone(link: dnlab.Link) -> None:
 
 
 def test_generators(link: dnlab.Link) -> None:
-    """A client asks three times; a server takes 3 ms to answer."""
+    """A client sends three requests, and a server takes 3 ms for each reply."""
     asked: list[float] = []
 
     def client() -> Waiting:
@@ -273,7 +273,7 @@ def test_a_session_ends_with_its_block(program: str) -> None:
         link.until(5)
 
 
-# SIGINT is heeded too where nohup, or a script that runs in the background, began the tests.
+# SIGINT has an effect even if nohup, or a script in the background, started the tests.
 LONG = """
 import signal
 import dnlab

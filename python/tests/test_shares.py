@@ -1,4 +1,4 @@
-"""Panels of throughput, CDFs and boxes, spans of time and overlays, against values worked out by hand.
+"""Panels of throughput, CDFs and boxes, spans of time and overlays, compared with values calculated by hand.
 
 Of `reno_four_segments` the four segments of 1500 bytes are delivered at 11.2, 12.4, 13.6 and 32.4 ms, so long after they
 were made: 11.2, 12.4, 13.6 and 11.2 ms; the acknowledgements of 40 bytes take 10 ms each.
@@ -20,18 +20,18 @@ MS = 10**6
 
 
 def drawn(what: str, span: Span = Span(), every: "int | None" = None) -> dict[str, list[tuple[float, float]]]:
-    """The lines of a panel of the four segments, by label; moments in ms."""
+    """Returns the lines of a panel of the four segments, by label, with times in ms."""
     panel = panel_of(view_of("reno_four_segments"), what, span, every, acks=True)
     return {one.label: list(zip((one.moments / MS).tolist(), one.values.tolist())) for one in panel.series}
 
 
 def test_throughput() -> None:
-    """Three segments in the second 10 ms: 4500 bytes, 3.6 Mbit/s; one in the fourth, 1.2 Mbit/s."""
+    """Three segments arrive in the second 10 ms: 4500 bytes, 3.6 Mbit/s; one in the fourth, 1.2 Mbit/s."""
     lines = drawn("throughput", every=10 * MS)
     assert lines["flow 1"] == [(0, 0), (10, 3.6), (20, 0), (30, 1.2), (40, 0), (50, 0)]
     # Acknowledgements at 21.2, 22.4, 23.6 and 42.4 ms.
     assert lines["flow 1 acks"] == [(0, 0), (10, 0), (20, 0.096), (30, 0), (40, 0.032), (50, 0.032)]
-    # The last line stands at 42.4 ms. Four packets are few: there are 10 intervals or more, of 2 ms.
+    # The last line is at 42.4 ms. For only four packets there are at least 10 intervals, of 2 ms.
     assert panel_of(view_of("reno_four_segments"), "throughput").title.startswith("Throughput in intervals of 2 ms")
 
 
@@ -40,12 +40,12 @@ def test_shares() -> None:
     assert lines["flow 1"] == [(11.2, .25), (11.2, .5), (12.4, .75), (13.6, 1)]
     assert lines["flow 1 acks"] == [(10, .25), (10, .5), (10, .75), (10, 1)]
     assert drawn("cdf:sojourn", Span(12 * MS, 20 * MS))["flow 1"] == [(12.4, .5), (13.6, 1)]
-    # Whole windows alone: four of 10 ms before 42.4 ms.
+    # Only whole windows: four of 10 ms before 42.4 ms.
     assert drawn("cdf:throughput", every=10 * MS)["flow 1"] == [(0, .25), (0, .5), (1.2, .75), (3.6, 1)]
 
 
 def test_boxes() -> None:
-    """By nearest rank of four: the 5th and 25th percentile are the first, the 50th the second, the 75th the third."""
+    """By the nearest rank of four, the 5th and 25th percentiles are the first, the 50th the second, and the 75th the third."""
     marks = [x for x, _ in drawn("box:sojourn")["flow 1"]]
     assert marks == [11.2, 11.2, 11.2, 11.2, 12.4, 13.6, 13.6]
     assert [x for x, _ in drawn("box:throughput", every=10 * MS)["flow 1"]] == [0, 0, 0, 0, 1.2, 3.6, 3.6]
@@ -53,7 +53,7 @@ def test_boxes() -> None:
 
 def test_a_span_of_time() -> None:
     assert drawn("sojourn", Span(12 * MS, 33 * MS))["flow 1"] == [(12.4, 12.4), (13.6, 13.6), (32.4, 11.2)]
-    # The window of 4380 bytes holds at 12 ms, and that of 8760 from 23.6 ms to 33 ms.
+    # The window is 4380 bytes at 12 ms, and 8760 bytes from 23.6 ms to 33 ms.
     assert drawn("window", Span(12 * MS, 33 * MS))["cwnd 1"] == [(12, 4380), (21.2, 5840), (22.4, 7300), (23.6, 8760), (33, 8760)]
     assert drawn("delivered", Span(12 * MS, 14 * MS))["flow 1"] == [(12, 1500), (12.4, 3000), (13.6, 4500), (14, 4500)]
     panel = panel_of(view_of("reno_four_segments"), "sojourn", Span(50 * MS))
@@ -63,7 +63,7 @@ def test_a_span_of_time() -> None:
 @given(some.lists(some.tuples(some.integers(0, 5), some.integers(0, 9)), min_size=1, max_size=12), some.integers(0, 40),
        some.integers(1, 40))
 def test_steps_hold_what_they_held(steps: list[tuple[int, int]], begin: int, length: int) -> None:
-    """Within the span the value at each moment is that of the whole series."""
+    """Within the span the value at each time is that of the whole series."""
     moments = np.cumsum([1 + gap for gap, _ in steps])
     whole = Series("x", "steps", moments, np.array([value for _, value in steps]))
     part = within(whole, Span(begin, begin + length))
@@ -81,7 +81,7 @@ def test_without_the_scenario() -> None:
     for what in MORE:
         panel = panel_of(view_of("reno_four_segments", joined=False), what)
         assert not panel.series and "scenario" in panel.words
-    # Under `trace 1` a report has it all.
+    # With `trace 1` a report has everything.
     assert all(panel_of(view_of("traced_flow", joined=False), what).series for what in MORE)
 
 
@@ -90,7 +90,7 @@ def line(label: str, count: int, form: str = "steps") -> Series:
 
 
 def test_acknowledgements_are_left_out_first() -> None:
-    """Of ten lines the two are left out that are acknowledgements, though the data's have fewer changes."""
+    """Two of ten lines are left out: those of acknowledgements, although the data's lines have fewer changes."""
     lines = [line(f"flow {number}{more}", count) for number in range(5) for more, count in (("", 3 + number), (" acks", 90))]
     assert [one.label for one in fewest(lines)] == [
         "flow 0", "flow 0 acks", "flow 1", "flow 1 acks", "flow 2", "flow 2 acks", "flow 3", "flow 4"]
@@ -119,7 +119,7 @@ def test_axes() -> None:
     assert (shares.get_xlabel(), shares.get_ylabel(), shares.get_ylim()) == ("One-way delay (ms)", "Fraction of packets", (0, 1))
     assert [text.get_text() for text in boxes.get_xticklabels()] == ["flow 1", "flow 1 acks"]
     assert boxes.get_ylabel() == "One-way delay (ms)"
-    # Delivered in this time: 11.2, 12.4, 13.6 ms; the box is from the first to the third.
+    # Delivered in this span: 11.2, 12.4, 13.6 ms. The box is from the first to the third.
     assert sorted({float(y) for y in boxes.get_lines()[0].get_ydata()}) == [11.2, 13.6]
     assert throughput.get_ylabel() == "Throughput (Mbit/s)" and throughput.get_xlim() == window.get_xlim() == (10, 30)
     assert window.get_xlabel() == "Time (ms)"
@@ -141,7 +141,7 @@ def report_of(count: int) -> bytes:
 
 
 def test_too_many_side_by_side(tmp_path: Path) -> None:
-    """From 21 on they are refused, with what to do; from a file before one is read, from standard input too."""
+    """21 or more are refused, with what to do. They are refused before a file or standard input is read."""
     pytest.importorskip("matplotlib")
     for count in 21, 250:
         (tmp_path / "report").write_bytes(report_of(count))

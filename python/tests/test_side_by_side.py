@@ -1,4 +1,4 @@
-"""tools/gate/side_by_side: what the pieces' ends come to."""
+"""tools/gate/side_by_side: the result of the pieces' exit statuses."""
 import os
 import re
 import signal
@@ -12,7 +12,7 @@ import pytest
 from conftest import ROOT
 
 GATE = ROOT / "tools" / "gate"
-# Runs pieces that are given as words of Python.
+# Runs pieces that are given as Python expressions.
 CALL = """
 import importlib.machinery, importlib.util, signal, sys
 signal.signal(signal.SIGINT, signal.default_int_handler)
@@ -34,7 +34,7 @@ def begun(*some: tuple[Any, ...]) -> "subprocess.Popen[str]":
 
 
 def ran(*some: tuple[Any, ...]) -> tuple[int, list[str]]:
-    """The status, and what is said, each number of seconds as S."""
+    """Returns the status and the output, with S for each number of seconds."""
     process = begun(*some)
     said = process.communicate(timeout=60)[0]
     return process.returncode, [re.sub(r", \d+ s \(\d+ s of the processor\)$", ", S s", line) for line in said.splitlines()]
@@ -58,7 +58,7 @@ def test_none_that_ran_is_no_success() -> None:
 
 @pytest.mark.parametrize("made, status, last", [("echo /made/it", 0, "1 passed, 0 failed"), ("exit 3", 1, "0 passed, 1 failed, 1 skipped")])
 def test_what_waits_for_a_program(made: str, status: int, last: str) -> None:
-    """It has the program in $DNLAB; if that can't be made it isn't run, which is no success."""
+    """The piece has the program in $DNLAB. If the program can't be built, the piece doesn't run, which is not a success."""
     got, said = ran(piece("user", '[ "$DNLAB" = /made/it ] && echo 1 passed, 0 failed', after=("the checked build",)), piece("the checked build", made))
     assert (got, said[-1]) == (status, last)
 
@@ -76,7 +76,7 @@ def test_ctrl_c_ends_what_runs(tmp_path: Path) -> None:
 
 
 def test_each_piece_is_there() -> None:
-    """What a list names can be called, and no name is there twice."""
+    """Each name in a list can be called, and no name occurs twice."""
     for words in (["seen"], ["quick"], ["whole", "/bin/true"]):
         said = subprocess.run([GATE / "side_by_side", *words, "--list"], capture_output=True, text=True, check=True).stdout.splitlines()
         names = [line.partition(": ")[0] for line in said]

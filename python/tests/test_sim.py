@@ -1,5 +1,5 @@
-"""asyncio in simulated time: moments worked out by hand, what an operating system refuses, and programs that nobody here
-wrote, with loss, twice with the same transcript."""
+"""asyncio in simulated time: times calculated by hand, operations that an operating system refuses, and third-party programs
+with loss, which have the same transcript twice."""
 import asyncio
 import errno
 import random
@@ -17,7 +17,7 @@ Alone = Callable[[bytes], bytes]
 
 @pytest.fixture
 def link(program: str) -> Iterator[dnlab.Link]:
-    """1 Mbit/s and 10 ms for all: 97 bytes with their 28 of headers take 1 ms and 10 ms."""
+    """Returns a link of 1 Mbit/s and 10 ms for all packets: 97 bytes with headers of 28 bytes take 1 ms and 10 ms."""
     with dnlab.live(program) as session:
         opened = session.experiment("loop", seed=1)
         opened.command("pipe 1 config bw 1Mbit/s delay 10")
@@ -128,7 +128,7 @@ def test_what_an_operating_system_refuses(link: dnlab.Link) -> None:
 
 
 def test_only_ones_own_datagrams(link: dnlab.Link) -> None:
-    """A connected endpoint hears its peer alone; what comes to no endpoint is lost, without a word."""
+    """A connected endpoint only receives from its peer. A datagram without an endpoint is silently lost."""
     async def main() -> tuple[list[Any], list[Any]]:
         with sim.host(SERVER):
             server = await endpoint(link, (SERVER, 53))
@@ -172,7 +172,7 @@ def test_spent_steps_are_said(program: str) -> None:
 
 
 def twice(program: str, alone: Alone, main: Callable[[dnlab.Link], Awaitable[Any]], plr: str) -> tuple[str, Any]:
-    """The transcript and the result of a program that is run twice, over a link with loss."""
+    """Runs a program twice over a link with loss. Returns the transcript and the result."""
     runs = []
     for _ in range(2):
         random.seed(1)
@@ -190,7 +190,7 @@ def twice(program: str, alone: Alone, main: Callable[[dnlab.Link], Awaitable[Any
 
 
 def test_queries_of_dnspython(program: str, alone: Alone) -> None:
-    """Thirty queries, each tried again after 2 s, as dns.asyncresolver does, against a server that answers all alike."""
+    """Thirty queries, each repeated after 2 s, as dns.asyncresolver does, to a server that gives every query the same answer."""
     pytest.importorskip("dns.asyncresolver", reason="dnspython is missing (Debian: python3-dnspython)")
     import dns.asyncresolver
     import dns.message
@@ -225,18 +225,18 @@ def test_queries_of_dnspython(program: str, alone: Alone) -> None:
     # n0.example. is a query of 28 bytes and an answer of 44: with 28 each 0.448 and 0.576 ms, and 10 ms each way.
     shortest = 448_000 + 576_000 + 20_000_000 + 2
     assert min(took for _, took in answers) == shortest
-    # Who lost one waited for 2 s.
+    # A query that was lost waited for 2 s.
     late = [took for _, took in answers if took > 2 * 10**9]
     assert late and all(took > 2 * 10**9 for _, took in answers if took > shortest + 10**6)
     assert transcript.count("inject") > 60
 
 
 def test_connections_of_aioice(program: str, alone: Alone, monkeypatch: pytest.MonkeyPatch) -> None:
-    """Two agents of ICE (RFC 8445) find a pair of candidates, though the link loses, and send each other 50 datagrams."""
+    """Two ICE agents (RFC 8445) find a pair of candidates in spite of losses, and exchange 50 datagrams."""
     aioice = pytest.importorskip("aioice", reason="aioice is missing (Debian: python3-aioice)")
     from dnlab.session.datagrams import here
 
-    # Which addresses a host has is asked of the machine otherwise.
+    # Otherwise the addresses of a host would be those of the machine.
     monkeypatch.setattr("aioice.ice.get_host_addresses", lambda use_ipv4, use_ipv6: [here()])
 
     async def agent(address: str, is_controlling: bool) -> Any:

@@ -1,4 +1,4 @@
-"""tools/beside/speed: what a run costs, as two tables, of a program that says it is proved."""
+"""tools/beside/speed: the cost of runs, as two tables, for a program that claims to be proved."""
 import hashlib
 import signal
 import subprocess
@@ -15,7 +15,7 @@ def speed(*words: str) -> "subprocess.CompletedProcess[str]":
 
 
 def stub(folder: Path, version: str, body: str) -> str:
-    """A program that says this version, and else does what a line of the shell does."""
+    """Returns a program that prints this version, and otherwise runs a shell command."""
     path = folder / "stub"
     path.write_text(f"#!/bin/sh\nif [ \"$1\" = --version ]; then echo '{version}'; exit; fi\ncat > /dev/null\n{body}\n")
     path.chmod(0o755)
@@ -31,11 +31,11 @@ def test_both_tables(program: str) -> None:
     assert done.returncode == 0, done.stderr
     cells = rows(done.stdout)
     assert [row[0] for row in cells[:5]] == ["Load", "p1", "p2", "p3", "p4"]
-    # Two loads, each by four ways; alone takes as long as itself.
+    # Two loads, each in four ways; the ratio of `alone` to itself is 1.
     assert len(cells) == 5 + 1 + 8 and {row[5] for row in cells if row[1] == "`alone`"} == {"1.00"}
 
 
-# Of the texts that the figures of docs/reports/BENCH.md were measured with.
+# The checksums of the texts with which the numbers in docs/reports/BENCH.md were measured.
 SUMS = {"b1": "a0010c75c54d0e0e", "b2": "9de9063e63d6ccaa", "b3": "bc0208fec29a48e0", "b4": "517a1dfa16c415dd",
         "b5": "ac7f89a63cc45adc", "b6": "9466bb30ee6d5934", "b7": "b9fdc999b5cc7153"}
 
@@ -61,7 +61,7 @@ def test_a_run_that_fails(tmp_path: Path) -> None:
 
 
 def test_its_end_by_sigint(tmp_path: Path) -> None:
-    # A run that would go on: the tool ends it, and itself within two seconds.
+    # A run that would continue: the tool ends it, and itself, within two seconds.
     words = ["/bin/sh", "-c", "trap - INT; exec \"$0\" \"$@\"", str(TOOL),
              stub(tmp_path, "dnlab 9 (commit abc, proved by kit)", f"touch {tmp_path}/begun; exec sleep 60"), "--small"]
     child = subprocess.Popen(words, stdout=subprocess.DEVNULL, stderr=subprocess.PIPE, text=True,

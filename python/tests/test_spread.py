@@ -1,4 +1,4 @@
-"""The command spread: the bytes, the errors and the status of `dnlab alone`, however a scenario is split.
+"""The command spread: it has the bytes, the errors and the status of `dnlab alone`, however a scenario is split.
 
 Runs all scenarios of examples/ and cookbook/ in parts: those with many experiments in 1, 2, 3 and 300, the others in one
 of these in turn; 256 experiments of theirs joined to one text under names of their own, and texts that the program
@@ -25,8 +25,8 @@ from dnlab.io.splitting import experiments_in, groups, shares, texts_of
 SPREAD = str(ROOT / "tools" / "spread")
 PARTS = 1, 2, 3, 300
 MOST = 256
-# Does as the program, but where the folder has a file `broken` and its text the experiment `bad`, what that
-# file says. Each call of `alone` adds the first experiment's name to the file `calls`.
+# Works like the program. But if the folder has a file `broken` and the text an experiment `bad`, it does what the file
+# says. Each call of `alone` appends the first experiment's name to the file `calls`.
 FAKE = """#!/bin/sh
 [ "$1" = alone ] || exec {program} "$@"
 text=$(cat; echo .)
@@ -35,7 +35,7 @@ echo "$text" | sed -n 's/^experiment \\([^ ]*\\).*/\\1/p' | head -n 1 >>{folder}
 case $text in *"experiment bad "*) [ ! -f {folder}/broken ] || . {folder}/broken ;; esac
 printf '%s' "$text" | {program} alone
 """
-# Runs the tasks of an array one after another, as sbatch --wait would; of an array only lists are understood.
+# Runs the tasks of an array one after another, like sbatch --wait. It only understands arrays that are lists.
 SBATCH = """#!/bin/sh
 for word; do
   case $word in
@@ -50,13 +50,13 @@ for SLURM_ARRAY_TASK_ID in $(seq "${tasks%-*}" "${tasks#*-}"); do
 done
 exit ${status:-0}
 """
-# Each has 3 commands, so that 3 parts hold 1 experiment each and 2 parts hold 2 and 1, or 1 and 2.
+# Each has 3 commands, so that 3 parts have 1 experiment each and 2 parts have 2 and 1, or 1 and 2.
 SMALL = "".join(f"# {name}\nexperiment {name} seed 0 budget 10\n@0 add 100 allow ip from any to any\n"
                 f"@5 inject udp 10.0.0.1 1 10.0.0.2 2 100\n@9 end\n\n" for name in ("one", "bad", "two")).encode()
-# By hand from docs/explanation/rules.md and report.md: the rule, then the packet, 1 ns by the link of `allow`, then `end`.
+# By hand from docs/explanation/rules.md and report.md: the rule, then the packet, 1 ns over the link of `allow`, then `end`.
 SMALL_REPORT = "".join(f"experiment {name}\n0 ok 0\n5 ok 1\n6 deliver 0 plain\n9 ok 2\n"
                        "counters 1 1 0 0 0 0 0 0 0 0 0\n" for name in ("one", "bad", "two")).encode()
-# Wrong words, and what standard error must have of them.
+# Wrong arguments, and the text that standard error must contain.
 WRONG = [
     ([], "SCENARIO"), (["-", "--parts", "0"], "--parts 0"), (["-", "--parts", "two"], "two"),
     (["-", "--jobs", "0"], "--jobs 0"), (["-", "--part", "2"], "--part"), (["-", "--resume"], "--resume"),
@@ -72,13 +72,13 @@ def ended(words, text, **how):
 
 
 def spread(*words, text=SMALL, program, **more):
-    # One job at once, since the machine's cores may be in use.
+    # One job at a time, because the machine's cores may be in use.
     return ended([SPREAD, "-", "--jobs", "1", *map(str, words)], text,
                  env={**os.environ, "DNLAB": str(program), **more})
 
 
 def begins(text: bytes) -> list[int]:
-    """The numbers of the lines that begin an experiment."""
+    """Returns the numbers of the lines that start an experiment."""
     return [number for number, line in enumerate(text.split(b"\n")) if line.split()[:1] == [b"experiment"]]
 
 
@@ -86,7 +86,7 @@ FILES = sorted([*ROOT.glob("examples/*/*/scenario.txt"), *ROOT.glob("cookbook/*/
 
 
 def ways(turn: int, text: bytes) -> tuple[int, ...]:
-    """In how many parts a text is tried: 256 experiments in as many are tried once, joined, since that takes some 10 s."""
+    """Returns the numbers of parts in which a text is tried. 256 experiments in 256 parts are tried only once, which takes about 10 s."""
     starts = len(begins(text))
     all_ways = PARTS[:3] if starts == MOST else PARTS
     return all_ways if starts > 1 else (PARTS[turn % 4],)
@@ -101,7 +101,7 @@ def test_each_scenario(turn: int, program: str) -> None:
 
 
 def joined(experiments: list[list[bytes]]) -> bytes:
-    """One text, each experiment under a name of its own, with comments, blank lines and spaces between."""
+    """Returns a text in which each experiment has its own name, with comments, blank lines and spaces in between."""
     lines = [b"# joined", b""]
     for number, one in enumerate(experiments):
         _, _, *rest = one[0].split()
@@ -111,7 +111,7 @@ def joined(experiments: list[list[bytes]]) -> bytes:
 
 @pytest.fixture(scope="module")
 def experiments(program: str) -> list[list[bytes]]:
-    """The experiments of those texts that have no fault, each as its lines, the largest text's last."""
+    """Returns the experiments of the texts without a fault, each as a list of lines, with those of the largest text last."""
     found = []
     for file in FILES:
         text = file.read_bytes()
@@ -138,7 +138,7 @@ def test_faults_in_256_experiments(experiments, program: str) -> None:
     assert spread("--parts", 3, text=b"\n".join(lines), program=program) == (b"", b"line %d: badword\n" % first, 1)
 
 
-# Three times as many small experiments as a text of the program may have.
+# Three times as many small experiments as a text for the program can have.
 NAMES = [f"e{number}" for number in range(700)]
 LONG = "".join(f"# one\nexperiment {name} seed 0 budget 10\n@0 add 100 allow ip from any to any\n"
                f"@5 inject udp 10.0.0.1 1 10.0.0.2 2 100\n@9 end\n" for name in NAMES).encode()
@@ -167,7 +167,7 @@ LONG_FAULTS = [
 
 @pytest.mark.parametrize("name,which,change,line,cause", LONG_FAULTS, ids=[fault[0] for fault in LONG_FAULTS])
 def test_faults_in_long_texts(name, which, change, line, cause, program: str) -> None:
-    """By hand: an experiment has five lines, its heading the second of them. `noend` stands in the next heading."""
+    """By hand: an experiment has five lines, of which the second is its heading. `noend` is reported at the next heading."""
     parts = [b"# one\nexperiment" + part for part in LONG.split(b"# one\nexperiment")[1:]]
     before = 5 * which + 1
     parts[which] = change(parts[which])
@@ -176,7 +176,7 @@ def test_faults_in_long_texts(name, which, change, line, cause, program: str) ->
 
 
 def test_more_bytes_than_the_program_takes(program: str) -> None:
-    """Two experiments, each with nearly as many bytes as a text may have; then one with more."""
+    """Two experiments, each with nearly the maximum length of a text, and then one that exceeds it."""
     filler = (b"#" * 511 + b"\n") * 32000
     small = [b"experiment" + one for one in SMALL.split(b"experiment")[1:]]
     text = small[0] + filler + small[1] + filler
@@ -213,7 +213,7 @@ def executable(file: Path, text: str) -> Path:
 
 @pytest.fixture
 def fake(tmp_path: Path, program: str) -> Path:
-    """A program that fails for the experiment `bad`, as the file `broken` says, where it is there."""
+    """Returns a program that fails for the experiment `bad`, in the way that the file `broken` says, if it exists."""
     return executable(tmp_path / "fake", FAKE.format(program=program, folder=tmp_path))
 
 
@@ -224,7 +224,7 @@ FAILURES = [("a status", "echo memory >&2; exit 3\n", b"status 3, memory"), ("a 
 
 @pytest.mark.parametrize("name,broken,why", FAILURES, ids=[failure[0] for failure in FAILURES])
 def test_a_part_fails(name: str, broken: str, why: bytes, tmp_path: Path, fake: Path) -> None:
-    """It is named, nothing is written, what stood there stays; resuming runs that part alone."""
+    """The part is named, nothing is written, and existing files stay. Resuming only runs that part."""
     report, work = tmp_path / "report", tmp_path / "report.parts"
     (tmp_path / "broken").write_text(broken)
     report.write_text("before\n")
@@ -260,7 +260,7 @@ def test_a_report_that_is_not_the_parts(tmp_path: Path, program: str, fake: Path
 
 
 def test_a_changed_moment_is_seen(tmp_path: Path, program: str, fake: Path) -> None:
-    """The packet of `bad` comes at 7 where its link takes it at 6: as every reader of reports, spread sees that."""
+    """The packet of `bad` arrives at 7, although its link delivers it at 6: like every reader of reports, spread detects that."""
     (tmp_path / "broken").write_text(
         f"printf '%s' \"$text\" | {program} alone | sed 's/^6 deliver 0 plain/4 deliver 0 plain/'; exit 0\n")
     out, err, status = spread("--parts", 3, program=fake)
@@ -271,7 +271,7 @@ def test_a_changed_moment_is_seen(tmp_path: Path, program: str, fake: Path) -> N
 
 @pytest.mark.parametrize("commands,want", [((9, 1, 1, 1), [9, 3]), ((1, 1, 1, 9), [3, 9]), ((3, 3, 3, 3), [6, 6])])
 def test_shares(commands: tuple[int, ...], want: list[int], tmp_path: Path, fake: Path) -> None:
-    """By hand: of 9, 1, 1, 1 commands two parts have 9 and 3; of 3, 3, 3, 3 they have 6 and 6."""
+    """By hand: with 9, 1, 1, 1 commands, two parts have 9 and 3; with 3, 3, 3, 3 they have 6 and 6."""
     (tmp_path / "broken").write_text("exit 3\n")
     names = ["a", "b", "c", "d"]
     names[commands.index(max(commands))] = "bad"
@@ -283,7 +283,7 @@ def test_shares(commands: tuple[int, ...], want: list[int], tmp_path: Path, fake
 
 
 def test_ended_from_outside(tmp_path: Path, fake: Path) -> None:
-    """The run is ended while the second part goes on; the first is kept, and a part isn't left running."""
+    """The run is ended during the second part. The first part is kept, and no part is left running."""
     report = tmp_path / "report"
     (tmp_path / "broken").write_text(f"echo $$ >{tmp_path}/going; exec sleep 100\n")
     with subprocess.Popen([SPREAD, "-", "--jobs", "1", "--parts", "3", "--out", report], stdin=subprocess.PIPE,
@@ -307,7 +307,7 @@ def test_ended_from_outside(tmp_path: Path, fake: Path) -> None:
 
 
 def test_slurm(tmp_path: Path, fake: Path) -> None:
-    """What sbatch is given, by a stand-in for it; that Slurm takes it so is another trial."""
+    """Checks the arguments of sbatch with a stand-in for it, and not that Slurm accepts them."""
     report = tmp_path / "report"
     (tmp_path / "bin").mkdir()
     executable(tmp_path / "bin" / "sbatch", SBATCH)
@@ -347,7 +347,7 @@ def test_what_is_missing(tmp_path: Path, program: str) -> None:
 
 @given(some.lists(some.integers(1, 50), min_size=1, max_size=40), some.integers(1, 45))
 def test_groups(costs: list[int], parts: int) -> None:
-    """Contiguous, none empty, and each end as near to its share as one can be that leaves a place for all others."""
+    """Groups are contiguous and not empty, and each end is as near to its share as possible with at least one item for all others."""
     ends = groups(costs, parts)
     count = min(parts, len(costs))
     assert ends[-1] == len(costs) and len(ends) == count and all(a < b for a, b in zip([0, *ends], ends))
@@ -360,7 +360,7 @@ def test_groups(costs: list[int], parts: int) -> None:
 
 @given(some.lists(some.tuples(some.integers(0, 3), some.booleans()), min_size=1, max_size=600), some.integers(1, 9))
 def test_nothing_is_lost_in_splitting(shapes, count: int) -> None:
-    """All bytes from the first heading on, in order; no text has more than 256 experiments."""
+    """The parts have all bytes from the first heading on, in order, and no part has more than 256 experiments."""
     text = b"# before\n" + b"".join(b"%sexperiment n%d seed 0 budget 1\n%s@1 end\n" % (
         b"  " if indented else b"", number, b"# experiment\n" * comments) for number, (comments, indented)
         in enumerate(shapes))
@@ -374,7 +374,7 @@ def test_nothing_is_lost_in_splitting(shapes, count: int) -> None:
 
 
 def test_no_report_is_longer_than_its_bound() -> None:
-    """Of the worked examples, whose texts have spaces and comments of all kinds, few steps and large listings."""
+    """Checks the worked examples, whose texts have spaces and comments of all kinds, few steps and large listings."""
     tried = 0
     for scenario in EXAMPLES.glob("*/scenario.txt"):
         tried += 1
@@ -383,7 +383,7 @@ def test_no_report_is_longer_than_its_bound() -> None:
 
 
 def test_a_worker_without_end(tmp_path: Path) -> None:
-    """A program whose output never ends is ended by a bound that hangs on the scenario's steps and commands."""
+    """A program with endless output is ended by a limit that depends on the scenario's steps and commands."""
     worker = tmp_path / "worker"
     worker.write_text("#!/bin/sh\ncase $1 in check) printf 'ok 1 1' ;; --version) echo dnlab 9 ;; *) exec yes '0 ok 0' ;; esac\n")
     worker.chmod(0o755)

@@ -1,4 +1,4 @@
-"""Standard streams that are closed or full, disks without room, and names that steer a terminal: status 3 and the file's name."""
+"""Standard streams that are closed or full, full disks, and names with control characters: status 3 and the file's name."""
 import os
 import pty
 import resource
@@ -15,7 +15,7 @@ TABLE = "seconds,size\n0,100\n0.1,100\n"
 
 @pytest.fixture
 def report(tmp_path: Path, alone: Callable[[bytes], bytes], program: str, monkeypatch: pytest.MonkeyPatch) -> list[str]:
-    """The words for a report and its scenario."""
+    """Returns the arguments for a report and its scenario."""
     monkeypatch.setenv("DNLAB", program)
     scenario = tmp_path / "scenario.txt"
     text = (ROOT / "cookbook/bufferbloat/scenario.txt").read_text()
@@ -25,7 +25,7 @@ def report(tmp_path: Path, alone: Callable[[bytes], bytes], program: str, monkey
 
 
 def through(shell: str, name: str, *words: str) -> "subprocess.CompletedProcess[str]":
-    """Calls a tool by a shell that closes or redirects its streams."""
+    """Runs a tool from a shell that closes or redirects its streams."""
     return subprocess.run(["sh", "-c", f'exec "$@" {shell}', "", str(ROOT / "tools" / name), *words], capture_output=True, text=True, timeout=120,
                           stdin=subprocess.DEVNULL, check=False)
 
@@ -54,7 +54,7 @@ def test_standard_input_that_is_closed(report: list[str]) -> None:
 
 
 def test_a_disk_without_room(report: list[str], tmp_path: Path) -> None:
-    """By the limit of a file's size, which a write meets as it meets a full disk."""
+    """Uses a limit of the file size, which affects a write like a full disk."""
     table, out = tmp_path / "t.csv", tmp_path / "out"
     table.write_text(TABLE)
     words = {"plot": [*report, "--out", f"{out}.svg"], "view": [*report, "--out", f"{out}.html"],
@@ -98,7 +98,7 @@ def test_what_replay_refuses(text: str, link: "str | None", line: str, tmp_path:
 
 
 def test_names_that_steer_a_terminal(tmp_path: Path, report: list[str]) -> None:
-    """Standard error has no control character, and neither has standard output where it is a terminal."""
+    """Standard error has no control characters, and neither has standard output if it is a terminal."""
     name = tmp_path / "a\x1b]0;title\x07\x9b2J\u202ertl\r.txt"
     name.write_text("nothing of it\n")
     for one in ("summary", "view", "sweep", "to-ipfw", "from-ipfw"):

@@ -1,5 +1,5 @@
-"""What a study needs of a summary and a sweep: a part of the time, statistics of one's own, and settings as columns.
-Values are worked out by hand from the experiments of `dnlab.analysis.by_hand`."""
+"""Summaries and sweeps for studies: a part of the time, your own statistics, and settings as columns.
+Values are calculated by hand from the experiments of `dnlab.analysis.by_hand`."""
 import csv
 import io
 import json
@@ -41,7 +41,7 @@ def picked(row: Row, *names: str) -> list[object]:
 # ---- a part of the time
 
 def test_the_last_millisecond() -> None:
-    """From 11.5 to 12.5 ms: the second packet comes, the third is on its way, and nothing is made, served or dropped."""
+    """From 11.5 to 12.5 ms the second packet arrives, the third is in flight, and none is created, served or dropped."""
     rows = rows_of(TRAIN, Span(11_500_000))
     names = ("packets", "delivered", "in_flight", "full", "bytes", "time", "rate", "p50", "from", "to")
     assert picked(rows["train 1"], *names) == [0, 1, 1, 0, 1000, MS, 8 * MS, 12 * MS, 11_500_000, 12_500_000]
@@ -50,7 +50,7 @@ def test_the_last_millisecond() -> None:
 
 
 def test_before_a_moment() -> None:
-    """Before 5 ms: four are made and one of them dropped; three were served in 3 of 5 ms; the single packet isn't made."""
+    """Before 5 ms four packets are created and one of them is dropped; three are served in 3 of 5 ms; the single packet comes later."""
     rows = rows_of(TRAIN, Span(0, 5 * MS))
     assert picked(rows["train 1"], "packets", "delivered", "in_flight", "full", "bytes", "rate", "p50") == [4, 0, 3, 1, 0, 0, None]
     assert picked(rows["injected"], "packets", "in_flight") == [0, 0]
@@ -59,11 +59,11 @@ def test_before_a_moment() -> None:
 
 
 def test_a_moment_belongs_to_what_begins_with_it() -> None:
-    """What came at 12 ms is in the part that begins then, and not in the one that ends then; both make the whole."""
+    """A packet that arrives at 12 ms is in the part that starts then, and not in the one that ends then. Both parts make the whole."""
     one, other = rows_of(TRAIN, Span(0, 12 * MS)), rows_of(TRAIN, Span(12 * MS))
     assert [rows["train 1"]["delivered"] for rows in (one, other)] == [1, 1]
     assert [rows["pipe 1.0"]["packets"] for rows in (one, other)] == [4, 0]
-    # 12.5 ms is the end: what lies beyond adds nothing, to the time of a rate neither.
+    # 12.5 ms is the end. The time after it adds nothing, not even to the duration of a rate.
     assert rows_of(TRAIN, Span(12 * MS, 10**9))["train 1"]["rate"] == 8000 * 10**9 // 500_000
 
 
@@ -74,7 +74,7 @@ def test_flows_in_a_part() -> None:
     assert picked(after["flow 1"], "useful", "goodput", "fct", "packets") == [
         960, 960 * 8 * 10**9 // 1_988_000_000, 12 * MS, 0]
     assert picked(before["flow 2"], "retransmissions", "denied") == [0, 1] and picked(after["flow 2"], "retransmissions", "denied") == [1, 0]
-    # Both flows brought 960 bytes in the second part: it is fair.
+    # Both flows delivered 960 bytes in the second part, which is fair.
     assert after["there"]["jain"] == 1.0
 
 
@@ -106,7 +106,7 @@ def test_what_can_be_no_part(tmp_path: Path, words: tuple[str, ...], said: str) 
 
 
 def test_a_part_needs_moments(tmp_path: Path) -> None:
-    """A report alone doesn't tell when packets were made."""
+    """A report without its scenario doesn't have the times at which packets were created."""
     status, out, err = tool("summary", files(tmp_path, TRAIN)[0], "--from", "1ms")
     assert (status, out) == (2, "") and "need its scenario" in err
 
@@ -119,7 +119,7 @@ def test_a_sweep_takes_it_and_keeps_it_apart(tmp_path: Path, program: str) -> No
                             dnlab=program, **more)
         return [float(one) for one in found.table()["mean"]]
 
-    # With three slots the fourth packet takes the way too, and comes at 14 ms: not before the end.
+    # With three slots the fourth packet is accepted too, and arrives at 14 ms, which is not before the end.
     assert delivered() == [2, 2] and delivered(begin=11_500_000) == [1, 1] and delivered(end=11_500_000) == [1, 1]
     assert delivered(begin=11_000_000, end=11_000_001) == [1, 1] and delivered() == [2, 2]
     status, out, err = tool("sweep", tmp_path / "t", "--set", "queue=2", "--of", "train 1", "--stat", "delivered,drops.full",
@@ -127,10 +127,10 @@ def test_a_sweep_takes_it_and_keeps_it_apart(tmp_path: Path, program: str) -> No
     assert status == 0 and [row["mean"] for row in csv.DictReader(io.StringIO(out))] == ["1.0", "0.0"], err
 
 
-# ---- statistics of one's own
+# ---- user-defined statistics
 
 def late(run: dnlab.Experiment, of: str) -> float:
-    """The share of a sender's delivered packets that took more than 11.5 ms."""
+    """Returns the share of a sender's delivered packets that took more than 11.5 ms."""
     packets = run.packets()
     own = packets[(packets["sender"] == of) & (packets["outcome"] == "delivered")]
     return float((own.delay > 11_500_000).mean())
@@ -141,7 +141,7 @@ def made(run: dnlab.Experiment) -> int:
 
 
 def test_a_function_is_a_stat(tmp_path: Path, program: str) -> None:
-    """Of the train's two packets that came one took 12 ms; five packets were made in all. Processes of their own ask it."""
+    """One of the train's two delivered packets took 12 ms; five packets were created in all. Separate processes call the function."""
     (tmp_path / "t").write_text(TEMPLATE)
     swept = dnlab.sweep(tmp_path / "t", queue=[2], seed=[1, 2], of="train 1", stat=[late, "delivered"], dnlab=program)
     assert [(row.stat, row.n, row.mean) for row in swept.table().itertuples()] == [("late", 1, 0.5), ("delivered", 1, 2.0)]
@@ -149,7 +149,7 @@ def test_a_function_is_a_stat(tmp_path: Path, program: str) -> None:
 
 
 def test_what_a_function_answers_is_never_kept(tmp_path: Path, program: str) -> None:
-    """Its body may change, and its name stay."""
+    """A function's body may change while its name stays."""
     (tmp_path / "t").write_text(TEMPLATE)
     for wanted in (1.0, 2.0):
         def mine(run: dnlab.Experiment, wanted: float = wanted) -> float:
@@ -159,7 +159,7 @@ def test_what_a_function_answers_is_never_kept(tmp_path: Path, program: str) -> 
 
 
 def test_what_is_said_where_it_ends_early() -> None:
-    """What functions answer isn't kept, so nothing is said of going on."""
+    """Results of functions are not cached, so there is no hint about resuming."""
     assert far(dnlab.sweep(TEMPLATE, queue=[2], of="all", stat="lost"), "k") == (
         "0 of 1 experiments are kept in k; the same command continues")
     assert "are not kept, so the same command starts again" in far(dnlab.sweep(TEMPLATE, queue=[2], stat=made), "k")
@@ -193,7 +193,7 @@ def test_stat_without_of_is_refused(tmp_path: Path) -> None:
 # ---- settings
 
 def test_settings_are_columns_with_their_defaults(program: str) -> None:
-    """By docs/reference/scenario.md: no rate, no delay, 50 slots, no loss, droptail; CoDel has 5 and 100 ms, a flow 65535 bytes."""
+    """According to docs/reference/scenario.md: no rate, no delay, 50 slots, no loss, droptail; CoDel has 5 and 100 ms, a flow 65535 bytes."""
     text = ("experiment a seed 1 budget 9\n@0 pipe 1 config\n@0 pipe 2 config bw 8Mbit/s delay 3\n"
             "@0 flow 1 10.0.0.1 1 10.0.0.2 2 smss 100 segments 2\n@1 pipe 2 config bw 4Mbit/s delay 3\n@9 end\n"
             "experiment b seed 2 budget 9\n@0 pipe 1 config codel interval 200us mask dst-ip 0xff proto 0x0f queue 3KBytes plr 0.5\n@9 end\n"

@@ -1,4 +1,4 @@
-"""The pages on sweeps and senders: each command on the study runs, each program in Python prints what is shown."""
+"""The pages on sweeps and senders: each command for the study runs, and each Python program prints the output that the page shows."""
 import os
 import re
 import shlex
@@ -37,7 +37,7 @@ def test_programs(place: int, program: str, tmp_path: Path) -> None:
 
 @pytest.mark.parametrize("place", range(len(COMMANDS)))
 def test_commands(place: int, program: str, tmp_path: Path) -> None:
-    """Files go to a folder of the test; what is shown of the first is what it prints first."""
+    """Files are written to a folder of the test. The first command's output starts with the lines that the page shows."""
     name, command = COMMANDS[place]
     words = shlex.split(command.replace("/tmp/", f"{tmp_path}/"))
     out = run([str(ROOT / words[0]), *words[1:]], program, tmp_path)

@@ -1,5 +1,5 @@
-"""Sweeps: what a template makes, what its experiments answer, and what is kept. Values are worked out by hand, by grep of
-the report, or by the formulas of Student's t with the table's numbers."""
+"""Sweeps: the texts of a template, the statistics of its experiments, and the cached results. Values are calculated by hand, with
+grep on the report, or from the formulas of Student's t with numbers of a table."""
 import csv
 import hashlib
 import importlib.util
@@ -36,15 +36,15 @@ from dnlab.sweeps.templates import Template  # noqa: E402
 from dnlab.sweeps.values import value_of  # noqa: E402
 
 BOTTLENECK = ROOT / "python" / "examples" / "bottleneck.tmpl"
-# One packet of a size that the seed draws, by a link of 1 Mbit/s: 8000 ns a byte, and the delay.
+# One packet of a random size that depends on the seed, over a link of 1 Mbit/s: 8000 ns per byte, and the delay.
 ONE = """experiment {{ name }} seed {{ seed }} budget 10
 @0 pipe 1 config bw 1Mbit/s delay {{ delay }}
 @0 add 100 pipe 1 ip from any to any
 @0 train 1 udp 10.0.0.1 1 10.0.0.2 2 {{ rng.whole(100, 1500) }} count 1 gap 0
 @1000000000 end
 """
-# As the program, but it adds each text's experiments to the file `calls`, and fails where the folder has the file `broken`
-# and the text an experiment that is named in it.
+# Works like the program, but appends each text's experiments to the file `calls`, and fails if the folder has a file `broken`
+# and the text has an experiment that is named in it.
 FAKE = """#!/bin/sh
 [ "$1" = alone ] || exec {program} "$@"
 cat >{folder}/text.$$
@@ -79,14 +79,14 @@ def rows_of(text: str) -> list[dict[str, str]]:
 
 
 def size_of(text: str) -> int:
-    """The size of the packet that a text of ONE sends."""
+    """Returns the size of the packet that a text of ONE sends."""
     return int(re.search(r"2 (\d+) count", text)[1])
 
 
-# ---- chance, names, words
+# ---- randomness, names, arguments
 
 def test_chance_is_that_of_every_python() -> None:
-    """A seed is a number of sha512, as `random` promises of texts, and all draws are made of `random()`."""
+    """A seed is a number from SHA-512, as `random` guarantees for strings, and all random values come from `random()`."""
     number = int.from_bytes(b"7" + hashlib.sha512(b"7").digest(), "big")
     plain, chance = random.Random(number), Chance(7)
     assert [chance.random() for _ in range(5)] == [plain.random() for _ in range(5)]
@@ -99,7 +99,7 @@ def test_chance_is_that_of_every_python() -> None:
 
 
 def test_gaps_are_those_of_exact_logarithms() -> None:
-    """Also where they lie near the middle between two whole numbers: with this mean each has its own digits behind."""
+    """This is also true near the middle between two whole numbers: with this mean, each gap has different decimal digits."""
     chance, plain = Chance(3), Chance(3)
     for mean in [7] * 3000 + [10**14] * 50:
         exact = -Context(prec=40).ln(1 - Decimal(plain.random())) * mean
@@ -115,7 +115,7 @@ def test_chance_draws_fairly() -> None:
     chance = Chance(1)
     assert {chance.whole(1, 3) for _ in range(100)} == {1, 2, 3}
     moments = chance.arrivals(1000, 10**6, 500)
-    # A Poisson process has some 1000 moments in this time, give or take 32 in two of three cases.
+    # A Poisson process has about 1000 events in this time, plus or minus 32 in two of three cases.
     assert 850 < len(moments) < 1150 and moments == sorted(moments) and 500 <= moments[0] and moments[-1] < 10**6
     drawn = chance.sample(range(0, 10**9, 1000), 200)
     assert len(set(drawn)) == 200 and all(one in range(0, 10**9, 1000) for one in drawn)
@@ -193,7 +193,7 @@ def test_a_fault_in_what_is_included(tmp_path: Path, program: str) -> None:
 
 
 def test_faults_of_the_text_that_is_made(tmp_path: Path, program: str) -> None:
-    """The fourth experiment is the first faulty one; nothing is run, and --explain says what is wrong."""
+    """The fourth experiment is the first faulty one. Nothing is run, and --explain explains the fault."""
     file = template(tmp_path)
     status, out, err = tool("sweep", file, "--set", "delay=5,5s", "--seeds", "1-3", DNLAB=program)
     assert status == 2 and not out and "(delay=5s, seed 1)" in err and "line 2: badword" in err
@@ -235,7 +235,7 @@ def test_what_is_refused_says_what_there_is(tmp_path: Path, program: str) -> Non
 # ---- values
 
 def test_the_table_by_hand(tmp_path: Path, program: str) -> None:
-    """A packet is in flight for 8000 ns per byte, and the delay; of the five seeds the mean and Student's
+    """A packet takes 8000 ns per byte plus the delay. For the five seeds, compare the mean and Student's
     interval, whose t is 2.776 for four degrees of freedom and 95 %, and 2.132 for 90 %."""
     file = template(tmp_path)
     made = dnlab.sweep(file, delay=[5, 20], seed=range(1, 6), of="train 1", stat="delay.p50,bytes", dnlab=program)
@@ -255,12 +255,12 @@ def test_the_table_by_hand(tmp_path: Path, program: str) -> None:
 
 
 def test_intervals_by_another_way() -> None:
-    """The bootstrap against percentiles of means that are drawn here, of values far from normal; t of the table."""
+    """Compares the bootstrap with percentiles of means that are generated here, for values far from normal, and t with a table."""
     values = [1.0, 1.1, 1.2, 1.3, 1.5, 2.0, 9.0, 1.4, 1.6, 1.2]
     found = interval(values, 90, "bootstrap")
     chance = random.Random(5)
     means = sorted(sum(chance.choices(values, k=10)) / 10 for _ in range(20000))
-    # The correction for bias and skewness moves both ends up here, and by no more than a third of the width.
+    # Here the correction for bias and skewness moves both ends up, by at most a third of the width.
     low, high = means[1000], means[19000]
     assert found.mean == pytest.approx(2.13) and low <= found.low <= low + (high - low) / 3
     assert high <= found.high <= high + (high - low) / 3
@@ -272,7 +272,7 @@ def test_intervals_by_another_way() -> None:
 
 
 def test_counts_by_grep(tmp_path: Path, program: str, alone: Callable[[bytes], bytes]) -> None:
-    """What flows and the call lost and got, against the lines of the report."""
+    """Compares the losses and deliveries of flows and the call with the lines of the report."""
     each = tmp_path / "each.csv"
     words = ["--set", "length=2", "--set", "queue=10,200 codel", "--seeds", "3", "--kept", tmp_path / "k", "--each", each]
     stats = ["--of", "flows", "--stat", "lost,delivered,drops.full,drops.codel,drops.lost,retransmissions,packets", "--of", "train 9",
@@ -291,7 +291,7 @@ def test_counts_by_grep(tmp_path: Path, program: str, alone: Callable[[bytes], b
         for cause in "full", "codel", "lost":
             assert flows[f"drops.{cause}"] == count(rf"^\d+ drop \d+ data .* {cause}$")
         assert call["delivered"] == count(r"^\d+ deliver \d+ plain$") and call["lost"] == count(r"^\d+ drop \d+ plain")
-        # Packet k of the call is made at 20 ms * k; they are delivered in order.
+        # Packet k of the call is created at 20 ms * k, and they are delivered in order.
         lost = {int(one) for one in re.findall(r"^\d+ drop (\d+) plain", report, re.MULTILINE)}
         plain = [(int(one), int(moment)) for moment, one in re.findall(r"^(\d+) deliver (\d+) plain", report, re.MULTILINE)]
         made_at = dict(zip(sorted([one for one, _ in plain] + list(lost)), range(0, 10**10, 20_000_000)))
@@ -301,7 +301,7 @@ def test_counts_by_grep(tmp_path: Path, program: str, alone: Callable[[bytes], b
 
 
 def test_flows_together(tmp_path: Path, program: str) -> None:
-    """Two flows of 4 and 2 segments over links that are never full: 1000 bytes are 8 ms at 1 Mbit/s, and 10 ms back."""
+    """Two flows of 4 and 2 segments over links that are never full: 1000 bytes take 8 ms at 1 Mbit/s, and 10 ms back."""
     text = """experiment {{ name }} seed {{ seed }} budget 100
 @0 pipe 1 config bw 1Mbit/s delay 10 mask src-ip 0xffffffff
 @0 add 100 pipe 1 ip from 10.0.0.0/24 to any
@@ -313,10 +313,10 @@ def test_flows_together(tmp_path: Path, program: str) -> None:
     stats = ["goodput", "fct", "jain", "retransmissions", "useful"]
     made = dnlab.sweep(text, of={"flows": stats, "flow *": ["fct"], "flow * acks": ["delivered"]}, dnlab=program)
     rows = {(row.sender, row.stat): row["mean"] for _, row in made.table().iterrows()}
-    # `flow *` names flows alone. Each segment has its own acknowledgement.
+    # `flow *` only names flows. Each segment has its own acknowledgement.
     assert {of for of, stat in rows if stat == "fct"} == {"flows", "flow 1", "flow 2"}
     assert {of: mean for (of, stat), mean in rows.items() if stat == "delivered"} == {"flow 1 acks": 4, "flow 2 acks": 2}
-    # The last segment of flow 1 is served to 32 ms and delivered at 42, that of flow 2 at 26 ms.
+    # The last segment of flow 1 is served until 32 ms and delivered at 42, that of flow 2 at 26 ms.
     assert rows["flows", "fct"] == rows["flow 1", "fct"] == 42_000_000
     assert rows["flow 2", "fct"] == 26_000_000 and rows["flows", "retransmissions"] == 0
     assert rows["flows", "useful"] == 6 * 960 and rows["flows", "goodput"] == 6 * 960 * 8 * 1000 // 42
@@ -331,7 +331,7 @@ def test_the_usual_questions(tmp_path: Path, program: str) -> None:
 
 
 def test_marks_and_what_is_said(tmp_path: Path, program: str) -> None:
-    """Steps that are spent are marked, as are seeds that change nothing, and figures that can't be told."""
+    """Runs whose steps ran out are marked, and so are seeds that change nothing, and statistics that can't be calculated."""
     text = ONE.replace("budget 10", "budget 10 steps {{ steps }}").replace("{{ rng.whole(100, 1500) }}", "500")
     words = ["--set", "delay=5", "--set", "steps=3,100", "--seeds", "1-2", "--of", "pipe 1.0", "--stat", "rate,lost", "--csv", "-"]
     status, out, err = tool("sweep", template(tmp_path, text), *words, DNLAB=program)
@@ -373,7 +373,7 @@ def test_parquet_needs_pyarrow(tmp_path: Path, program: str) -> None:
 
 
 def test_the_picture(program: str) -> None:
-    """A point for each setting at the mean, a bar as long as the interval, a line for each other setting."""
+    """There is a point for each setting at the mean, with a bar as long as the interval, and a line for each other setting."""
     pytest.importorskip("matplotlib")
     made = dnlab.sweep(ONE, delay=[5, 20, 10], seed=range(1, 4), of="train 1", stat=["delay.p50"], dnlab=program)
     axes, = made.plot().axes
@@ -393,7 +393,7 @@ def test_the_picture(program: str) -> None:
 
 
 def test_dry_run(tmp_path: Path) -> None:
-    """It needs no program, and shows the first text as it will be run."""
+    """A dry run needs no program, and prints the first text as it would be run."""
     status, out, err = tool("sweep", template(tmp_path), "--set", "delay=5,7", "--seeds", "9-12", "--dry-run", DNLAB="")
     assert status == 0 and "8 experiments" in err and out.startswith("experiment delay5-s9 seed 9 budget 10\n@0 pipe 1 config")
     assert 100 <= size_of(out) <= 1500 and os.listdir(tmp_path) == ["one.tmpl"]
@@ -404,11 +404,11 @@ def test_standard_input(tmp_path: Path, program: str) -> None:
     assert status == 0 and len(rows_of(out)) == 4 and "0 were kept\n" in err
 
 
-# ---- what is kept
+# ---- cached results
 
 @pytest.fixture
 def counting(tmp_path: Path, program: str) -> Path:
-    """A program that writes down which experiments it is given."""
+    """Returns a program that records the experiments that it runs."""
     fake = tmp_path / "fake"
     fake.write_text(FAKE.format(program=program, folder=tmp_path))
     fake.chmod(0o755)
@@ -416,7 +416,7 @@ def counting(tmp_path: Path, program: str) -> Path:
 
 
 def calls(folder: Path) -> list[str]:
-    """The experiments that were run since the last call, in order."""
+    """Returns the experiments that were run since the last call, in order."""
     found = (folder / "calls").read_text().split() if (folder / "calls").exists() else []
     (folder / "calls").unlink(missing_ok=True)
     return sorted(found)
@@ -435,14 +435,14 @@ def test_what_is_known_is_not_run(tmp_path: Path, counting: Path) -> None:
     assert swept("--set", "delay=5,7", "--seeds", "1-2") == first and calls(tmp_path) == []
     swept("--set", "delay=7,9", "--seeds", "1-3")
     assert calls(tmp_path) == ["delay7-s3", "delay9-s1", "delay9-s2", "delay9-s3"]
-    # Another question runs them again, and both answers are kept.
+    # Another statistic runs them again, and both results are cached.
     swept("--set", "delay=5", "--of", "all", "--stat", "delivered")
     assert calls(tmp_path) == ["delay5-s1"]
     swept("--set", "delay=5,7", "--seeds", "1-2")
     assert calls(tmp_path) == []
     swept("--set", "delay=5", "--anew")
     assert calls(tmp_path) == ["delay5-s1"]
-    # Another text, and another program.
+    # Another text and another program also run them again.
     template(tmp_path, ONE.replace("budget 10", "budget {% if delay == 7 %}20{% else %}10{% endif %}"))
     swept("--set", "delay=5,7")
     assert calls(tmp_path) == ["delay7-s1"]
@@ -452,7 +452,7 @@ def test_what_is_known_is_not_run(tmp_path: Path, counting: Path) -> None:
 
 
 def test_a_run_that_failed_goes_on(tmp_path: Path, counting: Path) -> None:
-    """One experiment fails, and is named; the others are run and kept, and the same words run it alone."""
+    """One experiment fails and is named. The others are run and cached, and the same command then only runs the failed one."""
     file = template(tmp_path)
     (tmp_path / "broken").write_text("delay5-s20 \n")
     words = [file, "--set", "delay=5", "--seeds", "1-24", "--workers", "1", "--csv", tmp_path / "x.csv"]
@@ -467,7 +467,7 @@ def test_a_run_that_failed_goes_on(tmp_path: Path, counting: Path) -> None:
 
 
 def test_other_machines_by_a_stand_in(tmp_path: Path, counting: Path) -> None:
-    """An array of Slurm, by a stand-in for sbatch: the same table; where a part fails the others are kept."""
+    """A Slurm array, with a stand-in for sbatch, makes the same table. If a part fails, the others are cached."""
     file, fake = template(tmp_path), tmp_path / "bin" / "sbatch"
     fake.parent.mkdir()
     fake.write_text(SBATCH)
@@ -489,7 +489,7 @@ def test_other_machines_by_a_stand_in(tmp_path: Path, counting: Path) -> None:
 
 
 def test_an_engine_that_is_not_there(tmp_path: Path, program: str, monkeypatch: pytest.MonkeyPatch) -> None:
-    """Whoever sweeps in Python gets the reason as `InputError`, as for any other input that can't be used."""
+    """In Python the reason is an `InputError`, as for any other unusable input."""
     text = template(tmp_path).read_text()
     monkeypatch.setenv("PATH", str(tmp_path))
     for on, said in ("4/alpha", "parallel is missing (Debian: parallel)"), ("slurm", "sbatch is missing (Debian: slurm-client)"):
@@ -500,9 +500,9 @@ def test_an_engine_that_is_not_there(tmp_path: Path, program: str, monkeypatch: 
 
 
 def test_ended_from_outside(tmp_path: Path, program: str) -> None:
-    """A signal ends it and all that it began; what was done is kept."""
+    """A signal ends the sweep and everything that it started. Finished results are cached."""
     slow = tmp_path / "slow"
-    # A script that doesn't give its place to what it starts, so that ending the script alone isn't enough.
+    # A script that doesn't `exec` the program that it starts, so that ending only the script isn't enough.
     slow.write_text(f'#!/bin/sh\n[ "$1" = alone ] || exec {program} "$@"\nsh -c "echo $$ >{tmp_path}/going; exec sleep 60"\n')
     slow.chmod(0o755)
     file = template(tmp_path)
@@ -523,7 +523,7 @@ def test_ended_from_outside(tmp_path: Path, program: str) -> None:
 
 
 def test_what_is_kept_is_judged(tmp_path: Path, program: str) -> None:
-    """A digit that is changed in the file, a row of another, what isn't text: run again, and said; never a number."""
+    """A changed digit in the file, a row of another experiment, or bytes that aren't text: it is run again, with a note, and no such number is used."""
     file = template(tmp_path)
     words = [file, "--set", "delay=5,7", "--seeds", "1-3", "--of", "train 1", "--stat", "delay.p50", "--csv", "-"]
     status, table, err = tool("sweep", *words, DNLAB=program)
@@ -547,7 +547,7 @@ def test_what_is_kept_is_judged(tmp_path: Path, program: str) -> None:
 
 
 def test_the_program_behind_a_script(tmp_path: Path, program: str) -> None:
-    """A script that names another: where that changes nothing is taken for known; nor where --version does."""
+    """If the program that a script calls changes, or its --version, no cached result is used."""
     file, inner, outer = template(tmp_path), tmp_path / "inner", tmp_path / "outer"
     inner.write_text(f'#!/bin/sh\nexec {program} "$@"\n')
     outer.write_text('#!/bin/sh\nhere=$(dirname "$0")\nexec "$here/inner" "$@"\n')
@@ -568,7 +568,7 @@ def test_the_order_of_settings_is_the_same_question(tmp_path: Path, counting: Pa
 
 
 def test_a_refused_command_ends_a_sweep(tmp_path: Path, program: str) -> None:
-    """Of 8 experiments those of delay 7 have a command for a pipe that isn't there: no table, unless it is allowed."""
+    """Of 8 experiments, those with delay 7 have a command for a missing pipe: there is no table, unless that is allowed."""
     file = template(tmp_path, ONE.replace("@1000000000 end", "{% if delay == 7 %}@5 pipe delete 9\n{% endif %}@1000000000 end"))
     words = [file, "--set", "delay=5,7", "--seeds", "1-4", "--of", "train 1", "--stat", "lost", "--csv", "-"]
     for _ in range(2):
@@ -595,7 +595,7 @@ BOMBS = [
 
 @pytest.mark.parametrize("text, cause", BOMBS, ids=range(len(BOMBS)))
 def test_limits_of_a_template(text: str, cause: str, tmp_path: Path, program: str) -> None:
-    """What would take all memory, or read another's file, is a fault with its line, or says its limit."""
+    """A template that would use up memory, or read other files, is a fault with its line or the limit."""
     (tmp_path / "secret").write_text("secret\n")
     folder = tmp_path / "own"
     folder.mkdir()
@@ -606,7 +606,7 @@ def test_limits_of_a_template(text: str, cause: str, tmp_path: Path, program: st
 
 
 def test_a_template_without_end(monkeypatch: pytest.MonkeyPatch) -> None:
-    """Its process is ended after some time; the sweep goes on to say so."""
+    """Its process is ended after some time, and the sweep reports that."""
     monkeypatch.setattr("dnlab.sweeps.making.MOST_SECONDS", 1.0)
     text = "{% for i in range(10**6) %}{% for j in range(10**6) %}{% endfor %}{% endfor %}\n" + ONE
     made = dnlab.sweep(text, delay=5)
@@ -616,7 +616,7 @@ def test_a_template_without_end(monkeypatch: pytest.MonkeyPatch) -> None:
 
 @pytest.mark.parametrize("value", ["10\n@0 add 1 deny ip from any to any", "5\x1b[2J"])
 def test_a_setting_is_of_one_line(value: str, tmp_path: Path, program: str) -> None:
-    """A value can't bring a command of its own into the text."""
+    """A value can't insert a command into the text."""
     status, out, err = tool("sweep", template(tmp_path), "--set", f"delay={value}", "--dry-run", DNLAB=program)
     assert status == 2 and not out and "one line" in err
     with pytest.raises(dnlab.InputError, match="one line"):
@@ -624,20 +624,20 @@ def test_a_setting_is_of_one_line(value: str, tmp_path: Path, program: str) -> N
 
 
 def test_texts_within_the_limits() -> None:
-    """Of 10^6 commands, and with powers and products as templates have them."""
+    """Texts can have 10^6 commands, and the usual powers and products."""
     text = "experiment {{ name }} seed {{ seed }} budget 9\n{{ traffic.every(1, 10**5, 'show') }}{{ traffic }}\n@{{ 2**40 * 3 + 10**6 }} end\n"
     made = Template(text).made("x", 1, {})
     assert made.count("show") == 10**5 and made.endswith("@3298535883328 end\n".replace("3298535883328", str(2**40 * 3 + 10**6)))
 
 
 def test_numbers_that_are_only_taken_from(tmp_path: Path) -> None:
-    """A range of any length serves to draw from: the last of 10^15 is below it."""
+    """Random values can come from a range of any length: the last number of 10^15 is below it."""
     assert Template("\n{{ range(10**15) | length }} {{ range(10**15)[7] }} {{ 5 in range(9) }}\n").made("x", 1, {}) == (
         "\n1000000000000000 7 True\n")
 
 
 def test_reports_and_sweeps_are_pickled(program: str) -> None:
-    """A report keeps its bytes, a sweep what it asks and has found; the second is run in the other process."""
+    """A report keeps its bytes, and a sweep its statistics and results. The second sweep runs in the other process."""
     made = dnlab.sweep(ONE, delay=[5], seed=range(1, 4), of="train 1", stat="bytes", dnlab=program)
     again = pickle.loads(pickle.dumps(made))
     assert again.rows()["bytes"].tolist() == made.rows()["bytes"].tolist() == [size_of(made.text(case)) for case in made.cases]
@@ -648,7 +648,7 @@ def test_reports_and_sweeps_are_pickled(program: str) -> None:
 
 
 def test_by_dask(tmp_path: Path, program: str, monkeypatch: pytest.MonkeyPatch) -> None:
-    """A scheduler and two workers on this machine: the same table; a scheduler that isn't there is said."""
+    """A scheduler and two workers on this machine make the same table. A missing scheduler is reported."""
     distributed = pytest.importorskip("distributed", reason="distributed is missing (Debian: python3-distributed)")
     monkeypatch.setenv("PYTHONPATH", str(ROOT / "python"))
     file = template(tmp_path)
@@ -663,7 +663,7 @@ def test_by_dask(tmp_path: Path, program: str, monkeypatch: pytest.MonkeyPatch) 
 
 @pytest.mark.skipif(importlib.util.find_spec("tqdm") is None, reason="tqdm is missing (Debian: python3-tqdm)")
 def test_how_far_it_is(capsys: pytest.CaptureFixture[str]) -> None:
-    """After 100 s 30 of 120 are done besides 20 that were kept, so the 70 others take 233 s."""
+    """After 100 s, 30 of 120 are done and 20 were cached, so the other 70 take 233 s."""
     progress = Progress("sweep", 120, 20)
     progress.step(30)
     assert progress.told(progress.begin + 100) == "sweep: 50 of 120 experiments, ETA 03:53"
@@ -678,7 +678,7 @@ def test_how_far_it_is(capsys: pytest.CaptureFixture[str]) -> None:
 
 @pytest.mark.skipif(importlib.util.find_spec("tqdm") is None, reason="tqdm is missing (Debian: python3-tqdm)")
 def test_how_far_it_is_on_a_terminal(monkeypatch: pytest.MonkeyPatch) -> None:
-    """A line with a bar is written anew in its place, and at the end nothing of it is left."""
+    """A line with a bar is rewritten in place, and at the end it is removed."""
     class Terminal(io.StringIO):
         def isatty(self) -> bool:
             return True
@@ -696,7 +696,7 @@ def test_how_far_it_is_on_a_terminal(monkeypatch: pytest.MonkeyPatch) -> None:
 
 
 def test_without_tqdm_nothing_is_said_of_how_far_it_is(tmp_path: Path, program: str) -> None:
-    """A Python that finds no tqdm: the table is there, and the line of what was run."""
+    """A Python without tqdm prints the table, and the line about the runs."""
     code = ("import sys; sys.modules['tqdm'] = None; from dnlab.__main__ import main; sys.exit(main(sys.argv[1:]))")
     done = subprocess.run([sys.executable, "-B", "-c", code, "sweep", str(template(tmp_path)), "--set", "delay=5,7", "--of", "train 1",
                            "--stat", "delay.p95"], capture_output=True, text=True, check=False,

@@ -1,4 +1,4 @@
-"""The pictures of a sweep, against tables written by hand: means, one statistic against another, and distributions."""
+"""The pictures of a sweep, compared with tables written by hand: means, one statistic against another, and distributions."""
 from pathlib import Path
 
 import pandas as pd
@@ -33,7 +33,7 @@ def lines(axes) -> list[list[tuple[float, float]]]:
 
 
 def test_means_of_numbers_and_words() -> None:
-    """Numbers are in order and joined; the word is apart, behind a thin line. Axes have the setting's words and units."""
+    """Numbers are in order and joined, and the word is separate, after a thin line. Axes have the setting's label and unit."""
     figure = curves.figure_of(table(), ["queue"], Look(labels=LABELS))
     delay, goodput = figure.axes
     assert (delay.get_ylabel(), goodput.get_ylabel()) == ("95th percentile of delay (ms)", "Goodput (Mbit/s)")
@@ -61,7 +61,7 @@ def test_long_times_are_in_seconds() -> None:
 
 
 def test_delay_against_goodput() -> None:
-    """One point for each setting with both intervals, beside it the setting's value; the delay is on the vertical axis."""
+    """There is one point for each setting, with both intervals and the setting's value. The delay is on the vertical axis."""
     figure = curves.figure_of(table(), ["queue"], Look(labels=LABELS, kind="tradeoff"))
     axes, = figure.axes
     assert (axes.get_xlabel(), axes.get_ylabel()) == ("Goodput, all flows (Mbit/s)", "95th percentile of delay, the call (ms)")
@@ -81,7 +81,7 @@ def test_delay_against_goodput() -> None:
 
 
 def each() -> pd.DataFrame:
-    """Values of five seeds, in ms: for 10 packets 1 to 5, for 50 packets 2, 2, 4, 8 and one that is unknown."""
+    """Returns values of five seeds, in ms: for 10 packets 1 to 5, for 50 packets 2, 2, 4, 8 and an unknown one."""
     rows = [{"queue": queue, "seed": seed, "sender": "flow 1", "stat": "fct", "unit": "ns", "value": value, "warnings": ""}
             for queue, values in ((10, (1, 2, 3, 4, 5)), (50, (8, 2, None, 2, 4))) for seed, value in enumerate(values)]
     found = pd.DataFrame(rows)
@@ -94,7 +94,7 @@ def means() -> pd.DataFrame:
 
 
 def test_distributions() -> None:
-    """A step of a fifth for each of five seeds, of a quarter for each of four."""
+    """There is a step of a fifth for each of five seeds, and of a quarter for each of four."""
     figure = curves.figure_of(means(), ["queue"], Look(kind="ecdf", labels=LABELS), each())
     axes, = figure.axes
     assert (axes.get_xlabel(), axes.get_ylabel(), axes.get_ylim()) == ("Flow completion time (ms)", "Fraction of seeds", (0, 1))
@@ -102,13 +102,13 @@ def test_distributions() -> None:
     assert ten == [(1, 0), (1, .2), (2, .4), (3, .6), (4, .8), (5, 1)] and fifty == [(2, 0), (2, .25), (2, .5), (4, .75), (8, 1)]
     legend = axes.get_legend()
     assert legend.get_title().get_text() == "Queue limit (packets)" and [text.get_text() for text in legend.get_texts()] == ["10", "50"]
-    # Beside the axes, so over no data.
+    # The legend is next to the axes, so that it hides no data.
     figure.canvas.draw()
     assert legend.get_window_extent().x0 >= axes.get_window_extent().x1
 
 
 def test_boxes() -> None:
-    """Of 1 to 5 the quartiles are 2, 3 and 4; of 2, 2, 4, 8 they are 2, 3 and 5."""
+    """The quartiles of 1 to 5 are 2, 3 and 4; those of 2, 2, 4, 8 are 2, 3 and 5."""
     axes, = curves.figure_of(means(), ["queue"], Look(kind="box", labels=LABELS), each()).axes
     heights = [sorted({float(y) for y in line.get_ydata()}) for line in axes.get_lines()]
     assert [2, 4] in heights and [2, 5] in heights and heights.count([3]) == 2
@@ -117,7 +117,7 @@ def test_boxes() -> None:
 
 
 def test_labels_of_settings() -> None:
-    """By the option that a setting is the value of, and the unit behind it; an expression has no label."""
+    """A label comes from the option whose value the setting is, and from the unit after it. An expression has no label."""
     text = "@0 pipe 1 config bw {{ rate }}Mbit/s delay {{delay}} queue {{ queue }} plr {{ loss }}\n@{{ up | s }} pipe 1 delete\n@{{ 2 * x }} end\n"
     assert names.of_template(text, ["rate", "delay", "queue", "loss", "up", "x"]) == {
         "rate": "Link rate (Mbit/s)", "delay": "Link delay (ms)", "queue": "Queue limit (packets)", "loss": "Packet loss ratio", "up": "Up (s)"}
@@ -128,7 +128,7 @@ def test_labels_of_settings() -> None:
     (["--font", "No Such Font"], "no such font"), (["--size", "16x9"], "WIDTHxHEIGHT"), (["--label", "x"], "expected NAME=TEXT"),
     (["--kind", "pie"], "invalid choice: 'pie'"), (["--legend", "below"], "invalid choice: 'below'")])
 def test_wrong_words(words: list[str], said: str, tmp_path: Path) -> None:
-    """They are refused before anything is run: there is no program."""
+    """Wrong arguments are refused before anything is run, because there is no program."""
     (tmp_path / "t.tmpl").write_text("experiment {{ name }} seed {{ seed }} budget 1\n@0 pipe 1 config queue {{ queue }}\n@1 end\n")
     status, out, err = tool("sweep", tmp_path / "t.tmpl", "--set", "queue=1,2", "--of", "all", "--stat", "lost", "--plot", tmp_path / "x.svg",
                             *words, DNLAB="")

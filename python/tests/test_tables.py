@@ -1,4 +1,4 @@
-"""Rows of a summary, windows, losses, groups and notes, beside values worked out by hand."""
+"""Rows of a summary, windows, losses, groups and notes, compared with values calculated by hand."""
 import math
 
 import pytest
@@ -25,8 +25,8 @@ def rows_of(view: View, percentiles=(50, 99)):
 
 def test_codel_one_drop() -> None:
     rows = rows_of(view_of("codel_one_drop"), (50, 95, 99))
-    # Packet k of those that are served ends at 8 ms * k + 1 ns, k from 1 to 29: the 15th is the median, the 28th the
-    # least that 95 of 100 don't exceed (27.55 of 29).
+    # The k-th packet that is served ends at 8 ms * k + 1 ns, k from 1 to 29: the 15th is the median, the 28th the
+    # minimum that 95 % don't exceed (27.55 of 29).
     train = rows["train 1"]
     assert list(rows) == ["train 1", "pipe 1.0", "all"]
     assert [train[name] for name in times_of((50, 95, 99))] == [8000001, 120000001, 224000001, 232000001, 232000001]
@@ -45,12 +45,12 @@ def test_without_the_scenario() -> None:
 def test_traced_burst() -> None:
     rows = rows_of(View(next(report.read(text_of("traced_burst", "expected.txt")))))
     assert (rows["pipe 1.0"]["full"], rows["pipe 1.0"]["lost"]) == (1, 0)
-    # 8 ms in service, the second behind the first; then 1 ns in the delay line.
+    # 8 ms in service, the second packet after the first; then 1 ns in the delay line.
     assert (rows["pipe 1.0"]["min"], rows["pipe 1.0"]["max"]) == (8 * 10**6 + 1, 16 * 10**6 + 1)
 
 
 def test_a_flow() -> None:
-    """reno_four_segments, worked out line by line: four segments of 1460 bytes, the last at 32.4 ms."""
+    """reno_four_segments, calculated line by line: four segments of 1460 bytes, the last at 32.4 ms."""
     rows = rows_of(view_of("reno_four_segments"))
     flow = rows["flow 1"]
     assert (flow["useful"], flow["goodput"]) == (5840, 5840 * 8 * 10**9 // 32400000)
@@ -63,7 +63,7 @@ def test_a_flow() -> None:
 
 
 def test_sent_again() -> None:
-    """reno_timeouts: three segments and two timeouts, all lost; nothing came."""
+    """reno_timeouts: three segments and two timeouts, all lost; nothing arrived."""
     flow = rows_of(view_of("reno_timeouts"))["flow 1"]
     assert (flow["packets"], flow["retransmissions"], flow["useful"], flow["goodput"], flow["fct"]) == (5, 2, 0, None, None)
 
@@ -74,8 +74,8 @@ BOTH = b"""experiment both seed 7 budget 20 steps 100
 @0 flow 1 10.0.0.1 1 10.0.0.2 2 smss 960 segments 2
 @1000000000 end
 """
-# By hand: a segment of 1000 bytes takes 1 ms, an acknowledgement of 40 bytes 40 us, one behind the other; each leaves
-# 1 ns behind its service. The first acknowledgement waits for the second segment.
+# By hand: a segment of 1000 bytes takes 1 ms, an acknowledgement of 40 bytes 40 us, one after the other; each leaves
+# 1 ns after its service. The first acknowledgement waits for the second segment.
 BOTH_REPORT = b"""experiment both
 0 ok 0
 0 ok 1
@@ -115,7 +115,7 @@ IDLE = b"""experiment idle seed 0 budget 9
 @0 flow 2 10.0.0.3 1000 10.0.0.2 80 smss 960 segments 1
 @900000000 end
 """
-# No rule lets the segment of flow 2 pass, and before the timer's second the experiment has ended.
+# No rule lets the segment of flow 2 pass, and the experiment ends before the timer's second is over.
 IDLE_REPORT = b"""experiment idle
 0 ok 0
 0 ok 1
@@ -133,7 +133,7 @@ counters 3 2 0 1 0 0 0 0 0 0 0
 
 
 def test_a_flow_that_gets_nothing_counts_in_jain(alone) -> None:
-    """One of two flows has all: (x + 0)^2 / (2 * (x^2 + 0^2)) is a half."""
+    """One of two flows has everything: (x + 0)^2 / (2 * (x^2 + 0^2)) is a half."""
     assert alone(IDLE) == IDLE_REPORT
     rows = rows_of(View(next(report.read(IDLE_REPORT)), scenario.read(IDLE)["idle"]))
     assert (rows["flow 1"]["goodput"], rows["flow 2"]["goodput"]) == (960 * 8 * 10**9 // 11000000, None)
@@ -144,7 +144,7 @@ def test_a_flow_that_gets_nothing_counts_in_jain(alone) -> None:
 def test_windows() -> None:
     view = View(next(report.read(BOTH_REPORT)), scenario.read(BOTH)["both"])
     rows = [row for row in windows(view, 2000001) if row["sender"] == "flow 1"]
-    # The window ends before its last moment: the second segment comes in the second window.
+    # The end of a window is not in it: the second segment arrives in the second window.
     assert [(row["begin"], row["end"], row["packets"], row["bytes"], row["useful"]) for row in rows[:3]] == [
         (0, 2000001, 1, 1000, 960), (2000001, 4000002, 1, 1000, 960), (4000002, 6000003, 0, 0, 0)]
     assert (rows[0]["rate"], rows[0]["goodput"]) == (1000 * 8 * 10**9 // 2000001, 960 * 8 * 10**9 // 2000001)
@@ -177,7 +177,7 @@ def test_what_is_silently_wrong(alone) -> None:
     kinds = {note.kind: note.text for note in view.notes}
     assert "flow 1 acks" in kinds["no way back"]
     assert "train 2: 1 of 1 packets were denied" in kinds["denied"]
-    # Of four segments that the first window allows two go over the budget.
+    # Two of the four segments that the first window allows exceed the budget.
     assert "flow 1: 2 of 4 packets" in kinds["budget"]
     assert "at 15000000 ns, before its end at 20000000 ns" in kinds["spent"]
     rows = rows_of(view)
@@ -208,16 +208,16 @@ def test_fairness() -> None:
 
 
 def test_intervals() -> None:
-    # From tables of Student's t (97.5 %).
+    # From a table of Student's t (97.5 %).
     wanted = {1: 12.706, 2: 4.303, 3: 3.182, 4: 2.776, 10: 2.228, 29: 2.045, 30: 2.042, 120: 1.980}
-    # Values of which half is -1 and half 1, or one is 0: t is half the width over their standard error.
+    # Half of the values are -1 and half are 1, or one is 0: t is half the width over their standard error.
     for freedom, t in wanted.items():
         values = [float(place % 2) for place in range(freedom + 1)]
         mean = sum(values) / len(values)
         error = (sum((value - mean) ** 2 for value in values) / freedom / len(values)) ** 0.5
         assert round(half_of(values) / error, 3) == t
     found = interval([2.0, 4.0, 4.0, 6.0])
-    # Mean 4, squares 4 + 0 + 0 + 4, so the spread is sqrt(8 / 3), over sqrt(4).
+    # Mean 4, squares 4 + 0 + 0 + 4, so the deviation is sqrt(8 / 3), over sqrt(4).
     assert found.count == 4 and found.mean == 4.0
     assert math.isclose(found.half, 3.182446 * math.sqrt(8 / 3) / 2, rel_tol=1e-6)
     assert interval([7.0]) == Interval(1, 7.0, None) and interval([]) == Interval(0, None, None)
@@ -242,7 +242,7 @@ def test_what_varies() -> None:
 
 
 def test_what_varies_counts_defaults_and_not_words() -> None:
-    """A queue of 50 slots is the default, and 1000Kbit/s are 1Mbit/s: only values that differ are listed."""
+    """A queue of 50 slots is the default, and 1000Kbit/s is 1Mbit/s: only values that differ are listed."""
     text = "".join(f"experiment {name} seed 1 budget 9\n@0 pipe 1 config {words}\n@9 end\n" for name, words in
                    (("a", "bw 1Mbit/s"), ("b", "bw 1000Kbit/s queue 50"), ("c", "bw 1Mbit/s queue 9")))
     assert varied(scenario.read(text.encode())) == {"a": "pipe 1 queue 50", "b": "pipe 1 queue 50", "c": "pipe 1 queue 9"}
@@ -257,7 +257,7 @@ def test_what_varies_counts_defaults_and_not_words() -> None:
 
 @pytest.mark.parametrize("name", ["masked_instances", "deleted_everywhere", "one_packet_held"])
 def test_rows_add_up(name: str) -> None:
-    """What senders made, and where it ended, is what the counters say."""
+    """The packets of the senders, and their fates, add up to the counters."""
     for experiment in report.read(EXAMPLES / name / "expected.txt"):
         view = View(experiment, scenario.read(text_of(name, "scenario.txt"))[experiment.name])
         rows = Tables(view).rows()

@@ -1,4 +1,4 @@
-"""Sources of traffic in templates: what is merged, and means by the formulas of their distributions."""
+"""Sources of traffic in templates: the merged commands, and means from the formulas of their distributions."""
 import math
 import statistics
 from itertools import pairwise
@@ -31,7 +31,7 @@ def moments(one: Traffic) -> list[int]:
 
 
 def test_sources_are_merged(alone: Callable[[bytes], bytes]) -> None:
-    """By hand: at 20, 50 and 80 ms; behind it at 50 ms two commands, in their order; and one before all."""
+    """By hand: packets at 20, 50 and 80 ms; two commands after the one at 50 ms, in their order; and one before all."""
     text = Template(TEMPLATE).made("a", 1, {})
     commands = read(text.encode())["a"].commands
     assert [(one.moment // 10**6, one.text.split()[-1]) for one in commands[2:-1]] == [
@@ -41,7 +41,7 @@ def test_sources_are_merged(alone: Callable[[bytes], bytes]) -> None:
 
 
 def test_poisson() -> None:
-    """The mean of n gaps is within five of its standard errors, mean / sqrt(n)."""
+    """The mean of n gaps is within five standard errors, which are mean / sqrt(n)."""
     one = Traffic(Chance(1))
     one.poisson(10**6, 10 * SECOND, "show")
     gaps = [after - before for before, after in pairwise(moments(one))]
@@ -50,7 +50,7 @@ def test_poisson() -> None:
 
 @pytest.mark.parametrize("shape", [None, 3])
 def test_on_off(shape: "int | None") -> None:
-    """On for 1 s and off for 3 s on average: a quarter of the packets of a source that is always on, 100 a second."""
+    """On for 1 s and off for 3 s on average: a quarter of the packets of a source that is always on, with 100 packets per second."""
     one = Traffic(Chance(2))
     one.on_off(SECOND, 3 * SECOND, 10**7, 4000 * SECOND, "show", shape=shape)
     assert abs(len(moments(one)) / 400000 - 0.25) < 0.03
@@ -59,7 +59,7 @@ def test_on_off(shape: "int | None") -> None:
 
 
 def test_flows() -> None:
-    """A Pareto of shape 2 and least 10 has the median 10 * sqrt(2), 14.1."""
+    """A Pareto distribution with shape 2 and minimum 10 has the median 10 * sqrt(2), 14.1."""
     one = Traffic(Chance(3))
     one.flows(10**7, 20 * SECOND, "flow {flow} 10.0.0.1 {flow} 10.0.1.1 80 smss 1460 segments {segments}", first=5, shape=2, least=10, most=900)
     rows = [line.split() for line in one.lines()]
@@ -69,7 +69,7 @@ def test_flows() -> None:
 
 
 def test_web() -> None:
-    """20 users who look at a page for 5 s each ask some 20 * 100 / 5 times in 100 s."""
+    """20 users who look at each page for 5 s make about 20 * 100 / 5 requests in 100 s."""
     one = Traffic(Chance(4))
     one.web(20, 5 * SECOND, 100 * SECOND, "flow {flow} 10.0.1.1 80 10.0.0.{user} {flow} smss 1460 segments {segments}")
     rows = [line.split() for line in one.lines()]
@@ -94,6 +94,6 @@ def test_it_hangs_on_the_seed_alone() -> None:
     ('traffic.on_off(0, 1, 1, 9, "show")', "above 0"), ('traffic.on_off(1, 1, 1, 9, "show", shape=1)', "above 1"),
     ('traffic.every(1, 10000000, "show")', "more than")])
 def test_wrong_sources(source: str, wanted: str) -> None:
-    """Told with the template's line."""
+    """The message has the template's line."""
     with pytest.raises(InputError, match=f"line 2.*{wanted}"):
         Template("experiment a seed 0 budget 1\n{{ " + source + " }}\n@0 end\n").made("a", 0, {})

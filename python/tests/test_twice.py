@@ -1,4 +1,4 @@
-"""Goodput: bytes of a segment that comes twice count once (drawn_03, drawn_07 and random_08 have such segments)."""
+"""Goodput: bytes of a segment that arrives twice count once (drawn_03, drawn_07 and random_08 have such segments)."""
 import re
 
 from conftest import text_of
@@ -21,6 +21,6 @@ def test_bytes_that_come_twice_count_once() -> None:
             for flow, firsts in came.items():
                 row, once = rows[f"flow {flow}"], len(set(firsts))
                 twice += len(firsts) - once
-                # A data packet has its segment's bytes and 40 of headers.
+                # A data packet has its segment's bytes and 40 bytes of headers.
                 assert row["useful"] == once * (row["bytes"] // len(firsts) - 40)
     assert twice >= 7

@@ -1,5 +1,5 @@
-"""The page of `view` in headless Chromium: what is drawn is read back, from the dots and lines of its SVG, and compared
-with values worked out by hand, with lines of the report and with `summary`."""
+"""The page of `view` in headless Chromium: the dots and lines of its SVG are read back, and compared with values calculated
+by hand, with lines of the report and with `summary`."""
 import csv
 import html
 import io
@@ -23,8 +23,8 @@ BROWSER = shutil.which("chromium") or ""
 browsing = pytest.mark.skipif(not BROWSER, reason="Chromium is missing (Debian: chromium)")
 RENO = EXAMPLES / "reno_four_segments"
 
-# Waits until a page is drawn, does `ACTS`, and writes what stands in the panels into the page: of each trace its dots
-# and the corners of its line in the units of the axes, and the words of what one points at.
+# Waits until a page is drawn, does `ACTS`, and writes the contents of the panels into the page: the dots and the corners of
+# the line of each trace in the units of the axes, and the text at the pointer.
 READ = """<pre id="readback"></pre><script>
 const value = (axes, x, y) => [axes.xaxis.p2l(x), axes.yaxis.p2l(y)];
 function cornersOf(axes, path) {
@@ -62,12 +62,12 @@ async function read() {
 read();
 </script></body>"""
 
-# Has acknowledgements drawn too.
+# Draws acknowledgements too.
 ACKS = "const acks = document.getElementById('acks'); acks.click(); await new Promise((next) => setTimeout(next, 1000));"
 
 
 def browse(page: Path, *more: str, address: str = "") -> str:
-    """What is in a page once it is read, as Chromium has it."""
+    """Returns the content of a page in Chromium after it is loaded."""
     done = subprocess.run([BROWSER, "--headless", "--no-sandbox", "--disable-gpu", "--hide-scrollbars", "--window-size=1000,1800",
                            f"--user-data-dir={page.parent / 'profile'}", "--virtual-time-budget=20000", *more,
                            f"file://{page}{address}"], capture_output=True, text=True, timeout=120, check=True)
@@ -75,7 +75,7 @@ def browse(page: Path, *more: str, address: str = "") -> str:
 
 
 def read_back(page: Path, acts: str = "", address: str = "") -> dict[str, Any]:
-    """What stands in a page, behind some acts."""
+    """Returns the content of a page after some actions."""
     beside = page.with_name("read.html")
     beside.write_text(page.read_text().replace("</body>", READ.replace("ACTS", acts)))
     found = re.search(r'<pre id="readback">(.+?)</pre>', browse(beside, "--dump-dom", address=address), re.DOTALL)
@@ -92,13 +92,13 @@ def page_of(folder: Path, report: Path, scenario: Path, *words: str) -> Path:
 
 
 def near(found: Any, wanted: Any, scale: tuple[float, ...]) -> bool:
-    """Whether points (or values) stand where they must, to a thousandth of their axes."""
+    """Returns true if points (or values) are where they must be, to a thousandth of their axes."""
     return np.shape(found) == np.shape(wanted) and bool((np.abs(np.subtract(found, wanted)) < np.array(scale) / 1000).all())
 
 
 @browsing
 def test_what_is_drawn_by_hand(tmp_path: Path) -> None:
-    """Three segments at once, served in 1.2 ms each, 10 ms of delay each way; the fourth by the first acknowledgement."""
+    """Three segments at once, served in 1.2 ms each, 10 ms of delay in each direction; the first acknowledgement sends the fourth."""
     page = page_of(tmp_path, RENO / "expected.txt", RENO / "scenario.txt")
     found = read_back(page, 'Plotly.Fx.hover("panel-sequence", [{curveNumber: 0, pointNumber: 3}]);'
                             'told.hover = document.querySelector("#panel-sequence .hoverlayer").textContent;'
@@ -109,12 +109,12 @@ def test_what_is_drawn_by_hand(tmp_path: Path) -> None:
     line = sequence["flow 1: acknowledged"]["line"]
     assert near(line[:5], [(21.2, 1460), (22.4, 1460), (22.4, 2920), (23.6, 2920), (23.6, 4380)], scale)
     assert near(found["panels"]["delay"]["flow 1"]["points"], [(11.2, 11.2), (12.4, 12.4), (13.6, 13.6), (32.4, 11.2)], (42.4, 14))
-    # One of the three is in service, and two wait.
+    # One of the three packets is in service, and two wait.
     queue = found["panels"]["queue"]["pipe 1"]["line"]
     assert near(queue[:5], [(0, 2), (1.2, 2), (1.2, 1), (2.4, 1), (2.4, 0)], (42.4, 4))
     flight = found["panels"]["queue"]["in flight"]["line"]
     assert near(flight[-3:], [(32.4, 1), (42.4, 1), (42.4, 0)], (42.4, 4))
-    # Windows, from the lines of the report: M ack F CWND SSTHRESH, and 4380 bytes at the begin.
+    # Windows, from the lines of the report: TIME ack F CWND SSTHRESH, and 4380 bytes at the start.
     lines = [words.split() for words in (RENO / "expected.txt").read_text().split("\n") if " ack 1 " in words and "deliver" not in words]
     steps = [(0, 4380)] + [(int(words[0]) / 1e6, int(words[3])) for words in lines]
     corners = found["panels"]["window"]["cwnd 1"]["line"]
@@ -126,14 +126,14 @@ def test_what_is_drawn_by_hand(tmp_path: Path) -> None:
 
 
 def drops_of(report: str) -> list[tuple[float, int]]:
-    """Moments and bytes of dropped segments of flow 1, by the report's lines."""
+    """Returns the times and bytes of dropped segments of flow 1, from the report's lines."""
     return [(int(words[0]) / 1e6, int(words[5])) for words in map(str.split, report.split("\n"))
             if words[1:2] == ["drop"] and words[3:5] == ["data", "1"]]
 
 
 @browsing
 def test_losses_and_rates(tmp_path: Path) -> None:
-    """Beside the report's lines, and beside `summary --every`."""
+    """Compares the page with the report's lines and with `summary --every`."""
     folder = COOKBOOK / "two_flows"
     page = page_of(tmp_path, folder / "report.txt", folder / "scenario.txt")
     found = read_back(page, ACKS)
@@ -141,7 +141,7 @@ def test_losses_and_rates(tmp_path: Path) -> None:
     sequence = found["panels"]["sequence"]
     dropped = drops_of(text)
     assert dropped and near(sequence["flow 1: dropped"]["points"], dropped, (508, 40000))
-    # What was lost is sent again by the third acknowledgement that says nothing new, the fourth of its number.
+    # The third duplicate acknowledgement, the fourth with its number, sends the lost segment again.
     same = [int(words[0]) / 1e6 for words in map(str.split, text.split("\n")) if words[1:2] == ["deliver"]
             and words[3:] == ["ack", "1", str(dropped[0][1])]]
     assert near(sequence["flow 1: sent again"]["points"], [(same[3], dropped[0][1])], (508, 40000))
@@ -156,7 +156,7 @@ def test_losses_and_rates(tmp_path: Path) -> None:
             over = [y for (x, y), (after, _) in zip(line, line[1:]) if x < middle < after]
             assert middle > line[-1][0] or np.allclose(over, [rate], atol=0.004), (name, k)
         assert sum(wanted) > 0
-    # Acknowledgements are drawn on request alone.
+    # Acknowledgements are only drawn on request.
     plain = read_back(page)["panels"]
     for panel in "delay", "rate":
         assert [one for one in found["panels"][panel] if not one.endswith(" acks")] == [*plain[panel]]
@@ -166,7 +166,7 @@ def test_losses_and_rates(tmp_path: Path) -> None:
 @browsing
 @pytest.mark.parametrize("folder", sorted(path.parent for path in COOKBOOK.glob("*/scenario.txt")), ids=lambda path: str(path.name))
 def test_a_picture_of_each_of_the_cookbook(folder: Path, tmp_path: Path) -> None:
-    """Each is drawn, with a picture; the curves of a panel differ without colour too; packets are as many as counted."""
+    """Each has a picture, the curves of a panel can be distinguished without colour, and the number of packets is that of the counters."""
     page = page_of(tmp_path, folder / "report.txt", folder / "scenario.txt")
     browse(page, f"--screenshot={tmp_path / 'page.png'}")
     picture = (tmp_path / "page.png").read_bytes()
@@ -189,7 +189,7 @@ def test_keys_chooser_and_a_phone(tmp_path: Path) -> None:
     range_of = "await new Promise((next) => setTimeout(next, 500)); told.%s = document.getElementById('range').textContent;"
     found = read_back(page, "".join(key % one + range_of % name for one, name in
                                     (("+", "near"), ("ArrowLeft", "left"), ("ArrowRight", "right"), ("-", "far"), ("0", "all"))))
-    # 0 to 1238 ms, half of it about the middle, then half of that to the left and back.
+    # 0 to 1238 ms, then the middle half of it, then half of that to the left and back.
     assert [found[name].removeprefix("in sight: ") for name in ("near", "left", "right", "far", "all")] == [
         "309.5 ms to 928.5 ms", "0 ms to 619 ms", "309.5 ms to 928.5 ms", "0 ms to 1238 ms", "0 ms to 1238 ms"]
     choose = "const menu = document.getElementById('experiment'); menu.value = 1; menu.dispatchEvent(new Event('change'));" \
@@ -198,7 +198,7 @@ def test_keys_chooser_and_a_phone(tmp_path: Path) -> None:
     found = read_back(page, choose)
     assert found["name"] == "codel" and "codel target" in found["about"] and found["tabs"] == [0] * 11
     assert near(found["panels"]["sequence"]["flow 1: dropped"]["points"], drops_of((folder / "report.txt").read_text()), (1250, 30000))
-    # In a frame as wide as a phone nothing is wider than it.
+    # In a frame with the width of a phone nothing is wider than the frame.
     inner = page.read_text().replace("</body>", "<script>setTimeout(() => parent.postMessage(`${innerWidth} "
                                      "${document.documentElement.scrollWidth} ${document.body.dataset.drawn}`, '*'), 3000)</script></body>")
     (tmp_path / "inner.html").write_text(inner)
@@ -207,8 +207,8 @@ def test_keys_chooser_and_a_phone(tmp_path: Path) -> None:
     assert "<title>360 360 deep</title>" in browse(tmp_path / "phone.html", "--dump-dom")
 
 
-# 20000 packets of a train every 10 us, at a rate that serves one each 8 us; but 30 packets of 1500 bytes, 120 us each,
-# every 200 us from 99.505 ms on, so that for 6 ms more comes than is served.
+# A train of 20000 packets every 10 us, at a rate that serves one every 8 us; and 30 packets of 1500 bytes, 120 us each,
+# every 200 us from 99.505 ms on, so that for 6 ms more packets arrive than are served.
 LONG = """experiment long seed 0 budget 1000
 @0 pipe 1 config bw 100Mbit/s delay 1 queue 1000
 @0 add 100 pipe 1 ip from any to any
@@ -219,7 +219,7 @@ LONG = """experiment long seed 0 budget 1000
 
 
 def longest() -> float:
-    """The greatest delay of the first train, in ms: each packet waits until what came before is served."""
+    """Returns the maximum delay of the first train (ms): each packet waits until all earlier ones are served."""
     came = sorted([(10000 * k, 8000) for k in range(20000)] + [(99505000 + 200000 * k, 120000) for k in range(30)])
     free, most = 0, 0
     for moment, service in came:
@@ -230,7 +230,7 @@ def longest() -> float:
 
 @browsing
 def test_what_is_thinned(alone: Alone, tmp_path: Path) -> None:
-    """Of the whole the greatest delay is drawn, and of a short span each packet."""
+    """The maximum delay is drawn in the whole picture, and each packet in a short span."""
     (tmp_path / "s").write_text(LONG)
     (tmp_path / "r").write_bytes(alone(LONG.encode()))
     page = page_of(tmp_path, tmp_path / "r", tmp_path / "s")
@@ -245,7 +245,7 @@ def test_what_is_thinned(alone: Alone, tmp_path: Path) -> None:
 
 
 def test_columns_are_packed() -> None:
-    """The narrowest type that has all values, by differences where they are narrower; each at a multiple of eight."""
+    """A column has the narrowest type for all values, or for their differences if that is narrower, and starts at a multiple of eight."""
     blocks = Blocks()
     for values in ([5, -1, 127], [128], [10**15, 10**15 + 100, 10**15 + 227], [-2**31, 2**31 - 1], [0.5, 1.0], []):
         blocks.add(np.array(values))
@@ -286,7 +286,7 @@ def test_single_and_without_the_scenario(tmp_path: Path) -> None:
 
 
 def test_journeys_without_pipes() -> None:
-    """An experiment whose packets came to no pipe has no visit."""
+    """An experiment whose packets reached no pipe has no visits."""
     view = view_of("one_packet")
     head = drawn(view).head
     assert head["table"]["starts"] >= 0 and head["until"] >= 1 and len(head["panels"]) == 5

@@ -1,4 +1,4 @@
-"""A hosts file that is right, and 240 that are wrong: each with the line of its fault and words of the message."""
+"""A correct hosts file, and 240 wrong ones, each with the line of its fault and words of the message."""
 BASE = """general: {stop_time: 15s, seed: 7}
 network: |
   @0 pipe 1 config bw 10Mbit/s delay 20
@@ -36,7 +36,7 @@ files:
     listen 80
 """
 LINES = BASE.split("\n")
-# The line of BASE that is replaced, its replacement, the line of the fault, and words of the message.
+# The line of BASE to replace, its replacement, the line of the fault, and words of the message.
 YAML = [
     (1, "general: {stop_time: 15s", 2, "begun on line 1"),
     (1, "general: {stop_time: 15s, seed: 7}}", 1, "}"),

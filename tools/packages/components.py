@@ -1,4 +1,4 @@
-"""What is linked into the program and the library besides this repository's crates, with licences and checksums."""
+"""Lists the third-party parts of the program and the library, with licences and checksums."""
 import hashlib
 import pathlib
 import sys
