@@ -1,4 +1,5 @@
 """Describes a run to the kernel and to the first program, runs it, and reads what it leaves."""
+import contextlib
 import dataclasses
 import os
 import pathlib
@@ -157,6 +158,21 @@ def run(
         time.monotonic() - begin,
         cpu_time,
     )
+
+
+def left_in(folder: pathlib.Path, patience: float = 10) -> list[int]:
+    """Returns the processes that still work in a folder or below it, after waiting for them to end (s)."""
+    until = time.monotonic() + patience
+    while True:
+        left = []
+        for process in pathlib.Path("/proc").glob("[0-9]*"):
+            # A process that has just ended, or is not ours, has no such link.
+            with contextlib.suppress(OSError):
+                if (process / "cwd").readlink().is_relative_to(folder.resolve()):
+                    left.append(int(process.name))
+        if not left or time.monotonic() > until:
+            return left
+        time.sleep(0.1)
 
 
 def capture(path: pathlib.Path) -> list[tuple[int, bytes]]:

@@ -174,8 +174,4 @@ class KernelCases(Room):
             guest.run(self.kernel, self.folder / "killed", hosts, [], end=10**18, limit=1.5)
         except subprocess.TimeoutExpired:
             pass
-        time.sleep(0.3)
-        left = subprocess.run(
-            ["pgrep", "-f", f"^{self.kernel}/linux"], capture_output=True, text=True, check=False
-        )
-        assert not left.stdout, left.stdout
+        assert not guest.left_in(self.folder / "killed")

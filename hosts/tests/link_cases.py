@@ -189,5 +189,5 @@ class LinkCases(Room):
             time.sleep(1)
             link.send_signal(signal.SIGINT)
             assert link.wait(2) == 130
-        assert not subprocess.run(["pgrep", "-f", "sleep 7654.3"], capture_output=True, check=False).stdout
+        assert not guest.left_in(folder, 2)
         assert (folder / "transcript.txt").read_text().splitlines()[-1].endswith(" end")
