@@ -12,15 +12,16 @@ if TYPE_CHECKING:
     from dnlab.analysis.view import View
 
 EXAMPLE = """The page has, over one axis of time: the bytes of a flow (sent, sent again,
-acknowledged, dropped), windows, the packets at each pipe, delays, and rates
-with those of the pipes. In the page you choose the experiment, a second one
-beside it, a flow, which changes every panel, windows in bytes or segments, and
-whether acknowledgements are drawn.
+acknowledged, dropped), windows, the packets at each pipe, delays, and the
+throughput next to the rates of the pipes. In the page you choose the
+experiment, a second one beside it, a flow, which changes every panel, windows
+in bytes or segments, and whether acknowledgements are drawn.
 Zoom by dragging, by its buttons or by the keys + - left right 0; a double click
-shows all. Pointing at a packet shows its journey, a click keeps it; so does its
-serial number in the field `packet`. What has more points than the page has dots
-is thinned to what is in sight, so no peak is lost. page.html#NAME,FROM,TO (ns)
-opens at an experiment and a span, #NAME,FROM,TO,OTHER at two.
+shows all. Pointing at a packet shows its journey; a click on it, or its serial
+number in the field `packet`, keeps the journey on the page. A series with too
+many points is thinned for the span in sight, and keeps the peaks of that span.
+page.html#NAME,FROM,TO (ns) opens at an experiment and a span,
+#NAME,FROM,TO,OTHER at two.
 
 plotly's script stands as dnlab-plotly.js beside the page, once for all pages of
 a folder; with --single it is within. Without the scenario (or `trace 1`) the
@@ -34,7 +35,7 @@ Example:
 
 Exit status: 0 written, 2 wrong usage or a faulty input, 3 a file that can't be
 written, or a package that is missing."""
-# A page holds all its experiments; with more packets than this a browser takes long to open it.
+# A page holds all its experiments; with more of them a browser takes long to open it.
 _MOST_EXPERIMENTS = 256
 
 
@@ -49,7 +50,7 @@ def words(given: Sequence[str]) -> argparse.Namespace:
 
 
 def draw_one(view: "View") -> "tuple[object, list[Note]]":
-    """What a page has of one experiment, for another process."""
+    """Returns what the page shows of an experiment, and its notes. Other processes import this function by its name."""
     from dnlab.plot.page import drawn
 
     found = drawn(view)
@@ -58,7 +59,7 @@ def draw_one(view: "View") -> "tuple[object, list[Note]]":
 
 def main(words_given: Sequence[str]) -> int:
     given = words(words_given)
-    # Here, since the help takes no numpy.
+    # Imported here, because the help must work without plotly and numpy.
     from plotly.offline import get_plotlyjs
 
     from dnlab.analysis.summing import tell, whole

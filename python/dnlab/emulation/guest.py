@@ -1,4 +1,4 @@
-"""Starts the guest (by the wall clock: the link process), and ends it at a limit or a signal."""
+"""Starts the guest, or the link process if the clock is `wall`, and ends it at a limit or a signal."""
 import os
 import resource
 import select
@@ -40,7 +40,7 @@ def run_simulated(experiment: Experiment, kernel: Kernel, out: Path, limit_s: in
 
 
 def run_by_wall_clock(kernel: Kernel, out: Path, limit_s: int, terminal: Optional[Terminal] = None) -> Ran:
-    """Runs the link process and the programs on this machine; as an ordinary user in a user namespace.
+    """Runs the link process and the programs on this machine; if an ordinary user runs it, in a user namespace.
 
     A shell among the programs has a terminal."""
     if not os.access(_TUN, os.R_OK | os.W_OK):
@@ -150,7 +150,7 @@ def _cpu() -> Iterator[int]:
 
 
 def _claimed(cpu: int) -> Optional[socket.socket]:
-    """Claims a CPU by a name that ends with this process; None if another run of this user has it."""
+    """Claims a CPU by a socket's name, which the end of this process frees; None if another run of this user has it."""
     claim = socket.socket(socket.AF_UNIX, socket.SOCK_DGRAM)
     try:
         # A name that begins with a byte 0 is no file (unix(7)).

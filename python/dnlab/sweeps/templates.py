@@ -143,8 +143,8 @@ class Template:
         self._loader = _Loader(folder, "" if self.path is None else self.path.name)
         self._environment = _Sandbox(
             loader=self._loader, undefined=jinja2.StrictUndefined, keep_trailing_newline=True,
-            # Rendering has limits (`making`), compiling has none: so the compiler must not evaluate constants. It doesn't if
-            # output depends on the context.
+            # Rendering has limits (`making`), compiling has none: so the compiler must not evaluate constants. It evaluates none
+            # without its optimizer, and with a `finalize` that takes the context.
             optimized=False, finalize=_shown)
         self._environment.filters.update(s=nanoseconds(10**9), ms=nanoseconds(10**6), us=nanoseconds(10**3),
                                          random=_no_chance)
