@@ -3,13 +3,12 @@ import importlib
 import os
 import sys
 from contextlib import nullcontext, suppress
-from pathlib import Path
 from types import ModuleType
 from typing import Optional, Sequence
 
 if not __package__:
     # Called by file name: the package is in the parent folder.
-    sys.path[0] = str(Path(__file__).resolve().parent.parent)
+    sys.path[0] = os.path.dirname(os.path.dirname(os.path.realpath(__file__)))
 
 from dnlab import __version__  # noqa: E402  (the path is set first)
 
@@ -147,74 +146,16 @@ def write_no_more() -> None:
     os.dup2(os.open(os.devnull, os.O_WRONLY), sys.stdout.fileno())
 
 
-def summary() -> int:
-    """The script dnlab-summary."""
-    return main(["summary", *sys.argv[1:]])
+def start() -> int:
+    """Runs the command that an installed script, such as dnlab-plot, is named after. A link to the script may have any name."""
+    script = sys.argv[0]
+    while os.path.islink(script) and _command_of(script) not in COMMANDS:
+        script = os.path.join(os.path.dirname(script), os.readlink(script))
+    return main([_command_of(script), *sys.argv[1:]])
 
 
-def plot() -> int:
-    """The script dnlab-plot."""
-    return main(["plot", *sys.argv[1:]])
-
-
-def spread() -> int:
-    """The script dnlab-spread."""
-    return main(["spread", *sys.argv[1:]])
-
-
-def sweep() -> int:
-    """The script dnlab-sweep."""
-    return main(["sweep", *sys.argv[1:]])
-
-
-def compare() -> int:
-    """The script dnlab-compare."""
-    return main(["compare", *sys.argv[1:]])
-
-
-def expect() -> int:
-    """The script dnlab-expect."""
-    return main(["expect", *sys.argv[1:]])
-
-
-def view() -> int:
-    """The script dnlab-view."""
-    return main(["view", *sys.argv[1:]])
-
-
-def pcap() -> int:
-    """The script dnlab-pcap."""
-    return main(["pcap", *sys.argv[1:]])
-
-
-def from_ipfw() -> int:
-    """The script dnlab-from-ipfw."""
-    return main(["from-ipfw", *sys.argv[1:]])
-
-
-def to_ipfw() -> int:
-    """The script dnlab-to-ipfw."""
-    return main(["to-ipfw", *sys.argv[1:]])
-
-
-def to_tc() -> int:
-    """The script dnlab-to-tc."""
-    return main(["to-tc", *sys.argv[1:]])
-
-
-def replay() -> int:
-    """The script dnlab-replay."""
-    return main(["replay", *sys.argv[1:]])
-
-
-def rate_trace() -> int:
-    """The script dnlab-rate-trace."""
-    return main(["rate-trace", *sys.argv[1:]])
-
-
-def hosts() -> int:
-    """The script dnlab-hosts."""
-    return main(["hosts", *sys.argv[1:]])
+def _command_of(script: str) -> str:
+    return os.path.basename(script).removeprefix("dnlab-")
 
 
 if __name__ == "__main__":

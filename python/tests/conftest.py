@@ -1,7 +1,10 @@
 """Code that the tests share: paths, the program, and opened examples."""
 import os
+import re
+import signal
 import subprocess
 import sys
+import time
 from pathlib import Path
 from typing import Callable, Iterator, Sequence, TypeVar
 
@@ -96,3 +99,17 @@ def tool(name: str, *words: object, text: bytes = b"", **more: str) -> tuple[int
     done = subprocess.run([ROOT / "tools" / name, *map(str, words)], input=text, capture_output=True, timeout=120,
                           check=False, env={**os.environ, **more})
     return done.returncode, done.stdout.decode(), done.stderr.decode()
+
+
+def wait_for_handlers(pid: int) -> None:
+    """Waits until a command that was just started handles signals, or has ended.
+
+    Python catches SIGINT from its own start, and would then end with a traceback. The command catches SIGTERM after SIGINT."""
+    until = time.monotonic() + 60
+    while time.monotonic() < until:
+        status = Path(f"/proc/{pid}/status").read_text()
+        caught = re.search(r"^SigCgt:\s*([0-9a-f]+)$", status, re.MULTILINE)
+        if "\nState:\tZ" in status or caught and int(caught[1], 16) >> signal.SIGTERM - 1 & 1:
+            return
+        time.sleep(0.002)
+    raise AssertionError(f"process {pid} handles no signal")

@@ -1,8 +1,9 @@
 """How long runs end: at random times a signal is sent to the tool or its group, or kills it, a worker or a program.
 
 Each time all has ended within two seconds (longer on a machine that is busy besides), nothing is left (of a tool that was
-killed: after the next call), one line says why and how much is kept, and the next call goes on to the same bytes. DNLAB_MOMENTS says how many moments are tried (24);
-200 take some ten minutes: DNLAB_MOMENTS=200 tools/gate/check_python -k endings
+killed: after the next call), one line says why and how much is kept, and the next call goes on to the same bytes. The times
+begin when the tool handles signals. DNLAB_MOMENTS says how many moments are tried (24); 200 take some ten minutes:
+DNLAB_MOMENTS=200 tools/gate/check_python -k endings
 """
 import os
 import random
@@ -20,7 +21,7 @@ import pytest
 pytest.importorskip("jinja2", reason="jinja2 is missing (Debian: python3-jinja2)")
 pytest.importorskip("scipy", reason="scipy is missing (Debian: python3-scipy)")
 
-from conftest import QUICK, ROOT  # noqa: E402
+from conftest import QUICK, ROOT, wait_for_handlers  # noqa: E402
 
 MOMENTS = int(os.environ.get("DNLAB_MOMENTS", "9" if QUICK else "24"))
 # Texts of about 30 KB, so that the texts of a few experiments are larger than a pipe's buffer.
@@ -39,8 +40,6 @@ WORDS = ["link.tmpl", "--set", "queue=10,50", "--seeds", "1-30", "--of", "inject
 WAYS = [(signal.SIGINT, "tool"), (signal.SIGTERM, "tool"), (signal.SIGHUP, "tool"), (signal.SIGINT, "group"),
         (signal.SIGKILL, "tool"), (signal.SIGTERM, "group"), (signal.SIGKILL, "worker"), (signal.SIGHUP, "group"),
         (signal.SIGKILL, "program")]
-# The time (s) in which Python itself starts, and reacts to Ctrl-C in its own way.
-BEGINNING = 0.2
 
 
 def heed_signals() -> None:
@@ -107,7 +106,7 @@ def send(going: "subprocess.Popen[str]", number: signal.Signals, whom: str, prog
     return False
 
 
-def judge_line(place: Place, way: tuple[signal.Signals, str], moment: float, status: int, err: str) -> None:
+def judge_line(place: Place, way: tuple[signal.Signals, str], status: int, err: str) -> None:
     """Checks the status and the one line of a call that was told to end, unless it had ended by itself."""
     number, whom = way
     if whom in ("worker", "program"):
@@ -118,8 +117,6 @@ def judge_line(place: Place, way: tuple[signal.Signals, str], moment: float, sta
         # Nothing, or the closing line if it was killed between that line and its end.
         done = rf"sweep: {EXPERIMENTS} experiments: \d+ were run, \d+ were kept in link.tmpl.kept\n"
         assert not err or re.fullmatch(done, err) and place.kept() == EXPERIMENTS, err
-        return
-    if moment < BEGINNING:
         return
     assert err.count("\n") == 1 and err.startswith("sweep: "), err
     found = re.search(rf"(\d+) of {EXPERIMENTS} experiments are kept in link.tmpl.kept; the same command continues\n$", err)
@@ -148,9 +145,11 @@ def patience() -> float:
 
 
 def one_moment(place: Place, way: tuple[signal.Signals, str], moment: float) -> Optional[str]:
-    """Starts a sweep, and ends it after a time. Returns its output if it was ended, or None if it was done before."""
+    """Starts a sweep, and ends it after a time, counted from when it handles signals. Returns its output if it was ended, or None
+    if it was done before."""
     number, whom = way
     going = place.begin()
+    wait_for_handlers(going.pid)
     try:
         going.wait(moment)
     except subprocess.TimeoutExpired:
@@ -168,7 +167,7 @@ def one_moment(place: Place, way: tuple[signal.Signals, str], moment: float) -> 
             os.kill(one, signal.SIGKILL)
     if not was_sent or going.returncode == 0:
         return None
-    judge_line(place, way, moment, going.returncode, err)
+    judge_line(place, way, going.returncode, err)
     if way != (signal.SIGKILL, "tool"):
         assert not place.left(), f"{way} at {moment:.3f} s: {place.left()}"
     return err

@@ -14,7 +14,7 @@ import pytest
 pytest.importorskip("yaml", reason="yaml is missing (Debian: python3-yaml)")
 
 import guests  # noqa: E402  (yaml is looked for first)
-from conftest import QUICK, ROOT  # noqa: E402
+from conftest import QUICK, ROOT, wait_for_handlers  # noqa: E402
 from guests import Run, one_host, processes_in  # noqa: E402
 
 run = guests.run
@@ -31,7 +31,8 @@ def test_a_run_is_ended_at_any_time(seed: int, kernel: Path, program: str, tmp_p
     number = (signal.SIGINT, signal.SIGTERM, signal.SIGKILL)[seed % 3]
     with subprocess.Popen([ROOT / "tools/hosts", "test.yaml", "--out", "run"], cwd=tmp_path, stdout=subprocess.PIPE,
                           stderr=subprocess.PIPE, env={**os.environ, "DNLAB": program}) as process:
-        time.sleep(drawn.uniform(0.05, 2.5))
+        wait_for_handlers(process.pid)
+        time.sleep(drawn.uniform(0, 2.5))
         process.send_signal(number)
         began = time.monotonic()
         _, err = process.communicate(timeout=10)

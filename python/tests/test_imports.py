@@ -1,7 +1,9 @@
 """Packages are not loaded before they are needed: neither help nor running a scenario needs the packages for tables."""
 import os
+import signal
 import subprocess
 import sys
+from pathlib import Path
 
 import pytest
 from conftest import ROOT
@@ -25,6 +27,25 @@ def loaded(*words: object, **more: str) -> set[str]:
 def test_help_loads_no_package(name: str) -> None:
     found = loaded(ROOT / "tools" / name, "--help")
     assert {"argparse", "dnlab"} <= found and not found & PACKAGES
+
+
+def test_ctrl_c_ends_a_start_by_the_signal(tmp_path: Path) -> None:
+    """The signal arrives when a script's first module of the package is loaded, before the command handles signals."""
+    (tmp_path / "tools").mkdir()
+    (tmp_path / "tools/command").write_bytes((ROOT / "tools/command").read_bytes())
+    (tmp_path / "share/dnlab/python/dnlab").mkdir(parents=True)
+    (tmp_path / "share/dnlab/python/dnlab/__init__.py").write_text("import os\nos.kill(os.getpid(), 2)\n")
+    done = subprocess.run([sys.executable, tmp_path / "tools/command"], capture_output=True, text=True, timeout=60, check=False,
+                          preexec_fn=lambda: signal.signal(signal.SIGINT, signal.SIG_DFL))
+    assert (done.returncode, done.stderr) == (-signal.SIGINT, "")
+
+
+@pytest.mark.parametrize("name", ["dnlab-from-ipfw", "link"])
+def test_a_script_is_named_after_its_command(name: str, tmp_path: Path) -> None:
+    """A link to it may have any name."""
+    (tmp_path / name).symlink_to(ROOT / "tools/from-ipfw")
+    done = subprocess.run([tmp_path / name, "--version"], capture_output=True, text=True, timeout=60, check=False)
+    assert done.stdout.startswith("dnlab-from-ipfw ")
 
 
 def test_tables_load_them() -> None:
