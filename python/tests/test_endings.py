@@ -91,7 +91,7 @@ def session(number: int) -> Iterator[tuple[int, str]]:
 
 def send(going: "subprocess.Popen[str]", number: signal.Signals, whom: str, program: str) -> bool:
     """Sends a signal as soon as its target exists. Returns true if it was sent."""
-    pattern = {"worker": "worker.py", "program": f"^{re.escape(program)} alone"}.get(whom)
+    pattern = {"worker": "multiprocessing.spawn", "program": f"^{re.escape(program)} alone"}.get(whom)
     while going.poll() is None:
         if whom == "tool":
             going.send_signal(number)

@@ -12,7 +12,7 @@ from dnlab.io.scenario_parts import Plan
 
 if TYPE_CHECKING:
     from dnlab.analysis.view import View
-    from dnlab.processes.crew import Crew
+    from dnlab.processes.process_pool import ProcessPool
 
 T = TypeVar("T")
 # For reports below this many bytes a second process costs more than it saves.
@@ -133,25 +133,25 @@ def over(given: Given, function: "Callable[[View], T]", plans: Optional[dict[str
 def _by_processes(given: Given, function: "Callable[[View], T]", plans: Optional[dict[str, Plan]],
                   found: Iterable[Piece], workers: int) -> Iterator[T]:
     """Yields results in order; early ones wait. Only a few jobs are submitted ahead, so that few texts are in memory."""
-    from dnlab.processes.crew import Crew
+    from dnlab.processes.process_pool import ProcessPool
 
     done: dict[int, T] = {}
     head = 0
-    with Crew[int](workers) as crew:
+    with ProcessPool[int](workers) as pool:
         for number, piece in enumerate(found):
             own = None if plans is None else {piece.name: plans[piece.name]} if piece.name in plans else {}
-            crew.give(number, _task, function, piece, own, given)
+            pool.submit(number, _task, function, piece, own, given)
             while number - head > workers + 1:
-                yield from _in_order(crew, done, head)
+                yield from _in_order(pool, done, head)
                 head += 1
-        while len(crew) or head in done:
-            yield from _in_order(crew, done, head)
+        while len(pool) or head in done:
+            yield from _in_order(pool, done, head)
             head += 1
 
 
-def _in_order(crew: "Crew[int]", done: dict[int, T], head: int) -> Iterator[T]:
+def _in_order(pool: "ProcessPool[int]", done: dict[int, T], head: int) -> Iterator[T]:
     """Returns the result of the first job that has not been returned yet."""
     while head not in done:
-        outcome = crew.next()
+        outcome = pool.next_result()
         done[outcome.token] = outcome.get()
     yield done.pop(head)

@@ -16,7 +16,7 @@ from dnlab.io.scenario import Judged, read
 from dnlab.io.scenario_parts import MOST_BYTES, MOST_EXPERIMENTS, Plan
 from dnlab.io.splitting import Fault, Part, experiments_in, heading_fault, lines_in, repeated, shares, texts_of
 from dnlab.processes import children, ending
-from dnlab.processes.crew import Crew
+from dnlab.processes.process_pool import ProcessPool
 from dnlab.processes.progress import Progress
 from dnlab.processes.rooms import Room
 from dnlab.programs import program as program_of
@@ -204,11 +204,11 @@ def check(how: How, jobs: Sequence[Job], folder: Path) -> None:
     from dnlab.analysis.work import cores
 
     wrong: dict[int, str] = {}
-    with Crew[int](min(how.jobs or cores(), len(jobs) or 1)) as crew:
+    with ProcessPool[int](min(how.jobs or cores(), len(jobs) or 1)) as pool:
         for job in jobs:
-            crew.give(job.number, judged_part, str(job.file("whole")), str(job.file("txt")))
-        while len(crew):
-            outcome = crew.next()
+            pool.submit(job.number, judged_part, str(job.file("whole")), str(job.file("txt")))
+        while len(pool):
+            outcome = pool.next_result()
             if outcome.get():
                 wrong[outcome.token] = outcome.value
     for job in jobs:

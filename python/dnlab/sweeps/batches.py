@@ -7,7 +7,7 @@ from dnlab.io.splitting import lines_in
 from dnlab.io.scenario_words import BadWord, Words, experiment
 from dnlab.processes import children
 from dnlab.processes.children import Killed
-from dnlab.processes.crew import Outcome
+from dnlab.processes.process_pool import Outcome
 from dnlab.sweeps.grids import Case
 
 # Limits for a single run: the program keeps all reports of a scenario until its end, so the steps are limited too.

@@ -9,7 +9,7 @@ from dnlab.analysis.spans import Span
 from dnlab.errors import InputError, ProgramError
 from dnlab.io.splitting import experiments_in, groups, shares
 from dnlab.processes.children import Killed
-from dnlab.processes.crew import Crew
+from dnlab.processes.process_pool import ProcessPool
 from dnlab.processes.rooms import Room
 from dnlab.sweeps import engines
 from dnlab.sweeps.jobs import DASK, How, Job, Stop
@@ -73,12 +73,12 @@ def batches_of(waiting: Sequence["Waiting"], count: int) -> list[list[list["Wait
 def tried_here(sweep: "Sweep", sample: Sequence["Waiting"], program: str) -> Iterator["Answered"]:
     """Runs experiments on this machine, one by one, for some seconds; those that fail are left for the other machines."""
     begun = time.monotonic()
-    with Crew["Waiting"](sweep.workers) as crew:
+    with ProcessPool["Waiting"](sweep.workers) as pool:
         for one in sample:
-            crew.give(one, measured, [sweep.text(one.case)], sweep.asks, program, sweep.span)
-        while len(crew) and time.monotonic() - begun < _TRIAL:
+            pool.submit(one, measured, [sweep.text(one.case)], sweep.asks, program, sweep.span)
+        while len(pool) and time.monotonic() - begun < _TRIAL:
             try:
-                outcome = crew.next(max(0.0, _TRIAL - (time.monotonic() - begun)))
+                outcome = pool.next_result(max(0.0, _TRIAL - (time.monotonic() - begun)))
             except TimeoutError:
                 return
             if isinstance(outcome.fault, Killed):
@@ -101,7 +101,7 @@ def by_spread(sweep: "Sweep", waiting: Sequence["Waiting"], program: str, count:
     with ExitStack() as stack:
         # Slurm's nodes can read the current folder, but not this machine's temporary folder.
         room = stack.enter_context(Room("." if sweep.on == "slurm" else None))
-        crew = stack.enter_context(Crew[int](sweep.workers))
+        pool = stack.enter_context(ProcessPool[int](sweep.workers))
         by_name = {one.case.name: one for one in waiting}
         texts = {one.case.name: sweep.text(one.case) for one in waiting}
         if sweep.on == "slurm":
@@ -114,26 +114,26 @@ def by_spread(sweep: "Sweep", waiting: Sequence["Waiting"], program: str, count:
         stop: Optional[Stop] = None
         going = engines.going(how, program, jobs, room.path)
         is_going = True
-        while is_going or len(crew):
+        while is_going or len(pool):
             try:
                 for job in next(going) if is_going else ():
-                    crew.give(job.number, read_part, str(job.file("whole")), [texts[name] for name in job.names], sweep.asks,
+                    pool.submit(job.number, read_part, str(job.file("whole")), [texts[name] for name in job.names], sweep.asks,
                               sweep.span)
             except StopIteration:
                 is_going = False
             except Stop as stopped:
                 is_going, stop = False, stopped
-            yield from _read(crew, jobs, by_name, None if not is_going else 0.0)
+            yield from _read(pool, jobs, by_name, None if not is_going else 0.0)
         if stop is not None:
             raise ProgramError(stop.status, str(stop).strip())
 
 
-def _read(crew: Crew[int], jobs: Sequence[Job], by_name: dict[str, "Waiting"],
+def _read(pool: ProcessPool[int], jobs: Sequence[Job], by_name: dict[str, "Waiting"],
           seconds: Optional[float]) -> Iterator["Answered"]:
     """Yields the results of parts that have been read by now; without a time, of all that are ready."""
-    while len(crew):
+    while len(pool):
         try:
-            outcome = crew.next(seconds)
+            outcome = pool.next_result(seconds)
         except TimeoutError:
             return
         names = jobs[outcome.token - 1].names

@@ -17,7 +17,7 @@ from dnlab.io.report_bound import most_report
 from dnlab.io.splitting import groups
 from dnlab.processes import children, ending
 from dnlab.processes.children import Killed
-from dnlab.processes.crew import Crew
+from dnlab.processes.process_pool import ProcessPool
 from dnlab.processes.rooms import CANCEL, cancel
 from dnlab.sweeps.jobs import How, Job, Stop
 
@@ -106,12 +106,12 @@ def here(how: How, program: str, waiting: Sequence[Job], folder: Path) -> Iterat
     """Runs parts in processes of this machine, `jobs` at a time."""
     from dnlab.analysis.work import cores
 
-    with Crew[int](how.jobs or cores()) as crew:
+    with ProcessPool[int](how.jobs or cores()) as pool:
         for part in waiting:
             # The other process needs neither the text nor the names.
-            crew.give(part.number, _alone, program, Job(folder, part.number, [], b""))
-        while len(crew):
-            crew.next().get()
+            pool.submit(part.number, _alone, program, Job(folder, part.number, [], b""))
+        while len(pool):
+            pool.next_result().get()
             yield
 
 

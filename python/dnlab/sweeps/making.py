@@ -8,7 +8,7 @@ from typing import Any, Mapping, NoReturn, Optional, Union
 
 from dnlab.errors import InputError
 from dnlab.processes.children import Killed
-from dnlab.processes.crew import Crew
+from dnlab.processes.process_pool import ProcessPool
 from dnlab.sweeps.templates import Template, TooLong
 
 # The limits for a text: processor time in seconds, and memory in bytes.
@@ -48,7 +48,7 @@ class Maker:
 
     def __init__(self, template: Template) -> None:
         self._template = template
-        self._crew: Optional[Crew[str]] = None
+        self._pool: Optional[ProcessPool[str]] = None
         self._kept: dict[tuple[Any, ...], str] = {}
         self._left = MOST_KEPT
 
@@ -60,12 +60,12 @@ class Maker:
         key = name, seed, *map(str, settings.items())
         if key in self._kept:
             return self._kept[key]
-        if self._crew is None:
-            self._crew = Crew(1)
+        if self._pool is None:
+            self._pool = ProcessPool(1)
         source = self._template.text if self._template.path is None else self._template.path
         try:
-            self._crew.give(name, made, source, name, seed, dict(settings), MOST_SECONDS)
-            outcome = self._crew.next(_PATIENCE * MOST_SECONDS)
+            self._pool.submit(name, made, source, name, seed, dict(settings), MOST_SECONDS)
+            outcome = self._pool.next_result(_PATIENCE * MOST_SECONDS)
         except TimeoutError:
             self.close()
             raise InputError(f"{self._template.name}: {told}: rendering it takes more than {MOST_SECONDS:.0f} s") from None
@@ -82,6 +82,6 @@ class Maker:
 
     def close(self) -> None:
         """Ends the process; another one is started on demand."""
-        if self._crew is not None:
-            self._crew.close()
-            self._crew = None
+        if self._pool is not None:
+            self._pool.close()
+            self._pool = None

@@ -15,7 +15,7 @@ from dnlab.errors import InputError, ParseError, ProgramError
 from dnlab.io import report, scenario
 from dnlab.io.scenario_parts import Plan
 from dnlab.processes import children
-from dnlab.processes.crew import Crew
+from dnlab.processes.process_pool import ProcessPool
 from dnlab.processes.rooms import Room
 from dnlab.programs import program as program_of
 from dnlab.sweeps.batches import Waiting
@@ -63,10 +63,10 @@ class ProgramSweep(Sweep):
                 raise ProgramError(done.status, f"{case.told()}: {done.said()}")
         return waiting
 
-    def give(self, crew: "Crew[tuple[Waiting, ...]]", batch: Sequence[Waiting], program: str) -> None:
+    def give(self, pool: "ProcessPool[tuple[Waiting, ...]]", batch: Sequence[Waiting], program: str) -> None:
         """Submits a case to a process."""
         texts = [self.text(one.case) for one in batch]
-        crew.give(tuple(batch), ran, texts, self.kind, self.asks, program, self.span)
+        pool.submit(tuple(batch), ran, texts, self.kind, self.asks, program, self.span)
 
     def changeless(self) -> Optional[str]:
         """Returns the warning if the texts of two seeds are equal, else None."""

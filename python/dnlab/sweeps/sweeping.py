@@ -18,7 +18,7 @@ from dnlab.io.splitting import lines_in, names_of
 from dnlab.plot import names
 from dnlab.processes import ending
 from dnlab.processes.children import Killed
-from dnlab.processes.crew import Crew
+from dnlab.processes.process_pool import ProcessPool
 from dnlab.processes.progress import Progress
 from dnlab.programs import program as program_of
 from dnlab.sweeps.batches import Answered, Waiting, answer_of, judged, raise_first, steps_of, together
@@ -198,26 +198,26 @@ class Sweep(Swept):
         """Runs experiments in processes of this machine, and yields results as they arrive. Raises the first failure at the end, but at
         once if a signal ended a process."""
         failures: list[ProgramError] = []
-        with Crew[tuple[Waiting, ...]](min(self.workers, max(len(waiting), 1))) as crew:
+        with ProcessPool[tuple[Waiting, ...]](min(self.workers, max(len(waiting), 1))) as pool:
             def begin(batch: Sequence[Waiting]) -> None:
-                self.give(crew, batch, program)
+                self.give(pool, batch, program)
 
             for batch in together(waiting, self.workers):
                 begin(batch)
-                while len(crew) > 2 * self.workers:
-                    yield from self._taken(crew, begin, failures)
-            while len(crew):
-                yield from self._taken(crew, begin, failures)
+                while len(pool) > 2 * self.workers:
+                    yield from self._taken(pool, begin, failures)
+            while len(pool):
+                yield from self._taken(pool, begin, failures)
         raise_first(failures)
 
-    def give(self, crew: "Crew[tuple[Waiting, ...]]", batch: Sequence[Waiting], program: str) -> None:
+    def give(self, pool: "ProcessPool[tuple[Waiting, ...]]", batch: Sequence[Waiting], program: str) -> None:
         """Submits experiments to a process."""
-        crew.give(tuple(batch), measured, [self.text(one.case) for one in batch], self.asks, program, self.span)
+        pool.submit(tuple(batch), measured, [self.text(one.case) for one in batch], self.asks, program, self.span)
 
-    def _taken(self, crew: Crew[tuple[Waiting, ...]], begin: Any, failures: list[ProgramError]) -> Iterator[Answered]:
+    def _taken(self, pool: ProcessPool[tuple[Waiting, ...]], begin: Any, failures: list[ProgramError]) -> Iterator[Answered]:
         """Yields the results of the next job. The experiments of a failed scenario are run again one by one, which shows which of them failed,
         and needs less memory at once."""
-        outcome = crew.next()
+        outcome = pool.next_result()
         batch = list(outcome.token)
         if not isinstance(outcome.fault, ProgramError) or isinstance(outcome.fault, Killed):
             yield batch, answer_of(outcome)
