@@ -21,11 +21,11 @@ from typing import TYPE_CHECKING, Any
 from dnlab.errors import InputError, ParseError, ProgramError
 
 if TYPE_CHECKING:
-    from dnlab.analysis.figures import interval, jain
+    from dnlab.analysis.quantities import interval, jain
     from dnlab.analysis.reports import Report, read
     from dnlab.analysis.results import Experiment, intervals
     from dnlab.sweeps.runs import run
-    from dnlab.session.events import CommandRefusedError, Event, ExperimentEndedError, LineRejectedError, Packet
+    from dnlab.session.transport import CommandRefusedError, Event, ExperimentEndedError, LineRejectedError, Packet
     from dnlab.session.links import Link
     from dnlab.session.sessions import Session, live
     from dnlab.sweeps.sweeping import Sweep, sweep
@@ -34,9 +34,9 @@ __version__ = "0.2.0"
 __all__ = ["CommandRefusedError", "Event", "Experiment", "ExperimentEndedError", "InputError", "LineRejectedError", "Link", "Packet",
            "ParseError", "ProgramError", "Report", "Session", "Sweep", "interval", "intervals", "jain", "live", "read", "run", "sweep"]
 _PLACES = {"Experiment": "analysis.results", "Report": "analysis.reports", "intervals": "analysis.results",
-           "read": "analysis.reports", "run": "sweeps.runs", "interval": "analysis.figures", "jain": "analysis.figures",
-           "Sweep": "sweeps.sweeping", "sweep": "sweeps.sweeping", "CommandRefusedError": "session.events",
-           "Event": "session.events", "LineRejectedError": "session.events", "ExperimentEndedError": "session.events", "Packet": "session.events",
+           "read": "analysis.reports", "run": "sweeps.runs", "interval": "analysis.quantities", "jain": "analysis.quantities",
+           "Sweep": "sweeps.sweeping", "sweep": "sweeps.sweeping", "CommandRefusedError": "session.transport",
+           "Event": "session.transport", "LineRejectedError": "session.transport", "ExperimentEndedError": "session.transport", "Packet": "session.transport",
            "Link": "session.links", "Session": "session.sessions", "live": "session.sessions"}
 _MODULES = ("hosts", "sim")
 _NEEDS: dict[str, tuple[str, ...]] = {"analysis.results": ("numpy", "pandas"), "analysis.reports": ("numpy", "pandas"),

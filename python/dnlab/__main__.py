@@ -3,8 +3,7 @@ import importlib
 import os
 import sys
 from contextlib import nullcontext, suppress
-from types import ModuleType
-from typing import Optional, Sequence
+from typing import Callable, Optional, Sequence
 
 if not __package__:
     # Called by file name: the package is in the parent folder.
@@ -79,19 +78,22 @@ def said_of(command: str, module: str) -> str:
     if os.path.dirname(sys.executable) == "/usr/bin":
         return f"{said})"
     # Imported here, because --help and --version don't need it.
-    from dnlab.cli.words import as_installed
+    from dnlab.cli.arguments import as_installed
 
     return f"{said}, then {as_installed(f'PATH=/usr/bin:$PATH tools/{command}')} ..)"
 
 
-def module_of(command: str) -> ModuleType:
-    """Returns the module of a command; for from-ipfw, `dnlab.cli.from_ipfw`."""
-    return importlib.import_module(f"dnlab.cli.{command.replace('-', '_')}")
+def function_of(command: str) -> Callable[[Sequence[str]], int]:
+    """Returns the function that runs a command: `main` of the module with its name, except in `dnlab.cli.ipfw`."""
+    name = command.replace("-", "_")
+    module, function = ("ipfw", name) if name in ("from_ipfw", "to_ipfw", "to_tc") else (name, "main")
+    found: Callable[[Sequence[str]], int] = getattr(importlib.import_module(f"dnlab.cli.{module}"), function)
+    return found
 
 
 def main(words: Optional[Sequence[str]] = None) -> int:
     """Runs a command and returns its exit status. The first of `words` is the command's name."""
-    from dnlab.cli.streams import guarded
+    from dnlab.cli.arguments import guarded
 
     with guarded():
         try:
@@ -130,15 +132,15 @@ def begun(words: Sequence[str]) -> int:
     if list(words[1:]) == ["--version"]:
         print(f"dnlab-{words[0]} {__version__}")
         return 0
-    from dnlab.processes import ending
+    from dnlab.processes import subprocesses
 
-    ending.watch(words[0])
+    subprocesses.handle_signals(words[0])
     # --help needs none of these modules, and exits by itself.
     lacking = missing(NEEDS[words[0]]) if list(words[1:2]) not in (["--help"], ["-h"]) else None
     if lacking is not None:
         print(said_of(words[0], lacking), file=sys.stderr)
         return MACHINE
-    return int(module_of(words[0]).main(words[1:]))
+    return function_of(words[0])(words[1:])
 
 
 def write_no_more() -> None:

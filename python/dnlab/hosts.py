@@ -2,7 +2,7 @@
 import heapq
 from typing import Callable, Generator, Iterable, Union
 
-from dnlab.session.events import LATEST, Address, Event
+from dnlab.session.transport import LATEST, Address, Event
 from dnlab.session.links import Link
 
 # A generator that yields the time (ns) until which it waits, and is sent the events since then.

@@ -23,7 +23,7 @@ from contextlib import contextmanager
 from typing import Any, Callable, Coroutine, Iterator, Mapping, NoReturn, Optional, TypeVar
 
 from dnlab.session.datagrams import Network, fault_of, here, host
-from dnlab.session.events import LATEST, Address, Event
+from dnlab.session.transport import LATEST, Address, Event
 from dnlab.session.links import Link
 
 __all__ = ["DeadlockError", "Loop", "host", "run"]

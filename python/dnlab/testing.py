@@ -18,10 +18,10 @@ from typing import Callable, Mapping, Optional, Sequence, Union
 import pytest
 
 from dnlab.analysis.bounds import allowed_of, bound_of, bounds_in, failing, judge, percentiles_for
-from dnlab.analysis.naming import with_names
+from dnlab.analysis.names import with_names
 from dnlab.analysis.reports import Report
-from dnlab.analysis.spans import span_of
-from dnlab.analysis.summing import summed
+from dnlab.analysis.metrics import span_of
+from dnlab.analysis.summary import summed
 from dnlab.errors import InputError
 
 

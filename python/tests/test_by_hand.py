@@ -1,4 +1,4 @@
-"""The reports worked out by hand in `dnlab.analysis.by_hand` are those that the program writes, and each metric has an example there."""
+"""The reports worked out by hand in `dnlab.analysis.doctest_data` are those that the program writes, and each metric has an example there."""
 import inspect
 from typing import Callable
 
@@ -6,7 +6,7 @@ import pytest
 
 pytest.importorskip("numpy", reason="numpy is missing (Debian: python3-numpy)")
 
-from dnlab.analysis.by_hand import FLOWS, TRAIN, Run  # noqa: E402
+from dnlab.analysis.doctest_data import FLOWS, TRAIN, Run  # noqa: E402
 from dnlab.analysis.metrics import WORDS, Metric  # noqa: E402
 
 

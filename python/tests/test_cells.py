@@ -8,7 +8,7 @@ from conftest import ROOT, tool
 pd = pytest.importorskip("pandas", reason="pandas is missing (Debian: python3-pandas)")
 
 import dnlab  # noqa: E402
-from dnlab.sweeps.cells import told_of  # noqa: E402
+from dnlab.sweeps.grid import told_of  # noqa: E402
 
 ONE = ("experiment {{ name }} seed {{ seed }} budget 99\n@0 pipe 1 config bw 1Mbit/s queue {{ queue }} plr {{ loss }}\n"
        "@0 add 1 pipe 1 ip from any to any\n@0 train 2 udp 10.0.0.1 1 10.0.0.2 2 100 count 9 gap 1000000\n@99000000 end\n")

@@ -10,15 +10,15 @@ from typing import Callable, Optional
 import pytest
 from conftest import ROOT, tool
 
-from dnlab.analysis.beside import Pair, tolerance_of
+from dnlab.analysis.comparison import Pair, tolerance_of
 from dnlab.analysis.bounds import bound_of, bounds_in
 from dnlab.analysis.metrics import metric_of
-from dnlab.analysis.parting import parting
+from dnlab.analysis.divergence import parting
 from dnlab.analysis.view import View
 from dnlab.errors import InputError
 from dnlab.io import scenario
 from dnlab.io.report import read
-from dnlab.units import amount_of, shown
+from dnlab.analysis.quantities import amount_of, shown
 
 Alone = Callable[[bytes], bytes]
 # Five packets of 1000 bytes at once: at 8 Mbit/s each is served in 1 ms, and delivered 10 ms later: 11 .. 15 ms.

@@ -8,10 +8,10 @@ from typing import Callable
 import pytest
 from conftest import tool
 
-from dnlab.io.ipfw_became import Became
+from dnlab.io.ipfw_script import Translation
 from dnlab.io.ipfw_import import Import
 from dnlab.io.ipfw_script import Line, lines_of
-from dnlab.io.ipfw_words import APPROXIMATED, DROPPED, REFUSED, REWRITTEN, SAME, Cannot, rate
+from dnlab.io.ipfw_words import APPROXIMATED, DROPPED, REFUSED, REWRITTEN, SAME, UnsupportedError, rate
 
 FOLDER = Path(__file__).parent / "ipfw"
 INTERFACES = ("--if", "em1=10.0.1.0/24", "--if", "dc0=any", "--if", "igb0=any", "--if", "igb1=any", "--me", "203.0.113.10")
@@ -21,7 +21,7 @@ LINES = {"wanem": (9, 3, 0), "handbook-stateful": (23, 3, 4), "hotel-per-host": 
          "satellite-voip": (22, 3, 4)}
 
 
-def imported(*lines: str, **more: object) -> list[Became]:
+def imported(*lines: str, **more: object) -> list[Translation]:
     """Imports lines of ipfw."""
     one = Import(**{"behind": {"em1": "10.0.1.0/24"}, **more})  # type: ignore[arg-type]
     one.take_all([Line((("sysctl",) if line.startswith("net.") else ("ipfw",)) + tuple(line.split())) for line in lines])
@@ -314,5 +314,5 @@ def test_wrong_input(tmp_path: Path) -> None:
 
 
 def test_words_alone() -> None:
-    with pytest.raises(Cannot):
+    with pytest.raises(UnsupportedError):
         rate("11Gbit/s")

@@ -11,7 +11,7 @@ import pytest
 from conftest import ROOT, in_part, tool
 
 from dnlab.__main__ import COMMANDS
-from dnlab.analysis.figures import percentile_name
+from dnlab.analysis.quantities import percentile_name
 from dnlab.analysis.metrics import metric_of
 from dnlab.analysis.tables import jitter
 

@@ -9,7 +9,7 @@ from conftest import tool  # noqa: E402  (yaml is looked for first)
 
 from dnlab.emulation.experiment import Ending, Experiment  # noqa: E402
 from dnlab.emulation.hosts_file import experiment_of  # noqa: E402
-from dnlab.emulation.network_check import check  # noqa: E402
+from dnlab.emulation.experiment import check_network  # noqa: E402
 from dnlab.errors import InputError  # noqa: E402
 from wrong_hosts_files import BASE, GENERAL, HOSTS, LINES, NETWORK, PROCESSES, WHOLE, WRONG  # noqa: E402
 
@@ -22,7 +22,7 @@ def changed(number: int, replacement: str) -> str:
 def judged(text: bytes) -> Experiment:
     """Returns the experiment of a text, and checks its network too."""
     made = experiment_of(text, "hosts.yaml", Path("."))
-    check(made)
+    check_network(made)
     return made
 
 
@@ -97,8 +97,8 @@ def test_jitter_is_drawn_from_the_seed() -> None:
 
 
 def test_what_is_likely_wrong_has_its_line() -> None:
-    said = check(experiment_of(changed(4, "  @5 add 100 pipe 2 ip from any to any").encode(), "hosts.yaml", Path(".")))
-    assert len(said) == 1 and said[0].startswith("hosts.yaml:4: network: nopipe: ") and not check(judged(BASE.encode()))
+    said = check_network(experiment_of(changed(4, "  @5 add 100 pipe 2 ip from any to any").encode(), "hosts.yaml", Path(".")))
+    assert len(said) == 1 and said[0].startswith("hosts.yaml:4: network: nopipe: ") and not check_network(judged(BASE.encode()))
 
 
 @pytest.mark.parametrize("number, replacement, line, cause", [GENERAL[1], NETWORK[16], HOSTS[14], PROCESSES[46]])

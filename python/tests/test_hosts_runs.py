@@ -16,8 +16,8 @@ import guests  # noqa: E402  (packages are looked for first)
 from conftest import QUICK, ROOT, tool  # noqa: E402
 from guests import Run, one_host  # noqa: E402
 
-from dnlab.emulation import repeating  # noqa: E402
-from dnlab.emulation.captures import Covered, ends_of  # noqa: E402
+from dnlab.emulation import run as hosts_run  # noqa: E402
+from dnlab.emulation.traffic import Covered, ends_of  # noqa: E402
 from dnlab.emulation.traffic import rows  # noqa: E402
 from dnlab.io import arrivals  # noqa: E402
 
@@ -78,7 +78,7 @@ def test_each_capture_is_the_report(name: str, kernel: Path, program: str, tmp_p
     summary = json.loads((tmp_path / "run" / "summary.json").read_text())
     tried = 0
     for host in summary["hosts"].values():
-        packets = list(arrivals.of_file(str(tmp_path / "run" / host["capture"]), arrivals.Left()))
+        packets = list(arrivals.of_file(str(tmp_path / "run" / host["capture"]), arrivals.Omissions()))
         seen = [(it.moment, *map(str, ends_of(it)), str(max(it.size, 40))) for it in packets]
         left = sorted((moment, *words) for moment, words in sent if words[1] == host["address"])
         came = sorted((delivered[number], *words) for number, (_, words) in enumerate(sent)
@@ -232,18 +232,18 @@ def test_what_covers_what() -> None:
     assert [seen.add(2**32 - 10, 10), seen.add(10, 5), seen.add(0, 10), seen.add(2**32 - 5, 25), seen.add(100, 0)] == [10, 5, 10, 5, 0]
 
 
-@pytest.mark.parametrize("most", [repeating.MOST_BYTES, 0], ids=["alone", "live"])
+@pytest.mark.parametrize("most", [hosts_run.MOST_BYTES, 0], ids=["alone", "live"])
 def test_a_report_that_is_not_repeated(most: int, run: Run, tmp_path: Path, monkeypatch: pytest.MonkeyPatch, program: str) -> None:
     """A report with a different digit, or a missing line, is not the transcript's, according to `alone` and `live`."""
     monkeypatch.setenv("DNLAB", program)
-    monkeypatch.setattr(repeating, "MOST_BYTES", most)
+    monkeypatch.setattr(hosts_run, "MOST_BYTES", most)
     assert run(one_host("{path: ping, args: -c 2 10.0.0.2}") + "  two: {ip_addr: 10.0.0.2}\n")[0] == 0
     report = tmp_path / "run/report.txt"
     text = report.read_text()
-    assert repeating.is_repeated(tmp_path / "run") and text.count(" deliver ") == 4
+    assert hosts_run.is_repeated(tmp_path / "run") and text.count(" deliver ") == 4
     for other in text.replace("0 deliver ", "1 deliver ", 1), text.replace("\n", "", 1), text[:-1], "":
         report.write_text(other)
-        assert other != text and not repeating.is_repeated(tmp_path / "run")
+        assert other != text and not hosts_run.is_repeated(tmp_path / "run")
 
 
 def test_an_output_folder_with_files(run: Run, tmp_path: Path) -> None:

@@ -10,7 +10,7 @@ from test_naming import LINK, MINE, MS, SCENARIO, row_of
 import dnlab
 from dnlab.analysis.commands import injected_of
 from dnlab.io import injections, scenario
-from dnlab.io.origin import scenario_checksum
+from dnlab.io.files import scenario_checksum
 from dnlab.io.scenario import Judged
 from dnlab.io.scenario_parts import Run, Sends
 

@@ -76,7 +76,7 @@ resource.setrlimit(resource.RLIMIT_AS, (2**30, 2**30))
 sys.dont_write_bytecode = True
 sys.path.insert(0, sys.argv[1])
 home = sys.argv[2]
-import dnlab.cli.from_ipfw
+import dnlab.cli.ipfw
 from dnlab.__main__ import main
 def watch(event, words):
     opens = event == "open" and (str(words[0]).startswith(home) and words[0] != home + "/script.sh" or words[2] & (os.O_WRONLY | os.O_RDWR))

@@ -31,10 +31,10 @@ echo progress 100 done
 CALL = """import pathlib, sys
 from dnlab.emulation import kernel_cache
 from dnlab.errors import ResourceError
-from dnlab.processes import ending
+from dnlab.processes.subprocesses import handle_signals
 kernel_cache.BUILD = pathlib.Path(sys.argv[1])
 kernel_cache._library = lambda prefix: (prefix, sys.argv[2] == "proved")
-ending.watch("hosts")
+handle_signals("hosts")
 try:
     print(kernel_cache.kernel().folder)
 except ResourceError as lacking:

@@ -44,10 +44,10 @@ def test_a_module_keeps_to_its_layer(file: Path) -> None:
     if own:
         found = {layer_of(name) for name in imported(file)} - {"", own, *BELOW[own].split()}
         assert not {layer for layer in found if (str(place), layer) not in ASIDE}
-    assert len(file.read_text(encoding="utf-8").splitlines()) <= 300
+    assert len(file.read_text(encoding="utf-8").splitlines()) <= 350
 
 
 def test_what_stands_below_needs_no_session() -> None:
     """Imports through the modules of the package's own folder count too, because these modules belong to no layer."""
-    for name in "chance", "errors", "programs", "units":
+    for name in "errors", "programs", "rng":
         assert {layer_of(one) for one in imported(PACKAGE / f"{name}.py")} <= {""}, name

@@ -11,7 +11,7 @@ pytest.importorskip("plotly", reason="plotly is missing (Debian: python3-plotly)
 
 from test_view import COOKBOOK, browsing, near, page_of, read_back  # noqa: E402
 
-from dnlab.analysis.pipe_series import link_rates  # noqa: E402
+from dnlab.analysis.distributions import link_rates  # noqa: E402
 from dnlab.analysis.series import panel_of, windows  # noqa: E402
 from dnlab.analysis.tables import Tables  # noqa: E402
 from dnlab.analysis.view import View  # noqa: E402

@@ -10,7 +10,7 @@ import pytest
 import dnlab
 from conftest import EXAMPLES, ROOT
 from dnlab import library
-from dnlab.io.origin import read_beside
+from dnlab.io.files import read_beside
 
 NAMED = os.environ.get("LIBDNLAB", "")
 there = pytest.mark.skipif(not NAMED, reason="no library is named by LIBDNLAB (tools/library makes one)")
@@ -24,7 +24,7 @@ def test_a_library_that_is_not_there(monkeypatch: pytest.MonkeyPatch, tmp_path: 
         library.version()
     assert failed.value.status == 2 and "LIBDNLAB" in failed.value.said
     monkeypatch.delenv("LIBDNLAB")
-    monkeypatch.setattr("dnlab.library.places._PLACES", (tmp_path / "none.so",))
+    monkeypatch.setattr("dnlab.library.calls._PLACES", (tmp_path / "none.so",))
     with pytest.raises(dnlab.ProgramError) as failed:
         dnlab.run(FAULTY, engine="library")
     assert failed.value.status == 3 and "tools/library" in failed.value.said

@@ -3,24 +3,24 @@ from pathlib import Path
 
 import pytest
 
-from dnlab.io.report_bound import most_report
-from dnlab.sweeps.making import Maker
+from dnlab.io.splitting import most_report
+from dnlab.sweeps.templates import Renderer
 from dnlab.sweeps.templates import Template
 
 pytest.importorskip("jinja2")
 
 
 @pytest.fixture
-def maker(tmp_path: Path) -> Maker:
+def maker(tmp_path: Path) -> Renderer:
     """Makes texts of a template that includes another file, which is read each time a text is made."""
     (tmp_path / "part.txt").write_text("first")
     (tmp_path / "whole.tmpl").write_text("# {{ seed }} {{ queue }} {% include 'part.txt' %}\n")
-    found = Maker(Template(tmp_path / "whole.tmpl"))
+    found = Renderer(Template(tmp_path / "whole.tmpl"))
     yield found
     found.close()
 
 
-def changed(maker: Maker, folder: Path) -> list[str]:
+def changed(maker: Renderer, folder: Path) -> list[str]:
     """Makes three texts of the same name, the second and third after the included file has changed."""
     texts = [maker.made("a", 1, {"queue": 5}, "a")]
     (folder / "part.txt").write_text("second, another length")
@@ -28,11 +28,11 @@ def changed(maker: Maker, folder: Path) -> list[str]:
     return texts + [maker.made("a", 1, {"queue": 5}, "a"), maker.made("a", 2, {"queue": 5}, "a")]
 
 
-def test_a_text_is_made_once(maker: Maker, tmp_path: Path) -> None:
+def test_a_text_is_made_once(maker: Renderer, tmp_path: Path) -> None:
     assert changed(maker, tmp_path) == ["# 1 5 first\n", "# 1 5 first\n", "# 2 5 second, another length\n"]
 
 
-def test_many_texts_are_not_kept(maker: Maker, tmp_path: Path, monkeypatch: pytest.MonkeyPatch) -> None:
+def test_many_texts_are_not_kept(maker: Renderer, tmp_path: Path, monkeypatch: pytest.MonkeyPatch) -> None:
     monkeypatch.setattr(maker, "_left", len("# 1 5 first\n") - 1)
     assert changed(maker, tmp_path)[1] == "# 1 5 second, another length\n"
 

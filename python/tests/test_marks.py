@@ -6,7 +6,7 @@ from typing import Callable
 import pytest
 from conftest import tool
 
-from dnlab.analysis.marks import MEANS, codes_of
+from dnlab.analysis.diagnostics import MEANS, codes_of
 from dnlab.analysis.view import View
 from dnlab.io import scenario
 from dnlab.io.report import read

@@ -8,7 +8,7 @@ import pytest
 from conftest import tool
 
 import dnlab
-from dnlab.analysis.naming import names_of
+from dnlab.analysis.names import names_of
 from dnlab.testing import expecting
 
 MS = 10**6

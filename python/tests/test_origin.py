@@ -6,7 +6,7 @@ import pytest
 from conftest import tool
 
 import dnlab
-from dnlab.io.origin import beside, check_beside, file_checksum, read_beside, scenario_checksum
+from dnlab.io.files import beside, check_beside, file_checksum, read_beside, scenario_checksum
 from dnlab.io.scenario import read
 
 # No line of the report distinguishes 100 bytes from 200, because the pipe has no rate.

@@ -1,7 +1,7 @@
-"""CUBIC's window (`dnlab.senders.cubic`), compared with numbers calculated by hand from the formulas of RFC 9438."""
+"""CUBIC's window (`dnlab.senders.windows`), compared with numbers calculated by hand from the formulas of RFC 9438."""
 import pytest
 
-from dnlab.senders.cubic import Cubic, curve, plateau_time
+from dnlab.senders.windows import CubicCurve, curve, plateau_time
 
 
 def test_the_curve() -> None:
@@ -19,7 +19,7 @@ def test_the_curve() -> None:
 
 
 def test_slow_start_and_a_loss() -> None:
-    window = Cubic()
+    window = CubicCurve()
     for _ in range(90):
         window.acknowledged(0.0, 0.1)
     assert window.cwnd == 100
@@ -34,28 +34,28 @@ def test_slow_start_and_a_loss() -> None:
 def test_concave_growth() -> None:
     """2 s after the epoch and with 0.1 s of RTT the target is the curve at 2.1 s: 0.4 * (2.1 - 4.217163)^3 + 100 =
     0.4 * -9.489932 + 100 = 96.204027; the window 80 grows by 16.204027 / 80 = 0.202550."""
-    window = Cubic(80.0, 70.0, top=100.0, plateau=plateau_time(100, 70), epoch=10.0, friendly=70.0, prior=100.0)
+    window = CubicCurve(80.0, 70.0, top=100.0, plateau=plateau_time(100, 70), epoch=10.0, friendly=70.0, prior=100.0)
     window.acknowledged(12.0, 0.1)
     assert window.cwnd == pytest.approx(80.202550, abs=1e-6)
 
 
 def test_the_target_is_at_most_half_more() -> None:
     """20 s after the epoch the curve is far above the limit of 1.5 * 80 = 120, so the window grows by 40 / 80."""
-    window = Cubic(80.0, 70.0, top=100.0, plateau=plateau_time(100, 70), epoch=10.0, friendly=70.0, prior=100.0)
+    window = CubicCurve(80.0, 70.0, top=100.0, plateau=plateau_time(100, 70), epoch=10.0, friendly=70.0, prior=100.0)
     window.acknowledged(30.0, 0.1)
     assert window.cwnd == 80.5
 
 
 def test_the_target_isn_t_below_the_window() -> None:
     """At 2 s the curve is at 95.64, below the window of 97, which does not change."""
-    window = Cubic(97.0, 70.0, top=100.0, plateau=plateau_time(100, 70), epoch=10.0, friendly=70.0, prior=100.0)
+    window = CubicCurve(97.0, 70.0, top=100.0, plateau=plateau_time(100, 70), epoch=10.0, friendly=70.0, prior=100.0)
     window.acknowledged(12.0, 0.01)
     assert window.cwnd == 97
 
 
 def test_fast_convergence() -> None:
     """A loss at a window of 90, below W_max = 100: W_max becomes 90 * 1.7 / 2 = 76.5, and 60 in flight leave a window of 42."""
-    window = Cubic(90.0, 70.0, top=100.0)
+    window = CubicCurve(90.0, 70.0, top=100.0)
     window.lost(60)
     assert (window.top, window.ssthresh, window.cwnd) == pytest.approx((76.5, 42, 42))
     window.lost(1)
@@ -64,7 +64,7 @@ def test_fast_convergence() -> None:
 
 def test_a_timeout() -> None:
     """The window is one segment, then slow start up to 70 % of the segments that were in flight. Then the curve starts at its plateau, 28."""
-    window = Cubic(50.0, 30.0, top=60.0)
+    window = CubicCurve(50.0, 30.0, top=60.0)
     window.timed_out(40)
     assert (window.cwnd, window.ssthresh) == (1, pytest.approx(28))
     for _ in range(27):
@@ -80,7 +80,7 @@ def test_a_timeout() -> None:
 
 def test_as_reno_once_it_has_come_back() -> None:
     """W_est grows by 9/17 per window up to the window before the loss, and by 1 afterwards."""
-    window = Cubic(100.0, 70.0, top=1000.0, plateau=100.0, epoch=0.0, friendly=99.999, prior=100.0)
+    window = CubicCurve(100.0, 70.0, top=1000.0, plateau=100.0, epoch=0.0, friendly=99.999, prior=100.0)
     window.acknowledged(100.0, 0.1)
     slow = window.friendly
     assert slow == pytest.approx(99.999 + 9 / 17 / 100)

@@ -128,10 +128,10 @@ def test_a_pool_is_closed_at_once() -> None:
 # A user's script has no `if __name__ == "__main__"`.
 SCRIPT = """import sys, time
 sys.path.insert(0, {tests!r})
-from dnlab.processes import ending
+from dnlab.processes.subprocesses import handle_signals
 from dnlab.processes.process_pool import ProcessPool
 from test_process_pool import doubled, slept
-ending.watch("it")
+handle_signals("it")
 pool = ProcessPool(2)
 pool.submit(1, doubled, 21)
 print(pool.next_result().get(), flush=True)

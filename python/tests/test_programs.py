@@ -15,7 +15,7 @@ import dnlab
 from conftest import ROOT
 from dnlab import programs
 from dnlab.__main__ import COMMANDS, NEEDS, said_of
-from dnlab.cli.words import renamed
+from dnlab.cli.arguments import renamed
 
 # A package without its repository, as pip installs it.
 ALONE = "import sys; sys.path.insert(0, {place!r}); from dnlab.{module} import {name}; print({name}())"

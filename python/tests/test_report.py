@@ -12,7 +12,7 @@ from dnlab.analysis.makings import makings_of
 from dnlab.errors import ParseError
 from dnlab.io import pieces, report, scenario
 from dnlab.io.digits import Text
-from dnlab.io.drops import CAUSES
+from dnlab.io.scenario_parts import DROP_CAUSES
 from dnlab.io.line_reader import Reader
 from dnlab.io.lines import CODES, LISTINGS, WORDS, pipe_code
 
@@ -129,7 +129,7 @@ N = r"(?:0|[1-9][0-9]{0,15})"
 LOAD = rf"(?:plain|(?:data|ack) {N} {N})"
 LINE = re.compile("|".join([
     rf"{N} ok {N}", rf"{N} refused {N} (?:{'|'.join(map(str, CODES))})", rf"{N} (?:arrive|finish|pass) {N} {N}\.{N}",
-    rf"{N} deliver {N} {LOAD}", rf"{N} drop {N} {LOAD} (?:{'|'.join(CAUSES)})", rf"{N} (?:ack|expire) {N} {N} {N}",
+    rf"{N} deliver {N} {LOAD}", rf"{N} drop {N} {LOAD} (?:{'|'.join(DROP_CAUSES)})", rf"{N} (?:ack|expire) {N} {N} {N}",
     rf"{N} spent", rf"{N} make {N} {LOAD} (?:tcp|udp) {N}\.{N}\.{N}\.{N} {N} {N}\.{N}\.{N}\.{N} {N} {N}",
     rf"{N} identify {N}\.{N} [0-9a-f]{{2}}/[0-9a-f]{{8}}/[0-9a-f]{{8}}/[0-9a-f]{{4}}/[0-9a-f]{{4}}",
     *(form.pattern for form in LISTINGS.values())]))

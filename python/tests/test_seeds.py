@@ -17,7 +17,7 @@ pytest.importorskip("scipy", reason="scipy is missing (Debian: python3-scipy)")
 from conftest import ROOT, tool  # noqa: E402
 
 import dnlab  # noqa: E402
-from dnlab.analysis.seeds import compared, needed  # noqa: E402
+from dnlab.sweeps.results import compared, needed  # noqa: E402
 
 MS = 10**6
 # One packet of a random size that depends on the seed; with `cut` the train is longer than the run.

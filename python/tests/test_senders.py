@@ -8,7 +8,7 @@ import pytest
 pytest.importorskip("pandas", reason="pandas is missing (Debian: python3-pandas)")
 
 import dnlab  # noqa: E402
-from dnlab.chance import Chance  # noqa: E402
+from dnlab.rng import Chance  # noqa: E402
 from dnlab.senders import Arrivals, Chain, Cubic, Network, NewReno, Reno, Requests, Web  # noqa: E402
 from dnlab.senders.flows import Ack, Flow, Segment  # noqa: E402
 

@@ -11,9 +11,9 @@ from conftest import EXAMPLES, tool, view_of
 from hypothesis import given
 from hypothesis import strategies as some
 
-from dnlab.analysis.panels import MORE
+from dnlab.analysis.metrics import MORE
 from dnlab.analysis.series import Panel, Series, Span, fewest, panel_of, within
-from dnlab.analysis.shares import overlaid
+from dnlab.analysis.distributions import overlaid
 from dnlab.errors import InputError
 
 MS = 10**6

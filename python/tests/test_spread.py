@@ -19,7 +19,7 @@ from conftest import EXAMPLES, ROOT, in_part, tool
 from hypothesis import given
 from hypothesis import strategies as some
 
-from dnlab.io.report_bound import most_report
+from dnlab.io.splitting import most_report
 from dnlab.io.splitting import experiments_in, groups, shares, texts_of
 
 SPREAD = str(ROOT / "tools" / "spread")

@@ -1,5 +1,5 @@
 """Summaries and sweeps for studies: a part of the time, your own statistics, and settings as columns.
-Values are calculated by hand from the experiments of `dnlab.analysis.by_hand`."""
+Values are calculated by hand from the experiments of `dnlab.analysis.doctest_data`."""
 import csv
 import io
 import json
@@ -14,9 +14,9 @@ pytest.importorskip("scipy", reason="scipy is missing (Debian: python3-scipy)")
 from conftest import tool  # noqa: E402
 
 import dnlab  # noqa: E402
-from dnlab.analysis.by_hand import FLOWS, TRAIN, Run  # noqa: E402
-from dnlab.analysis.rows import Row  # noqa: E402
-from dnlab.analysis.spans import Span  # noqa: E402
+from dnlab.analysis.doctest_data import FLOWS, TRAIN, Run  # noqa: E402
+from dnlab.analysis.metrics import Row  # noqa: E402
+from dnlab.analysis.metrics import Span  # noqa: E402
 from dnlab.analysis.tables import Tables  # noqa: E402
 from dnlab.analysis.view import View  # noqa: E402
 from dnlab.cli.sweep import far  # noqa: E402

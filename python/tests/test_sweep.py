@@ -27,13 +27,13 @@ pytest.importorskip("scipy", reason="scipy is missing (Debian: python3-scipy)")
 from conftest import ROOT, tool  # noqa: E402
 
 import dnlab  # noqa: E402
-from dnlab.analysis.figures import Interval, interval  # noqa: E402
-from dnlab.chance import Chance  # noqa: E402
-from dnlab.processes.progress import Progress  # noqa: E402
-from dnlab.sweeps.grids import cases_of, name_of, seeds_of, setting_of  # noqa: E402
-from dnlab.sweeps.jobs import How  # noqa: E402
+from dnlab.analysis.quantities import Interval, interval  # noqa: E402
+from dnlab.rng import Chance  # noqa: E402
+from dnlab.processes.process_pool import Progress  # noqa: E402
+from dnlab.sweeps.grid import cases_of, name_of, seeds_of, setting_of  # noqa: E402
+from dnlab.sweeps.engines import RunOptions  # noqa: E402
 from dnlab.sweeps.templates import Template  # noqa: E402
-from dnlab.sweeps.values import value_of  # noqa: E402
+from dnlab.sweeps.grid import value_of  # noqa: E402
 
 BOTTLENECK = ROOT / "python" / "examples" / "bottleneck.tmpl"
 # One packet of a random size that depends on the seed, over a link of 1 Mbit/s: 8000 ns per byte, and the delay.
@@ -495,8 +495,8 @@ def test_an_engine_that_is_not_there(tmp_path: Path, program: str, monkeypatch: 
     for on, said in ("4/alpha", "parallel is missing (Debian: parallel)"), ("slurm", "sbatch is missing (Debian: slurm-client)"):
         with pytest.raises(dnlab.InputError, match=re.escape(f"--on {on}: {said}")):
             dnlab.sweep(text, delay=5, of="train 1", stat="delay.p95", on=on, dnlab=program).run()
-    assert How(ssh="4/alpha", program="/opt/{a}").fault() == "--program /opt/{a}: parallel would fill in its braces"
-    assert How().fault() is None
+    assert RunOptions(ssh="4/alpha", program="/opt/{a}").fault() == "--program /opt/{a}: parallel would fill in its braces"
+    assert RunOptions().fault() is None
 
 
 def test_ended_from_outside(tmp_path: Path, program: str) -> None:
@@ -607,7 +607,7 @@ def test_limits_of_a_template(text: str, cause: str, tmp_path: Path, program: st
 
 def test_a_template_without_end(monkeypatch: pytest.MonkeyPatch) -> None:
     """Its process is ended after some time, and the sweep reports that."""
-    monkeypatch.setattr("dnlab.sweeps.making.MOST_SECONDS", 1.0)
+    monkeypatch.setattr("dnlab.sweeps.templates.MOST_SECONDS", 1.0)
     text = "{% for i in range(10**6) %}{% for j in range(10**6) %}{% endfor %}{% endfor %}\n" + ONE
     made = dnlab.sweep(text, delay=5)
     with pytest.raises(dnlab.InputError, match=r"^template: line 1: rendering it takes more than 1 s$"):

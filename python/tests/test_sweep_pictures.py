@@ -8,8 +8,8 @@ from conftest import tool
 curves = pytest.importorskip("dnlab.plot.curves", reason="matplotlib is missing (Debian: python3-matplotlib)")
 
 from dnlab.errors import InputError  # noqa: E402
-from dnlab.plot import names  # noqa: E402
-from dnlab.plot.looks import Look, judge  # noqa: E402
+from dnlab.analysis import names  # noqa: E402
+from dnlab.plot.style import Look, judge  # noqa: E402
 
 MS, MBIT = 10**6, 10**6
 # The call's delay and the flows' goodput with queues of 10 and 50 packets and with CoDel: mean and half of the interval.

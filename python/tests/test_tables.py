@@ -6,15 +6,15 @@ from conftest import EXAMPLES, text_of, view_of
 from hypothesis import given
 from hypothesis import strategies as some
 
-from dnlab.analysis.estimates import half_of
-from dnlab.analysis.figures import Interval, interval, jain, percentile_name, place
-from dnlab.analysis.losses import losses, windows
-from dnlab.analysis.options import varied
-from dnlab.analysis.rows import times_of
-from dnlab.analysis.summing import grouped
+from dnlab.analysis.quantities import half_of
+from dnlab.analysis.quantities import Interval, interval, jain, percentile_name, place
+from dnlab.analysis.tables import losses, windows_of
+from dnlab.analysis.names import varied
+from dnlab.analysis.metrics import times_of
+from dnlab.analysis.summary import grouped
 from dnlab.analysis.tables import Tables
 from dnlab.analysis.view import View
-from dnlab.cli.layout import milliseconds, table
+from dnlab.cli.summary import milliseconds, table
 from dnlab.errors import InputError
 from dnlab.io import report, scenario
 
@@ -143,14 +143,14 @@ def test_a_flow_that_gets_nothing_counts_in_jain(alone) -> None:
 
 def test_windows() -> None:
     view = View(next(report.read(BOTH_REPORT)), scenario.read(BOTH)["both"])
-    rows = [row for row in windows(view, 2000001) if row["sender"] == "flow 1"]
+    rows = [row for row in windows_of(view, 2000001) if row["sender"] == "flow 1"]
     # The end of a window is not in it: the second segment arrives in the second window.
     assert [(row["begin"], row["end"], row["packets"], row["bytes"], row["useful"]) for row in rows[:3]] == [
         (0, 2000001, 1, 1000, 960), (2000001, 4000002, 1, 1000, 960), (4000002, 6000003, 0, 0, 0)]
     assert (rows[0]["rate"], rows[0]["goodput"]) == (1000 * 8 * 10**9 // 2000001, 960 * 8 * 10**9 // 2000001)
     assert rows[-1]["end"] == 10**9 and len(rows) == 500
     with pytest.raises(InputError, match="choose a longer interval"):
-        windows(view, 1)
+        windows_of(view, 1)
 
 
 def test_losses() -> None:

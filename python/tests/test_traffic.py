@@ -8,11 +8,11 @@ import pytest
 
 pytest.importorskip("jinja2", reason="jinja2 is missing (Debian: python3-jinja2)")
 
-from dnlab.chance import Chance  # noqa: E402  (what is wanted is asked for first)
+from dnlab.rng import Chance  # noqa: E402  (what is wanted is asked for first)
 from dnlab.errors import InputError  # noqa: E402
 from dnlab.io.scenario import read  # noqa: E402
 from dnlab.sweeps.templates import Template  # noqa: E402
-from dnlab.sweeps.traffic import Traffic  # noqa: E402
+from dnlab.rng import Traffic  # noqa: E402
 
 SECOND = 10**9
 TEMPLATE = """experiment {{ name }} seed {{ seed }} budget 1000

@@ -24,12 +24,12 @@ HERE = pathlib.Path(__file__).resolve().parent
 sys.path.insert(0, str(HERE.parents[1] / "python"))
 
 import dnlab  # noqa: E402  (the path is set first)
-from dnlab.processes import ending  # noqa: E402
-from dnlab.errors import status_of# noqa: E402
+from dnlab.processes import subprocesses  # noqa: E402
+from dnlab.errors import status_of  # noqa: E402
 from dnlab.hosts import Loop  # noqa: E402
 from dnlab.senders import Timeout  # noqa: E402
-from dnlab.senders.cubic import Cubic  # noqa: E402
-from dnlab.session.events import Address, Event# noqa: E402
+from dnlab.senders.windows import CubicCurve  # noqa: E402
+from dnlab.session.transport import Address, Event  # noqa: E402
 
 MS, S = 10**6, 10**9
 SENDER, RECEIVER = ("10.0.0.9", 1000), ("10.0.1.9", 80)
@@ -56,7 +56,7 @@ class Sender:
 
     def __init__(self, loop: Loop, here: Address, there: Address, packets: int) -> None:
         self.loop, self.here, self.there = loop, here, there
-        self.window, self.timeout = Cubic(), Timeout()
+        self.window, self.timeout = CubicCurve(), Timeout()
         # The packets that are still to be sent, the last one first; and those in flight: when each was sent (ns), and its
         # place in the order of sending.
         self.waiting = list(range(packets))[::-1]
@@ -180,7 +180,7 @@ def main() -> int:
     parser.add_argument("--trace", action="store_true", help="report when each packet is created, as tools/pcap needs")
     parser.add_argument("--reno", action="store_true", help="add a built-in Reno flow in the same direction")
     words = parser.parse_args()
-    ending.watch("own_sender")
+    subprocesses.handle_signals("own_sender")
     try:
         run(words)
     except (dnlab.InputError, dnlab.ProgramError, dnlab.ExperimentEndedError, OSError) as fault:

@@ -14,11 +14,11 @@ from pathlib import Path
 from typing import Any, Callable, Iterable, Iterator, NamedTuple, Optional, Sequence, Union
 
 from dnlab.analysis.metrics import Metric, is_named, metric_of, percentiles_in
-from dnlab.analysis.notes import Note
-from dnlab.analysis.rows import Row
+from dnlab.errors import Note
+from dnlab.analysis.metrics import Row
 from dnlab.errors import InputError
-from dnlab.io.drops import CAUSES
-from dnlab.units import amount_of, shown
+from dnlab.io.scenario_parts import DROP_CAUSES
+from dnlab.analysis.quantities import amount_of, shown
 
 SIGNS: dict[str, Callable[[Any, Any], bool]] = {"<=": operator.le, ">=": operator.ge, "==": operator.eq,
                                                 "!=": operator.ne, "<": operator.lt, ">": operator.gt, "=": operator.eq}
@@ -227,7 +227,7 @@ def _easy(bound: Bound, rows: Sequence[Row], bounded: set[tuple[str, str]]) -> s
     if not bound.metric.is_delay() or bound.sign not in ("<", "<=") or bound.metric.word == "delay.least":
         return ""
     for row in rows:
-        lost = sum(row.get(cause) or 0 for cause in CAUSES)
+        lost = sum(row.get(cause) or 0 for cause in DROP_CAUSES)
         if lost and (row["experiment"], row["sender"]) not in bounded:
             return (f"; {lost} of the {row['packets']} packets of {_place(row)} were dropped and have no delay: add a"
                     f" bound such as '{row['sender']}: loss < 1%'")

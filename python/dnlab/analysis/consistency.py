@@ -9,19 +9,19 @@ from typing import TYPE_CHECKING
 
 import numpy as np
 
-from dnlab.analysis import routes
+from dnlab.analysis import commands
 from dnlab.analysis.commands import distinct
 from dnlab.analysis.packets import DROPPED, HELD
 from dnlab.errors import ParseError
 from dnlab.io.digits import Flags, Ints
-from dnlab.io.drops import CAUSES
+from dnlab.io.scenario_parts import DROP_CAUSES
 from dnlab.io.lines import ACK, DELIVER, EXPIRE, FINISH, OK, PASS, REFUSED, pipe_name
 from dnlab.io.scenario_parts import MASKS
 
 if TYPE_CHECKING:
     from dnlab.analysis.view import View
 
-_DENIED, _LOST, _FULL, _CODEL, _BUDGET = (DROPPED + CAUSES.index(cause) for cause in ("denied", "lost", "full", "codel", "budget"))
+_DENIED, _LOST, _FULL, _CODEL, _BUDGET = (DROPPED + DROP_CAUSES.index(cause) for cause in ("denied", "lost", "full", "codel", "budget"))
 # Losses with a lower probability than this are not attributed to chance.
 _SURELY_NOT = 1e-10
 _NEVER = 2**62
@@ -127,17 +127,17 @@ def _ways(view: View) -> None:
     """Checks where each packet went first, by the rules at its time."""
     headers, which = view.headers
     epochs = view.epochs
-    settled = routes.is_settled(view, epochs, which) & (view.packets.outcome != _BUDGET)
+    settled = commands.is_settled(view, epochs, which) & (view.packets.outcome != _BUDGET)
     at = np.searchsorted(np.array([epoch.moment for epoch in epochs]), view.packets.made, "right") - 1
     first = _first_pipes(view)
     for place, epoch in enumerate(epochs):
         own = np.flatnonzero(settled & (at == place))
         if not len(own):
             continue
-        ends = routes.search(epoch, headers)[0][which[own]]
+        ends = commands.search(epoch, headers)[0][which[own]]
         fate, pipe = view.packets.outcome[own], first[own]
-        wrong = (ends == routes.DENIED) & (fate != _DENIED) & (fate != HELD)
-        wrong |= (ends == routes.ALLOWED) & ((pipe > 0) | (fate == _DENIED))
+        wrong = (ends == commands.DENIED) & (fate != _DENIED) & (fate != HELD)
+        wrong |= (ends == commands.ALLOWED) & ((pipe > 0) | (fate == _DENIED))
         wrong |= (ends > 0) & (pipe > 0) & (pipe != ends)
         _refuse_way(view, own, wrong, ends)
 
@@ -145,7 +145,7 @@ def _ways(view: View) -> None:
 def _refuse_way(view: View, own: Ints, wrong: Flags, ends: Ints) -> None:
     if wrong.any():
         place = int(np.flatnonzero(wrong)[0])
-        said = {routes.DENIED: "deny it", routes.ALLOWED: "allow it at once"}.get(int(ends[place]), f"send it to pipe {ends[place]} first")
+        said = {commands.DENIED: "deny it", commands.ALLOWED: "allow it at once"}.get(int(ends[place]), f"send it to pipe {ends[place]} first")
         raise _no(view, f"packet {own[place]} of {view.packets.names[view.packets.who[own[place]]]} did not go where the rules send it,"
                   f" which {said}")
 

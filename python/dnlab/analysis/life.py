@@ -4,7 +4,7 @@ from dataclasses import dataclass
 import numpy as np
 
 from dnlab.io.digits import Flags, Ints
-from dnlab.io.settings import Change, Config
+from dnlab.io.scenario_parts import Change, Config
 
 
 @dataclass

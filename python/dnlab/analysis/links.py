@@ -15,11 +15,11 @@ from dnlab.analysis.life import Life, limits
 from dnlab.analysis.makings import Makings
 from dnlab.analysis.packets import HELD, Packets, Visits, never_seen
 from dnlab.io.digits import Ints
-from dnlab.io.drops import CAUSES
+from dnlab.io.scenario_parts import DROP_CAUSES as CAUSES
 from dnlab.io.lines import DATA, DELIVER, DROP, FINISH, PASS, PLAIN, pipe_name
 from dnlab.io.report import Recorded
 from dnlab.io.scenario_parts import Command, Plan
-from dnlab.io.settings import Change, changes_of, stretches_of
+from dnlab.io.scenario_parts import Change, changes_of, stretches_of
 
 _FULL, _LOST, _CODEL = (CAUSES.index(cause) for cause in ("full", "lost", "codel"))
 # Below this many bytes, 8 * 10^9 times their number is below 2^63.

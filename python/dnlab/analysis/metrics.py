@@ -1,13 +1,106 @@
-"""The metrics of a summary's rows by name, as `delay.p95`, for `compare` and `expect`."""
+"""Metrics and rows of summaries: their names, units and values, and the time range that they are about."""
+import gzip
+import json
 import re
+import zlib
+from contextlib import contextmanager
 from fnmatch import fnmatchcase
 from fractions import Fraction
-from typing import Iterable, NamedTuple, Optional
+from typing import IO, TYPE_CHECKING, Any, Iterable, Iterator, NamedTuple, Optional, Sequence, cast
 
-from dnlab.analysis.figures import percentile_name
-from dnlab.analysis.rows import PERCENTILES, WHOLE, Row, times_of
-from dnlab.io.drops import CAUSES
-from dnlab.units import ENDINGS, shown
+from dnlab.analysis.quantities import ENDINGS, Percentile, percentile_name, shown
+from dnlab.errors import InputError
+from dnlab.io.scenario_parts import DROP_CAUSES
+
+if TYPE_CHECKING:
+    from dnlab.analysis.view import View
+    from dnlab.io.digits import Flags, Ints
+
+
+class Span(NamedTuple):
+    """A time range from `begin` to before `end`, ns; without an end, to the experiment's end."""
+    begin: int = 0
+    end: Optional[int] = None
+
+    def is_whole(self) -> bool:
+        """Returns whether nothing is left out.
+
+        >>> Span().is_whole(), Span(0, 5).is_whole()
+        (True, False)
+        """
+        return self.begin == 0 and self.end is None
+
+    def has(self, moments: "Ints") -> "Flags":
+        """Returns which times (ns, shape (n,)) are in it: `begin` is and `end` isn't. If it is whole, all are, even unknown ones.
+
+        >>> import numpy as np
+        >>> Span(2, 5).has(np.array([-1, 1, 2, 4, 5])).tolist()
+        [False, False, True, True, False]
+        """
+        found: Flags = moments == moments if self.is_whole() else moments >= self.begin
+        return found if self.end is None else found & (moments < self.end)
+
+    def is_over(self, moments: "Ints") -> "Flags":
+        """Returns which times (ns, shape (n,)) are after it."""
+        found: Flags = moments != moments if self.end is None else moments >= self.end
+        return found
+
+    def words(self) -> str:
+        """Returns the range as text, '' if it is whole.
+
+        >>> Span(10).words(), Span(0, 5).words()
+        ('10..', '0..5')
+        """
+        return "" if self.is_whole() else f"{self.begin}..{'' if self.end is None else self.end}"
+
+    def check(self, view: "View") -> None:
+        """Raises `InputError` if the experiment has nothing in the range, or if the creation times of packets are unknown."""
+        if self.is_whole():
+            return
+        if not view.is_told:
+            raise InputError(f"experiment {view.name}: --from and --to need its scenario, or a report made with `trace 1`")
+        last = view.ended.moment
+        if self.begin >= last:
+            raise InputError(f"experiment {view.name}: it ended at {last} ns, but --from is {self.begin} ns: choose an earlier time")
+
+
+def span_of(begin: int = 0, end: Optional[int] = None) -> Span:
+    """Returns a range of whole nanoseconds. Raises `InputError` if it ends before it starts.
+
+    >>> span_of(5, 7)
+    Span(begin=5, end=7)
+    """
+    if begin < 0 or (end is not None and end <= begin):
+        raise InputError(f"--from {begin} ns, --to {end} ns: the second time must be later than the first, and neither may be negative")
+    return Span(begin, end)
+
+
+Row = dict[str, Any]
+# Rows of all senders, or of those of one direction; they have all warnings.
+WHOLE = ("there", "back", "all")
+PERCENTILES: tuple[Percentile, ...] = (50, 99)
+_COUNTS = ("packets", "delivered", "in_flight", "bytes", "first", "last", "time", "rate")
+_MORE = ("mean", "jitter", "useful", "goodput", "utilisation", "retransmissions", "fct", "jain", "seed", "budget_packets",
+         "budget_steps", "params", "varied", "refused", "codes", "ended", "ended_at", "end", "warnings")
+
+
+def times_of(percentiles: Sequence[Percentile]) -> tuple[str, ...]:
+    """Returns the columns of one-way delays."""
+    return "min", *(percentile_name(one) for one in percentiles), "max"
+
+
+def columns_of(percentiles: Sequence[Percentile] = PERCENTILES, span: Span = Span()) -> tuple[str, ...]:
+    """Returns all columns of a summary, in order; for a time range with `from` and `to` at the end."""
+    return ("experiment", "sender", *_COUNTS, *DROP_CAUSES, *times_of(percentiles), *_MORE,
+            *(() if span.is_whole() else ("from", "to")))
+
+
+WHAT = ("window", "queue", "sojourn", "delivered", "drops")
+# Panels that are drawn only on request; `dnlab.analysis.distributions` makes all except `flight`.
+MORE = ("flight", "throughput", "cdf:sojourn", "cdf:throughput", "box:sojourn", "box:throughput")
+# Former names of panels.
+ALIASES = {"rate": "delivered"}
+
 
 _PERCENTILE = re.compile(r"delay\.p([0-9]{1,3}(?:\.[0-9]{1,6})?)")
 # Columns of a summary by their unit.
@@ -23,7 +116,7 @@ _NOT_OF = {"useful": ("acks", "pipe"), "goodput": ("acks", "pipe")}
 
 
 class Metric(NamedTuple):
-    """A metric: its name, the kind of its amounts (a key of `dnlab.units.UNITS`), and its column in a summary.
+    """A metric: its name, the kind of its amounts (a key of `dnlab.analysis.quantities.UNITS`), and its column in a summary.
 
     `loss` (drops divided by created packets) and `drops` (their sum) are computed from several columns, and have none of their own."""
     word: str
@@ -33,9 +126,9 @@ class Metric(NamedTuple):
     def of(self, row: Row) -> Optional[Fraction]:
         """Returns its value in a row, in base units (ns, bytes, bit/s, fractions, counts), or None if unknown.
 
-        Each metric, for the experiments of `dnlab.analysis.by_hand`. Two of the train's four packets arrived, after 11 and 12 ms:
+        Each metric, for the experiments of `dnlab.analysis.doctest_data`. Two of the train's four packets arrived, after 11 and 12 ms:
 
-        >>> from dnlab.analysis.by_hand import FLOWS, TRAIN, rows_of
+        >>> from dnlab.analysis.doctest_data import FLOWS, TRAIN, rows_of
         >>> train, pipe = (rows_of(TRAIN)[name] for name in ("train 1", "pipe 1.0"))
         >>> def told(row, *words): return [str(metric_of(word).of(row)) for word in words]
         >>> told(train, "packets", "delivered", "in_flight", "drops", "drops.full", "drops.lost", "loss")
@@ -71,7 +164,7 @@ class Metric(NamedTuple):
             if self.kind == "ending" and value is not None:
                 value = ENDINGS.index(value)
             return None if value is None else Fraction(value)
-        counts = [row.get(cause) for cause in CAUSES]
+        counts = [row.get(cause) for cause in DROP_CAUSES]
         if any(count is None for count in counts):
             return None
         dropped = sum(count for count in counts if count is not None)
@@ -140,7 +233,7 @@ def is_named(of: str, pattern: str) -> bool:
 
 
 # As in messages and help.
-WORDS = (*_PLAIN, "loss", "drops", *(f"drops.{cause}" for cause in CAUSES), *map("delay.{}".format, _DELAYS), "delay.pN")
+WORDS = (*_PLAIN, "loss", "drops", *(f"drops.{cause}" for cause in DROP_CAUSES), *map("delay.{}".format, _DELAYS), "delay.pN")
 
 
 def refuse_share(percentile: str) -> None:
@@ -167,7 +260,7 @@ def metric_of(word: str) -> Metric:
         return Metric(word, "share", "")
     if word == "drops":
         return Metric(word, "count", "")
-    if word.startswith("drops.") and word[6:] in CAUSES:
+    if word.startswith("drops.") and word[6:] in DROP_CAUSES:
         return Metric(word, "count", word[6:])
     if word.startswith("delay.") and word[6:] in _DELAYS:
         return Metric(word, "time", word[6:])
@@ -190,3 +283,38 @@ def percentiles_in(found: Iterable[Metric]) -> list[str]:
     """Returns the percentiles that a summary must have for some metrics."""
     names = dict.fromkeys(one.column[1:] for one in found if one.word.startswith("delay.") and one.column not in ("min", "mean", "max"))
     return list(names)
+
+
+def stored_rows(name: str) -> Optional[dict[str, list[Row]]]:
+    """Returns the rows of a file of `dnlab-summary --json`, by experiment, or None for a report. Standard input is a report."""
+    if name == "-":
+        return None
+    with opened(name) as file:
+        if file.read(1) != b"[":
+            return None
+        text = b"[" + file.read()
+    try:
+        rows = json.loads(text)
+        found: dict[str, list[Row]] = {}
+        for row in (dict(one) for one in rows):
+            # Columns that every row of a summary has, and no row of --every, --losses or --by.
+            if not {"experiment", "sender", "packets", "delivered", "in_flight", "warnings"} <= set(row):
+                raise ValueError
+            found.setdefault(row["experiment"], []).append(row)
+    except (ValueError, TypeError):
+        raise InputError(f"{name}: it is not a complete summary: `dnlab-summary REPORT SCENARIO --json` makes one") from None
+    return found
+
+
+@contextmanager
+def opened(name: str) -> Iterator[IO[bytes]]:
+    """Opens a file, decompressed if it is gzip. Raises `InputError` if it can't be read."""
+    try:
+        with open(name, "rb") as file:
+            is_packed = file.read(2) == b"\x1f\x8b"
+        with gzip.open(name) if is_packed else open(name, "rb") as plain:
+            yield cast(IO[bytes], plain)
+    except (EOFError, zlib.error, gzip.BadGzipFile) as fault:
+        raise InputError(f"{name}: line 1: its gzip is cut or damaged ({fault})") from None
+    except OSError as fault:
+        raise InputError(f"{name}: {fault.strerror}") from None

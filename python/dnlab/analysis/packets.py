@@ -8,7 +8,7 @@ from numpy.typing import NDArray
 
 from dnlab.analysis.makings import Makings
 from dnlab.io.digits import Flags, Ints
-from dnlab.io.drops import CAUSES
+from dnlab.io.scenario_parts import DROP_CAUSES as CAUSES
 from dnlab.io.lines import ACKNOWLEDGES, ARRIVE, DATA, DELIVER, DROP, FINISH, KINDS, MAKE, PASS, PLAIN
 from dnlab.io.report import Recorded
 

@@ -1,34 +1,179 @@
-"""Reports for scripts: `read` and `run` return a `Report`, whose experiments are read on demand."""
+"""Reports for scripts: `read` and `run` return a `Report`, whose experiments are read on demand, by several processes if there are many."""
+import os
+import sys
 import warnings
 from collections.abc import Mapping
 from functools import cached_property
 from pathlib import Path
-from typing import TYPE_CHECKING, Any, Iterator, Optional, Sequence, Union
+from typing import TYPE_CHECKING, Any, BinaryIO, Callable, Iterable, Iterator, NamedTuple, Optional, Sequence, TypeVar, Union
 
-from dnlab.analysis.figures import Percentile
-from dnlab.analysis.naming import with_names
-from dnlab.analysis.options import columns_in, varied
-from dnlab.analysis.rows import PERCENTILES, columns_of
-from dnlab.analysis.spans import span_of
-from dnlab.analysis.work import Given, bytes_of, lacking, pieces_of, plans_of
-from dnlab.errors import InputError
-from dnlab.io.origin import Origin, check_beside
-from dnlab.io.pieces import Piece
+from dnlab.analysis.metrics import PERCENTILES, columns_of, span_of
+from dnlab.analysis.names import columns_in, varied, with_names
+from dnlab.analysis.quantities import Percentile
+from dnlab.errors import InputError, ParseError
+from dnlab.io import scenario
+from dnlab.io.files import Origin, check_beside, unpacked
+from dnlab.io.pieces import Piece, pieces
 from dnlab.io.scenario_parts import Plan
 
 if TYPE_CHECKING:
     import pandas as pd
 
     from dnlab.analysis.results import Experiment
+    from dnlab.analysis.view import View
+    from dnlab.processes.process_pool import ProcessPool
+
+T = TypeVar("T")
+# For reports below this many bytes a second process costs more than it saves.
+_WORTH = 20_000_000
+
+
+class Inputs(NamedTuple):
+    """A report and its scenarios, as named on a command line; `-` is standard input."""
+    report: str
+    scenarios: tuple[str, ...] = ()
+
+    def scenario(self) -> str:
+        """Returns the scenarios' names, for a message."""
+        return ", ".join(self.scenarios)
+
+
+def cores() -> int:
+    """Returns how many cores this process may use."""
+    return len(os.sched_getaffinity(0)) if hasattr(os, "sched_getaffinity") else os.cpu_count() or 1
+
+
+def bytes_of(name: str) -> bytes:
+    """Returns the bytes of a file, or of standard input (`-`), decompressed if gzip. Raises `InputError` if they can't be read."""
+    try:
+        return unpacked(sys.stdin.buffer.read() if name == "-" else Path(name).read_bytes())
+    except OSError as fault:
+        raise InputError(f"{name}: {fault.strerror}") from None
+    except ParseError as refused:
+        raise InputError(f"{name}: {refused}") from None
+
+
+def plans_of(names: Sequence[str]) -> Optional[dict[str, Plan]]:
+    """Returns the experiments of some scenarios, by name, or None if no scenario is named."""
+    plans: dict[str, Plan] = {}
+    for name in names:
+        try:
+            found = scenario.read(bytes_of(name))
+        except ParseError as refused:
+            raise InputError(f"{name}: {refused}") from None
+        for plan in found.values():
+            if plan.name in plans:
+                raise InputError(f"{name}: line {plan.line}: a second experiment {plan.name}")
+            plans[plan.name] = plan
+    return plans if names else None
+
+
+def pieces_of(report: str, wanted: Sequence[str] = ()) -> Iterator[Piece]:
+    """Yields the experiments of a report's file, or of standard input. Errors have the file's name."""
+    source: Union[str, BinaryIO] = sys.stdin.buffer if report == "-" else report
+    missing = set(wanted)
+    try:
+        for piece in pieces(source, wanted):
+            missing.discard(piece.name)
+            yield piece
+    except OSError as fault:
+        raise InputError(f"{report}: {fault.strerror}") from None
+    except ParseError as refused:
+        raise InputError(f"{report}: {refused}") from None
+    for name in wanted:
+        if name in missing:
+            raise InputError(f"{report}: it has no experiment {name}")
+
+
+def lacking(report: str, scenario: str, names: Sequence[str]) -> None:
+    """Raises `InputError` for a report that lacks experiments of its scenario."""
+    if names:
+        more = f" and {len(names) - 1} more" if len(names) > 1 else ""
+        raise InputError(f"{report}: it has no experiment {names[0]}{more}, which {scenario} has: was it cut short? (--experiment"
+                     " reads those that it has)")
+
+
+class TooMany(InputError):
+    """A report has too many experiments: `count` of them, where `most` are allowed."""
+
+    def __init__(self, count: str, most: int) -> None:
+        super().__init__(f"{count} experiments are too many ({most} at most)")
+        self.count = count
+        self.most = most
+
+
+def _task(function: "Callable[[View], T]", piece: Piece, plans: Optional[dict[str, Plan]], given: Inputs) -> T:
+    from dnlab.analysis.view import view_of
+
+    return function(view_of(piece, plans, given.report, given.scenario()))
+
+
+def map_experiments(given: Inputs, function: "Callable[[View], T]", plans: Optional[dict[str, Plan]], wanted: Sequence[str] = (),
+         workers: Optional[int] = None, tool: str = "dnlab", most: Optional[int] = None) -> Iterator[T]:
+    """Yields the results of a function for each experiment, in the report's order, using `workers` processes (by default all cores if the
+    report is long).
+
+    Another process must be able to import the function by name. A file with more than `most` experiments is refused before one is
+    read."""
+    # Imported here, because running and reading a scenario needs no processes.
+    from dnlab.processes.process_pool import Progress
+
+    found: Iterable[Piece] = pieces_of(given.report, wanted)
+    total = None
+    if given.report != "-":
+        found = list(found)
+        total = len(found)
+        if workers is None:
+            workers = cores() if sum(map(len, found)) >= _WORTH else 1
+        workers = max(1, min(workers, total))
+        if most is not None and total > most:
+            raise TooMany(str(total), most)
+    with Progress(tool, total) as progress:
+        if (workers or 1) == 1:
+            for piece in found:
+                yield _task(function, piece, plans, given)
+                progress.step()
+        else:
+            for made in _by_processes(given, function, plans, found, workers or 1):
+                yield made
+                progress.step()
+
+
+def _by_processes(given: Inputs, function: "Callable[[View], T]", plans: Optional[dict[str, Plan]],
+                  found: Iterable[Piece], workers: int) -> Iterator[T]:
+    """Yields results in order; early ones wait. Only a few jobs are submitted ahead, so that few texts are in memory."""
+    from dnlab.processes.process_pool import ProcessPool
+
+    done: dict[int, T] = {}
+    head = 0
+    with ProcessPool[int](workers) as pool:
+        for number, piece in enumerate(found):
+            own = None if plans is None else {piece.name: plans[piece.name]} if piece.name in plans else {}
+            pool.submit(number, _task, function, piece, own, given)
+            while number - head > workers + 1:
+                yield from _in_order(pool, done, head)
+                head += 1
+        while len(pool) or head in done:
+            yield from _in_order(pool, done, head)
+            head += 1
+
+
+def _in_order(pool: "ProcessPool[int]", done: dict[int, T], head: int) -> Iterator[T]:
+    """Returns the result of the first job that has not been returned yet."""
+    while head not in done:
+        outcome = pool.next_result()
+        done[outcome.token] = outcome.get()
+    yield done.pop(head)
+
 
 Names = Union[str, Path, Sequence[Union[str, Path]]]
 
 
 def _made_anew(report: bytes, scenarios: Sequence[bytes], given_names: Mapping[str, str]) -> "Report":
     """Restores a report that was pickled by another process, with files of its own."""
-    from dnlab.processes.rooms import Room
+    from dnlab.processes.subprocesses import TempDir
 
-    room = Room()
+    room = TempDir()
     files = [room.path / "report.txt", *(room.path / f"scenario{place}.txt" for place in range(len(scenarios)))]
     for file, data in zip(files, [report, *scenarios]):
         file.write_bytes(data)
@@ -41,7 +186,7 @@ class Report(Mapping[str, "Experiment"]):
     def __init__(self, report: Union[str, Path], scenario: Names = (), keep: Any = None,
                  origin: Optional[Origin] = None, names: Optional[Mapping[str, str]] = None) -> None:
         files = [scenario] if isinstance(scenario, (str, Path)) else scenario
-        self.given = Given(str(report), tuple(str(name) for name in files))
+        self.given = Inputs(str(report), tuple(str(name) for name in files))
         # Objects that must live as long as the report: the file of a run without a name.
         self._keep = keep
         # What made it: the checksums of scenario and program, its version, the command; None if unknown.
@@ -95,13 +240,13 @@ class Report(Mapping[str, "Experiment"]):
     def params(self, changed: bool = False) -> "pd.DataFrame":
         """Returns a row per experiment, with a column per option of its pipes, flows and trains, as `pipe1_queue`, defaults included
         (bit/s, ns). `changed` leaves out options that are the same in all. Needs the scenario."""
-        from dnlab.analysis import frames
+        from dnlab.analysis import results
 
         if self.plans is None:
             raise InputError(f"{self.given.report}: its settings are in its scenario, which was not given")
         rows = [{"experiment": name, **columns_in(self.plans[name])} for name in self]
         columns = list(dict.fromkeys(name for row in rows for name in row))
-        frame = frames.of_rows(rows, columns).set_index("experiment")
+        frame = results.of_rows(rows, columns).set_index("experiment")
         return frame if not changed else frame[[name for name in frame if frame[name].nunique(dropna=False) > 1]]
 
     def summary(self, percentiles: Sequence[Percentile] = PERCENTILES, of: Sequence[str] = (),
@@ -110,15 +255,15 @@ class Report(Mapping[str, "Experiment"]):
         """Returns the rows of `Experiment.summary`, for all experiments or those named. Several processes read long reports.
 
         `of` selects rows by name, such as "train *". `names` replaces those of `read`."""
-        from dnlab.analysis import frames
-        from dnlab.analysis.summing import summed
+        from dnlab.analysis import results
+        from dnlab.analysis.summary import summed
 
         patterns = [of] if isinstance(of, str) else of
         span = span_of(begin, end)
         plans = with_names(self.plans, names or {}, experiments)
         rows = [row for one in summed(self.given, plans, experiments, percentiles, patterns, workers=workers, span=span)
                 for row in one.rows]
-        return frames.of_rows(rows, columns_of(percentiles, span))
+        return results.of_rows(rows, columns_of(percentiles, span))
 
 
 def read(report: Union[str, Path], scenario: Names = (), names: Optional[Mapping[str, str]] = None) -> Report:

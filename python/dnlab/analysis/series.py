@@ -12,11 +12,11 @@ from numpy.typing import NDArray
 
 from dnlab.analysis.emissions import first_window
 from dnlab.analysis.packets import DELIVERED, DROPPED
-from dnlab.analysis.panels import ALIASES
-from dnlab.analysis.spans import Span
+from dnlab.analysis.metrics import ALIASES
+from dnlab.analysis.metrics import Span
 from dnlab.analysis.view import Note, View
 from dnlab.io.digits import Ints
-from dnlab.io.drops import CAUSES
+from dnlab.io.scenario_parts import DROP_CAUSES
 from dnlab.io.lines import ACK, DATA, DROP, EXPIRE, Columns
 
 # With more lines, a panel is unreadable without colour. Windows are drawn for at most FLOWS flows.
@@ -78,14 +78,14 @@ def panel_of(view: View, what: str, span: Span = Span(), every: Optional[int] = 
     `every` is the length of an interval of throughput, ns; by default a round number (1, 2 or 5 with zeros) for 50 or more.
     `effective` adds the effective windows, and `acks` the senders of acknowledgements."""
     # Imported here, because they import this module.
-    from dnlab.analysis import pipe_series, shares
+    from dnlab.analysis import distributions
 
     view = view if acks else without_acks(view)
     what = ALIASES.get(what, what)
     makers: dict[str, Callable[[View], Panel]] = {
-        "window": lambda view: windows(view, FLOWS, effective), "queue": pipe_series.queues, "flight": pipe_series.flights,
+        "window": lambda view: windows(view, FLOWS, effective), "queue": distributions.queues, "flight": distributions.flights,
         "sojourn": sojourns, "delivered": rates, "drops": drops}
-    panel = makers[what](view) if what in makers else shares.panel_of(view, what, span, every)
+    panel = makers[what](view) if what in makers else distributions.panel_of(view, what, span, every)
     if not panel.across and panel.series and span != Span():
         panel.series = [one for one in (within(one, span) for one in panel.series) if len(one.moments)]
         panel.words = panel.words if panel.series else "no events in this time range"
@@ -241,7 +241,7 @@ def sojourns(view: View, limit: Optional[int] = MOST) -> Panel:
 def rates(view: View, limit: Optional[int] = MOST) -> Panel:
     """Returns the data delivered, by sender, and the data through each pipe, cumulative."""
     # Imported here, because it imports this module.
-    from dnlab.analysis.pipe_series import labelled
+    from dnlab.analysis.distributions import labelled
 
     known = view.is_told
     table, visits = view.packets, view.visits
@@ -262,7 +262,7 @@ def rates(view: View, limit: Optional[int] = MOST) -> Panel:
 def drops(view: View) -> Panel:
     """Returns the drops by cause, cumulative."""
     table = view.packets
-    series = [steps(view, cause, table.ended[table.outcome == DROPPED + place], 1) for place, cause in enumerate(CAUSES)]
+    series = [steps(view, cause, table.ended[table.outcome == DROPPED + place], 1) for place, cause in enumerate(DROP_CAUSES)]
     series = [one for one in series if len(one.moments)]
     return Panel("Drops by cause, cumulative", "packets", series, "" if series else "no packet was dropped",
                  quantity="Drops")

@@ -7,16 +7,86 @@ from typing import Optional, Sequence
 
 import numpy as np
 
-from dnlab.analysis.figures import Percentile, jain, place
-from dnlab.analysis.marks import codes_of
+from dnlab.analysis.diagnostics import codes_of
+from dnlab.analysis.metrics import PERCENTILES, WHOLE, Row, Span, columns_of, times_of
 from dnlab.analysis.packets import DELIVERED, DROPPED, HELD
-from dnlab.analysis.rows import PERCENTILES, WHOLE, Row, columns_of, times_of
-from dnlab.analysis.spans import Span
+from dnlab.analysis.quantities import Percentile, jain, place
 from dnlab.analysis.view import View, flows_of
+from dnlab.errors import InputError
 from dnlab.io.digits import Ints
-from dnlab.io.drops import CAUSES
 from dnlab.io.lines import DATA, PLAIN, pipe_name
-from dnlab.io.scenario_parts import HEADER
+from dnlab.io.scenario_parts import DROP_CAUSES, HEADER
+
+# The maximum number of rows per experiment in a table of intervals.
+_MOST_WINDOWS = 10**6
+
+
+def windows_of(view: View, every: int) -> list[Row]:
+    """Returns each sender's deliveries in intervals of `every` ns, from 0 on; the last one ends with the experiment.
+
+    Columns: experiment, sender, begin, end (ns), packets and bytes delivered, rate (bit/s), useful bytes (each once) and
+    goodput (bit/s). Raises `InputError` for too many rows."""
+    table = view.packets
+    until = max(view.ended.moment, 1)
+    count = -(-until // every)
+    if count * len(view.senders) > _MOST_WINDOWS:
+        raise InputError(f"experiment {view.name}: {count} intervals of {every} ns for each of {len(view.senders)} senders are"
+                     f" more than {_MOST_WINDOWS} rows: choose a longer interval")
+    begins = np.arange(count, dtype=np.int64) * every
+    ends = np.minimum(begins + every, until)
+    rows: list[Row] = []
+    for name, packets in view.senders:
+        delivered = packets[table.outcome[packets] == DELIVERED]
+        at = np.minimum(table.ended[delivered] // every, count - 1)
+        packets_in = np.bincount(at, minlength=count)
+        told = not len(delivered) or int(table.size[delivered].min()) >= 0
+        bytes_in = _sums(at, table.size[delivered], count)
+        useful_in, is_known = bytes_in, told and not view.is_injected[packets].any()
+        if told and int(table.kind[packets[0]]) != PLAIN:
+            once = delivered[table.is_new[delivered]]
+            useful_in = _sums(np.minimum(table.ended[once] // every, count - 1), table.size[once] - HEADER, count)
+        for k in range(count):
+            time = int(ends[k] - begins[k])
+            rows.append({"experiment": view.name, "sender": name, "begin": int(begins[k]), "end": int(ends[k]),
+                         "packets": int(packets_in[k]), "bytes": int(bytes_in[k]) if told else None,
+                         "rate": int(bytes_in[k]) * 8 * 10**9 // time if told else None,
+                         "useful": int(useful_in[k]) if is_known else None,
+                         "goodput": int(useful_in[k]) * 8 * 10**9 // time if is_known else None})
+    return rows
+
+
+def _sums(at: Ints, values: Ints, count: int) -> Ints:
+    """Returns sums of values by index. They stay below 2^53, so sums of floats are exact."""
+    return np.bincount(at, weights=values, minlength=count).astype(np.int64)
+
+
+def losses(view: View) -> list[Row]:
+    """Returns drops by sender, cause and pipe (None if no line has it): experiment, sender, cause, pipe, packets."""
+    table, visits = view.packets, view.visits
+    last = np.full(len(table), -1, dtype=np.int64)
+    last[visits.packet] = np.arange(len(visits))
+    rows: list[Row] = []
+    for name, packets in view.senders:
+        dropped = packets[table.outcome[packets] >= DROPPED]
+        visit = last[dropped]
+        pipe = dropping_pipes(view, dropped, visit)
+        for cause, code in enumerate(range(DROPPED, DROPPED + len(DROP_CAUSES))):
+            own = pipe[table.outcome[dropped] == code]
+            for value, count in zip(*np.unique(own, return_counts=True)):
+                rows.append({"experiment": view.name, "sender": name, "cause": DROP_CAUSES[cause],
+                             "queue": pipe_name(int(value)) if value >= 0 else None, "packets": int(count)})
+    return rows
+
+
+def dropping_pipes(view: View, packets: Ints, last: Ints) -> Ints:
+    """Returns the pipes that dropped packets, which are those where they waited, by their last visits; -1 if no line has it."""
+    visits = view.visits
+    if not len(visits):
+        return np.full(len(packets), -1, dtype=np.int64)
+    at = np.maximum(last, 0)
+    there = (last >= 0) & (visits.finish[at] < 0) & (visits.exit[at] == view.packets.ended[packets])
+    return np.where(there, visits.pipe[at].astype(np.int64), -1)
+
 
 def spread(times: Optional[Ints], percentiles: Sequence[Percentile], with_mean: bool = False) -> Row:
     """Returns minimum, percentiles by nearest rank, and maximum, optionally with the mean; None if there are no times or one is unknown.
@@ -140,12 +210,12 @@ class Tables:
         delivered, made = self.arrived(packets), packets[self.span.has(table.made[packets])]
         size = sum_of(table.size[delivered])
         lost = fate[(fate >= DROPPED) & self.span.has(ended)].astype(np.int64) - DROPPED
-        causes = np.bincount(lost, minlength=len(CAUSES))
+        causes = np.bincount(lost, minlength=len(DROP_CAUSES))
         held = ((fate == HELD) | self.span.is_over(ended)) & ~self.span.is_over(table.made[packets])
         return {"sender": of, "packets": len(made), "delivered": len(delivered),
                 "in_flight": int(np.count_nonzero(held)), "bytes": size,
                 **self.over(table.made[made], table.ended[delivered], size),
-                **dict(zip(CAUSES, causes.tolist())),
+                **dict(zip(DROP_CAUSES, causes.tolist())),
                 **spread(table.delay[delivered], self.percentiles, self.with_mean),
                 "jitter": jitter(table.delay[delivered[np.argsort(table.ended[delivered], kind="stable")]])}
 
@@ -198,12 +268,12 @@ class Tables:
         arrival = table.arrival[gone]
         times = np.where(arrival < 0, -1, table.exit[gone] - arrival)
         lost = packets.outcome[packet[~is_served & (left >= 0) & now.has(left)]].astype(np.int64) - DROPPED
-        causes = np.bincount(lost[lost >= 0], minlength=len(CAUSES)).tolist()
-        known = CAUSES if self.view.is_traced else ("codel",)
+        causes = np.bincount(lost[lost >= 0], minlength=len(DROP_CAUSES)).tolist()
+        known = DROP_CAUSES if self.view.is_traced else ("codel",)
         known_span = self.over(table.arrival[served], table.finish[served], size)
         return {"sender": of, "packets": len(served), "delivered": len(gone), "in_flight": int(np.count_nonzero(held)),
                 "bytes": size, **known_span, "utilisation": self.utilisation(of, known_span, size),
-                **{cause: count if cause in known else None for cause, count in zip(CAUSES, causes)},
+                **{cause: count if cause in known else None for cause, count in zip(DROP_CAUSES, causes)},
                 **spread(times, self.percentiles, self.with_mean)}
 
     def utilisation(self, of: str, known: Row, size: Optional[int]) -> Optional[float]:
@@ -233,7 +303,7 @@ class Tables:
             return [{**self.packets("all", packets), **(self.useful(packets) if len(packets) else {}), **fair}]
         there = {**self.packets("there", packets[~back]), **self.useful(packets[~back]), **fair}
         behind = self.packets("back", packets[back])
-        sums = {column: there[column] + behind[column] for column in ("packets", "delivered", "in_flight", *CAUSES)}
+        sums = {column: there[column] + behind[column] for column in ("packets", "delivered", "in_flight", *DROP_CAUSES)}
         return [there, behind, {"sender": "all", **sums, **fair}]
 
     def fairness(self) -> Optional[float]:

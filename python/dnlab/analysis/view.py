@@ -11,17 +11,17 @@ from dnlab.analysis.consistency import check_consistency
 from dnlab.analysis.commands import Done, done_of, is_spent
 from dnlab.analysis.links import compare_links
 from dnlab.analysis.makings import makings_of
-from dnlab.analysis.marks import Refusal, marks_of, refused_of
-from dnlab.analysis.notes import KINDS, NO_SCENARIO, Note
+from dnlab.analysis.diagnostics import Refusal, marks_of, refused_of
+from dnlab.errors import KINDS, NO_SCENARIO, Note
 from dnlab.analysis.packets import Packets, Visits, never_seen, packets_of, visits_of
-from dnlab.analysis.routes import Epoch, epochs_of, headers_of
+from dnlab.analysis.commands import Epoch, epochs_of, headers_of
 from dnlab.errors import InputError, ParseError
 from dnlab.io.digits import Flags, Ints
 from dnlab.io.lines import ACKNOWLEDGES, DATA, MAKE, OK, PLAIN, RULE
 from dnlab.io.pieces import Piece
 from dnlab.io.report import Counters, Recorded, read_piece
 from dnlab.io.scenario_parts import Plan, Sends
-from dnlab.io.settings import Change, changes_of
+from dnlab.io.scenario_parts import Change, changes_of
 
 __all__ = ["KINDS", "NO_SCENARIO", "Ended", "Note", "View", "flows_of", "view_of"]
 

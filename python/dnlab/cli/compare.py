@@ -4,22 +4,22 @@ import json
 from dataclasses import dataclass, field
 from typing import TYPE_CHECKING, Any, Iterator, NamedTuple, Optional, Sequence
 
-from dnlab.analysis.beside import Pair, Tolerance, pairs, tolerance_of
+from dnlab.analysis.comparison import Pair, Tolerance, pairs, tolerance_of
 from dnlab.analysis.bounds import plain_amount
 from dnlab.analysis.metrics import is_named, metrics, percentiles_in
-from dnlab.analysis.rows import Row
-from dnlab.analysis.stored import stored_rows
-from dnlab.analysis.work import lacking, pieces_of, plans_of
-from dnlab.cli.layout import lines_of
-from dnlab.cli.words import count_of, parser_of, percentiles_of
+from dnlab.analysis.metrics import Row
+from dnlab.analysis.metrics import stored_rows
+from dnlab.analysis.reports import lacking, pieces_of, plans_of
+from dnlab.cli.summary import lines_of
+from dnlab.cli.arguments import count_of, parser_of, percentiles_of
 from dnlab.errors import DIFFERS, INPUT, InputError, status_of
-from dnlab.io.origin import check_beside
+from dnlab.io.files import check_beside
 from dnlab.io.pieces import Piece
 from dnlab.io.scenario_parts import Plan
 from dnlab.programs import say
 
 if TYPE_CHECKING:
-    from dnlab.analysis.parting import Parting
+    from dnlab.analysis.divergence import Parting
     from dnlab.analysis.view import View
 
 EXAMPLE = """Packets are matched by content (flow 1 byte 2920, train 9 packet 5), because
@@ -168,7 +168,7 @@ def only(first: Optional[Plan], second: Optional[Plan], lines: int) -> list[str]
 
 def parts_of(given: argparse.Namespace, first: Run, second: Run) -> Iterator[Part]:
     """Compares each pair of experiments."""
-    from dnlab.analysis.parting import parting
+    from dnlab.analysis.divergence import parting
 
     named = [metric for one in given.tolerance for metric in one.metrics]
     percentiles = list(dict.fromkeys([*given.percentiles, *percentiles_in(named)]))

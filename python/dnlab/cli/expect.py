@@ -1,25 +1,84 @@
 """Checks a report against bounds such as 'train 9: delay.p95 < 50ms'."""
+from __future__ import annotations
+
 import argparse
 import json
 import os
 import re
 import sys
 from pathlib import Path
-from typing import Sequence
+from typing import Iterator, NamedTuple, Optional, Sequence
+from xml.etree import ElementTree
 
 from dnlab.analysis.bounds import FAILING, FORM, Bound, Failing, Judged, allowed_of, bound_of, bounds_in, failing, judge, percentiles_for
-from dnlab.analysis.metrics import WORDS
-from dnlab.analysis.naming import names_of, with_names
-from dnlab.analysis.reports import Report
-from dnlab.analysis.spans import Span
-from dnlab.analysis.work import Given, bytes_of, plans_of
-from dnlab.cli.ci_output import github_annotations, junit
-from dnlab.cli.streams import shown
-from dnlab.cli.words import add_names, add_span, add_texts, count_of, listed, parser_of, span_in, taken
+from dnlab.analysis.metrics import WORDS, Span
+from dnlab.analysis.names import names_of, with_names
+from dnlab.analysis.quantities import UNITS, named
+from dnlab.analysis.reports import Inputs, Report, bytes_of, plans_of
+from dnlab.cli.arguments import add_names, add_span, add_texts, count_of, listed, parser_of, shown, span_in, taken
 from dnlab.errors import DIFFERS, MACHINE, InputError, ProgramError, ResourceError, status_of
-from dnlab.io.outputs import whole_file
+from dnlab.io.files import whole_file
 from dnlab.programs import say
-from dnlab.units import UNITS, named
+
+# XML 1.0 allows no other control characters, not even as references.
+_NOT_IN_XML = re.compile("[^\t\n\r -\ud7ff\ue000-\ufffd\U00010000-\U0010ffff]")
+
+
+class _Case(NamedTuple):
+    """A bound, or a run that fails by itself. `failed` is the reason, empty if it holds."""
+    group: str
+    name: str
+    failed: str
+    file: Optional[str] = None
+    line: Optional[int] = None
+
+
+def _cases(judged: Sequence[Judged], failed: Sequence[Failing]) -> Iterator[_Case]:
+    for one in judged:
+        bound = one.bound
+        yield _Case(bound.file or "bounds", bound.text, "" if one.holds else one.said, bound.file, bound.line)
+    for run in failed:
+        yield _Case(f"experiment {run.experiment}", run.mark, run.said)
+
+
+def junit(judged: Sequence[Judged], failed: Sequence[Failing]) -> bytes:
+    """Returns the verdict as JUnit XML: a test suite with a test case for each bound and for each run that fails by itself."""
+    cases = list(_cases(judged, failed))
+    failures = sum(1 for case in cases if case.failed)
+    suite = ElementTree.Element("testsuite", name="dnlab-expect", tests=str(len(cases)), failures=str(failures), errors="0", skipped="0")
+    for case in cases:
+        found = ElementTree.SubElement(suite, "testcase", classname=_xml(case.group), name=_xml(case.name))
+        for name, value in (("file", case.file), ("line", case.line)):
+            if value is not None:
+                found.set(name, _xml(str(value)))
+        if case.failed:
+            ElementTree.SubElement(found, "failure", message=_xml(case.failed)).text = _xml(f"{case.name}: {case.failed}")
+    top = ElementTree.Element("testsuites")
+    top.append(suite)
+    ElementTree.indent(top)
+    text: bytes = ElementTree.tostring(top, encoding="utf-8", xml_declaration=True)
+    return text + b"\n"
+
+
+def _xml(text: str) -> str:
+    return _NOT_IN_XML.sub("\N{REPLACEMENT CHARACTER}", text)
+
+
+def github_annotations(judged: Sequence[Judged], failed: Sequence[Failing]) -> Iterator[str]:
+    """Returns a GitHub Actions workflow command for each failure, with its file and line if known."""
+    for case in _cases(judged, failed):
+        if case.failed:
+            place = [f"{name}={_property(str(value))}" for name, value in (("file", case.file), ("line", case.line)) if value is not None]
+            yield f"::error {','.join([*place, 'title=dnlab-expect'])}::{_data(f'{case.name}: {case.failed}')}"
+
+
+def _data(text: str) -> str:
+    return text.replace("%", "%25").replace("\r", "%0D").replace("\n", "%0A")
+
+
+def _property(text: str) -> str:
+    return _data(text).replace(":", "%3A").replace(",", "%2C")
+
 
 EXAMPLE = f"""A bound is {FORM}.
   WHO     a row of dnlab-summary, 'flow 1', 'train 9', 'pipe 1.0', 'all', or a
@@ -173,13 +232,13 @@ def ran(given: argparse.Namespace) -> Report:
 def main(words_given: Sequence[str]) -> int:
     given = words(words_given)
     # Imported here, so that --help works without numpy.
-    from dnlab.analysis.summing import summed, tell
+    from dnlab.analysis.summary import summed, tell
 
     try:
         bounds = bounds_of(given)
         kept = ran(given) if given.run is not None else None
         plans = with_names(plans_of(given.scenarios), names_of(given.names), given.experiment)
-        found = list(summed(Given(given.report, tuple(given.scenarios)), plans, given.experiment,
+        found = list(summed(Inputs(given.report, tuple(given.scenarios)), plans, given.experiment,
                             percentiles_for(bounds), workers=given.workers, span=Span(given.begin, given.end)))
         if not found:
             raise InputError(f"{given.report}: it has no experiment, so no bound can hold")

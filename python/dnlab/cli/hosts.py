@@ -7,14 +7,15 @@ import sys
 from pathlib import Path
 from typing import Sequence
 
-from dnlab.cli.words import count_of, parser_of, time_of
-from dnlab.emulation import guest_plan, kernel_cache, network_check, run, shell
+from dnlab.cli.arguments import count_of, parser_of, time_of
+from dnlab.emulation import guest, kernel_cache, run
+from dnlab.emulation.experiment import check_network
 from dnlab.emulation.experiment import Experiment
 from dnlab.emulation.terminal import Terminal
-from dnlab.emulation.verdict import Options
+from dnlab.emulation.run import Options
 from dnlab.errors import InputError, ProgramError, ResourceError, status_of
-from dnlab.processes import ending
-from dnlab.processes.rooms import Room
+from dnlab.processes import subprocesses
+from dnlab.processes.subprocesses import TempDir
 from dnlab.programs import say
 
 EXAMPLE = """FILE (YAML) follows Shadow's configuration: general (stop_time, seed), hosts
@@ -86,7 +87,7 @@ def read_file(name: str) -> Experiment:
                       if name == "-" else hosts_file.read(Path(name)))
     except OSError as fault:
         raise InputError(f"{name}: {fault.strerror}") from None
-    for warning in network_check.check(experiment):
+    for warning in check_network(experiment):
         say("hosts", warning)
     return experiment
 
@@ -98,11 +99,11 @@ def run_file(given: argparse.Namespace) -> int:
         count = sum(len(it.processes) for it in experiment.hosts)
         print(f"{given.file}: hosts: {len(experiment.hosts)}, processes: {count}")
         return 0
-    ending.tells(lambda: "nothing was run")
+    subprocesses.set_message(lambda: "nothing was run")
     kernel = kernel_cache.kernel()
     out = Path(os.path.abspath(given.out))
-    guest_plan.empty_folder(out, given.force)
-    ending.tells(lambda: f"what {given.out} has is incomplete")
+    guest.empty_folder(out, given.force)
+    subprocesses.set_message(lambda: f"what {given.out} has is incomplete")
     limit = given.limit or experiment.settings.limit_s
     options = Options(str(given.out), given.clock, limit, given.late_bound, given.verify)
     return run.run(experiment, kernel, out, options)
@@ -112,10 +113,10 @@ def open_shell(link: str) -> int:
     """Opens a shell behind a link, in real time."""
     if not re.fullmatch(r"[ -~]+", link):
         raise InputError(f"--shell {link!r}: expected options of `pipe config`, as 'bw 10Mbit/s delay 20'")
-    ending.tells(lambda: "the shell was ended")
-    with Room() as room, Terminal() as terminal:
-        experiment = shell.experiment_of(link, os.environ.get("SHELL") or "/bin/sh", terminal.path)
-        return shell.run(experiment, kernel_cache.kernel(), room.path, terminal)
+    subprocesses.set_message(lambda: "the shell was ended")
+    with TempDir() as room, Terminal() as terminal:
+        experiment = run.experiment_of(link, os.environ.get("SHELL") or "/bin/sh", terminal.path)
+        return run.run_shell(experiment, kernel_cache.kernel(), room.path, terminal)
 
 
 def print_table(folder: Path) -> int:
@@ -123,7 +124,7 @@ def print_table(folder: Path) -> int:
     for module in "numpy", "dpkt":
         if importlib.util.find_spec(module) is None:
             raise ResourceError(f"{module} is missing (Debian: apt-get install python3-{module})")
-    from dnlab.cli.layout import lines_of, milliseconds
+    from dnlab.cli.summary import lines_of, milliseconds
     from dnlab.emulation.traffic import PERCENTILES, rows
 
     found = rows(folder)
@@ -151,7 +152,7 @@ def hosts(given: argparse.Namespace) -> int:
 
 
 def main(words_given: Sequence[str]) -> int:
-    ending.watch("hosts")
+    subprocesses.handle_signals("hosts")
     given = words(words_given)
     try:
         return hosts(given)

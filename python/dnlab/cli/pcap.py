@@ -4,10 +4,10 @@ import sys
 from fnmatch import fnmatchcase
 from typing import TYPE_CHECKING, Iterable, Sequence
 
-from dnlab.analysis.work import Given, pieces_of, plans_of
-from dnlab.cli.words import add_texts, parser_of, taken
+from dnlab.analysis.reports import Inputs, pieces_of, plans_of
+from dnlab.cli.arguments import add_texts, parser_of, taken
 from dnlab.errors import InputError, ResourceError, status_of
-from dnlab.io.outputs import whole_file
+from dnlab.io.files import whole_file
 from dnlab.io.pieces import Piece
 from dnlab.programs import say
 
@@ -85,7 +85,7 @@ def write_one(given: argparse.Namespace, view: "View") -> None:
 def main(words_given: Sequence[str]) -> int:
     given = words(words_given)
     # Imported here, so that --help works without numpy.
-    from dnlab.analysis.summing import tell, whole
+    from dnlab.analysis.summary import tell, whole
     from dnlab.analysis.view import view_of
 
     notes = []
@@ -98,7 +98,7 @@ def main(words_given: Sequence[str]) -> int:
             if len(pieces) > 1:
                 raise InputError(f"{given.report}: it has several experiments, but {given.out} holds one: choose it with"
                              " --experiment")
-        texts = Given(given.report, tuple(given.scenarios))
+        texts = Inputs(given.report, tuple(given.scenarios))
         for piece in whole(texts, plans, given.experiment, pieces, lambda one: one.name):
             total += 1
             view = view_of(piece, plans, given.report, ", ".join(given.scenarios))

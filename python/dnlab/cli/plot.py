@@ -4,13 +4,13 @@ from functools import partial
 from typing import TYPE_CHECKING, NamedTuple, Optional, Sequence
 
 from dnlab.analysis.metrics import is_named
-from dnlab.analysis.naming import names_of, with_names
-from dnlab.analysis.notes import Note
-from dnlab.analysis.panels import ALIASES, MORE, WHAT
-from dnlab.analysis.spans import Span
-from dnlab.analysis.work import Given, TooMany, over, plans_of
-from dnlab.cli.design_words import add_design, design_of, picture
-from dnlab.cli.words import add_names, add_texts, count_of, moment_of, parser_of, taken, time_of
+from dnlab.analysis.names import names_of, with_names
+from dnlab.errors import Note
+from dnlab.analysis.metrics import ALIASES, MORE, WHAT
+from dnlab.analysis.metrics import Span
+from dnlab.analysis.reports import Inputs, TooMany, map_experiments, plans_of
+from dnlab.cli.arguments import add_design, design_of, picture
+from dnlab.cli.arguments import add_names, add_texts, count_of, moment_of, parser_of, taken, time_of
 from dnlab.errors import InputError, status_of
 from dnlab.programs import say
 
@@ -131,17 +131,17 @@ def draw_one(view: "View", what: Sequence[str], span: Span, every: Optional[int]
 
 
 def draw(given: argparse.Namespace) -> list[Drawn]:
-    from dnlab.analysis.summing import whole
+    from dnlab.analysis.summary import whole
 
     plans = with_names(plans_of(given.scenarios), names_of(given.names), given.experiment)
-    texts = Given(given.report, tuple(given.scenarios))
+    texts = Inputs(given.report, tuple(given.scenarios))
     drawn = []
     most = _MOST_OVER if given.overlay else _MOST
     function = partial(draw_one, what=tuple(given.what), span=Span(given.begin, given.end), every=given.bin,
                        patterns=tuple(given.of), effective=given.effective,
                        acks=given.acks or any("acks" in pattern for pattern in given.of))
     try:
-        made = over(texts, function, plans, given.experiment, given.workers, "plot", most)
+        made = map_experiments(texts, function, plans, given.experiment, given.workers, "plot", most)
         for one in whole(texts, plans, given.experiment, made, lambda one: one.name):
             drawn.append(one)
             if len(drawn) > most:
@@ -160,10 +160,10 @@ def draw(given: argparse.Namespace) -> list[Drawn]:
 def main(words_given: Sequence[str]) -> int:
     given = words(words_given)
     # Imported here, so that --help works without numpy.
-    from dnlab.analysis.shares import overlaid
-    from dnlab.analysis.summing import tell
+    from dnlab.analysis.distributions import overlaid
+    from dnlab.analysis.summary import tell
     from dnlab.plot import pictures
-    from dnlab.plot.design import save
+    from dnlab.plot.style import save
 
     try:
         design = design_of(given)

@@ -17,7 +17,7 @@ if not __package__:
 
 from dnlab import programs  # noqa: E402  (the path is set first)
 from dnlab.errors import ProgramError  # noqa: E402
-from dnlab.io.explained import findings  # noqa: E402
+from dnlab.io.scenario import findings  # noqa: E402
 
 # The commands that read a text, and the options that have a value.
 READS, VALUED = ("alone", "run", "check"), ("--workers", "--moves", "--max-steps", "--max-output")

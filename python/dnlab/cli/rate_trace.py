@@ -1,15 +1,223 @@
 """Makes a pipe's rate follow a trace: Mahimahi's, or a table of times and rates."""
 import argparse
-from typing import Sequence
+import csv
+import re
+from decimal import Decimal
+from pathlib import Path
+from typing import Iterable, Iterator, NamedTuple, Optional, Sequence
 
-from dnlab.cli.to_ipfw import plan_of, write
-from dnlab.cli.words import count_of, moment_of, parser_of, time_of
+from dnlab.cli.arguments import count_of, moment_of, parser_of, time_of
+from dnlab.cli.ipfw import plan_of, write
 from dnlab.errors import InputError, cause_of, status_of
-from dnlab.io import rates
 from dnlab.io.scenario import Judged
-from dnlab.io.scenario_parts import Plan
-from dnlab.io.settings import rate_of
+from dnlab.io.scenario_parts import BIT_UNITS, MOST_BYTES, SCALES, Plan, rate_of
 from dnlab.programs import say
+
+# A pipe has no outages: `bw 0` is unlimited, and the packet in service keeps its finish time whatever rate follows. An outage that
+# holds packets is therefore imitated with rates at which a packet of a known size finishes when the outage ends (`held`).
+# This many bytes can leave at each time of a Mahimahi trace.
+OPPORTUNITY = 1504
+_MS, _SECOND = 10**6, 10**9
+_MOST_RATE = 10**10
+_UNIT = re.compile(rf"(?:0|[1-9][0-9]*)(?:[{''.join(SCALES)}]?(?:{'|'.join(unit for unit in BIT_UNITS if unit)}))?")
+
+
+class Rate(NamedTuple):
+    """A rate in bit/s from a time on, ns; 0 is an outage."""
+    moment: int
+    rate: int
+
+
+class Trace(NamedTuple):
+    """Rates by time, and the end of the last one, ns."""
+    rates: list[Rate]
+    end: int
+
+    def repeated(self, end: int) -> "Trace":
+        """Returns the trace repeated until a time, as Mahimahi does."""
+        found: list[Rate] = []
+        begin = 0
+        while begin < end and self.end:
+            found += [Rate(begin + one.moment, one.rate) for one in self.rates if begin + one.moment < end]
+            begin += self.end
+        return Trace(found, end)
+
+
+def of_file(path: str, every: int) -> Trace:
+    """Returns a trace: integers are Mahimahi's, counted over `every` ns; else it is a table. Raises `InputError` with the line."""
+    try:
+        text = Path(path).read_bytes().decode("ascii")
+    except OSError as fault:
+        raise InputError(f"{path}: {fault.strerror}") from None
+    except UnicodeDecodeError:
+        raise InputError(f"{path}: it is not a trace: expected Mahimahi's numbers, or a table of times and rates") from None
+    lines = text.splitlines()
+    if not any(line.strip() for line in lines):
+        raise InputError(f"{path}: it is empty")
+    first = next(line for line in lines if line.strip())
+    return _opportunities(lines, path, every) if re.fullmatch(r"\s*[0-9]+\s*", first) else _table(lines, path)
+
+
+def _opportunities(lines: Sequence[str], path: str, every: int) -> Trace:
+    """Returns Mahimahi's trace: each line is a millisecond at which a packet of 1504 bytes may leave; the last is the trace's
+    length."""
+    counts: dict[int, int] = {}
+    last = 0
+    for number, line in enumerate(lines, 1):
+        if not line.strip():
+            continue
+        if not re.fullmatch(r"\s*[0-9]{1,9}\s*", line):
+            raise InputError(f"{path}: line {number}: {line[:40]!r} is not a millisecond of a Mahimahi trace")
+        moment = int(line)
+        if moment < last:
+            raise InputError(f"{path}: line {number}: {moment} ms comes before {last} ms")
+        last = moment
+        # Packets that may leave at the end of an interval belong to it.
+        counts[max(0, moment * _MS - 1) // every] = counts.get(max(0, moment * _MS - 1) // every, 0) + 1
+    if not last:
+        raise InputError(f"{path}: the trace has no length: its last time is 0 ms")
+    end = last * _MS
+    rates = []
+    for place in range(-(-end // every)):
+        length = min(every, end - place * every)
+        rates.append(Rate(place * every, min(_MOST_RATE, counts.get(place, 0) * OPPORTUNITY * 8 * _SECOND // length)))
+    return Trace(rates, end)
+
+
+def _table(lines: Sequence[str], path: str) -> Trace:
+    """Returns a trace from CSV: `moment` (ns) or `seconds`, and `rate` in bit/s or with its unit; the last row is the end."""
+    rows = csv.DictReader(lines)
+    names = [name.strip() for name in rows.fieldnames or ()]
+    rows.fieldnames = names
+    if "rate" not in names or ("moment" in names) == ("seconds" in names):
+        raise InputError(f"{path}: line 1: the first line must name the columns: moment (ns) or seconds, and rate (bit/s, or as 5Mbit/s)")
+    found: list[Rate] = []
+    for row in rows:
+        try:
+            moment = Decimal(row["moment"].strip()) if "moment" in row else Decimal(row["seconds"].strip()) * _SECOND
+            rate = _rate(row["rate"].strip())
+            if moment != int(moment) or moment < 0:
+                raise ValueError
+        except (ArithmeticError, ValueError, AttributeError):
+            said = ",".join(str(value) for value in row.values())[:80]
+            raise InputError(f"{path}: line {rows.line_num}: {said!r} is not a time and a rate (up to 10Gbit/s)") from None
+        if found and moment <= found[-1].moment:
+            raise InputError(f"{path}: line {rows.line_num}: its time is not later than the previous one")
+        found.append(Rate(int(moment), rate))
+    if not found:
+        raise InputError(f"{path}: it has no row")
+    return Trace(found, found[-1].moment)
+
+
+def _rate(word: str) -> int:
+    """Returns a rate in bit/s, from a number with or without a unit."""
+    if _UNIT.fullmatch(word):
+        rate = rate_of(word)
+    else:
+        exact = Decimal(word)
+        if not exact.is_finite():
+            raise ValueError
+        rate = int(exact)
+    if not 0 <= rate <= _MOST_RATE:
+        raise ValueError
+    return rate
+
+
+def lowered(trace: Trace, lowest: int) -> Trace:
+    """Returns the trace with rates below the lowest as outages."""
+    return trace._replace(rates=[one if one.rate >= lowest else one._replace(rate=0) for one in trace.rates])
+
+
+def slow(trace: Trace, size: int) -> list[Rate]:
+    """Returns the rates, except outages, at which a packet of this size takes longer than the rate lasts."""
+    ends = [one.moment for one in trace.rates[1:]] + [trace.end]
+    return [one for one, end in zip(trace.rates, ends) if one.rate and end > one.moment and 8 * _SECOND * size > one.rate * (end - one.moment)]
+
+
+class Outage(NamedTuple):
+    """A time range in ns without service, and the rate after it, bit/s (None if the trace ends with it)."""
+    begin: int
+    end: int
+    rate: Optional[int]
+
+
+def outages(trace: Trace) -> list[Outage]:
+    """Returns the outages of a trace, each complete."""
+    found: list[Outage] = []
+    for place, one in enumerate(trace.rates):
+        if one.rate == 0 and (not place or trace.rates[place - 1].rate):
+            after = next((later for later in trace.rates[place:] if later.rate), None)
+            found.append(Outage(one.moment, after.moment if after else trace.end, after.rate if after else None))
+    return found
+
+
+def held(outage: Outage, size: int, step: int) -> Iterator[Rate]:
+    """Yields rates for an outage. A packet of `size` bytes whose service starts within it finishes as if its service had started at the end
+    of the outage, at most `step` ns later. A shorter one finishes earlier, in proportion to its size."""
+    bits = 8 * size
+    finish = outage.end + (-(-bits * _SECOND // outage.rate) if outage.rate else 0)
+    for moment in range(outage.begin, outage.end, step):
+        # Rounded up, so that the packet isn't late; the next packet is held for the remaining time.
+        yield Rate(moment, max(1, -(-bits * _SECOND // (finish - moment))))
+
+
+def changes(trace: Trace, how: str, size: int, step: int) -> Iterator[tuple[int, int, bool]]:
+    """Yields the times at which a pipe is configured, each with its rate in bit/s and whether all arriving packets are lost from then on.
+    `how` is the effect of an outage: `hold` or `drop`."""
+    gone = {one.begin: one for one in outages(trace)}
+    rate, is_lost = -1, False
+    for one in trace.rates:
+        if one.rate == 0:
+            outage = gone.get(one.moment)
+            if outage is not None and how == "hold":
+                yield from ((each.moment, each.rate, False) for each in held(outage, size, step))
+                rate = -1
+            elif outage is not None:
+                # Queued packets leave at the previous rate; a link that starts with an outage has none.
+                yield one.moment, max(rate, 0), True
+                is_lost = True
+        elif one.rate != rate or is_lost:
+            rate, is_lost = one.rate, False
+            yield one.moment, rate, False
+
+
+def word_of(rate: int) -> str:
+    """Returns a rate in scenario syntax.
+
+    >>> word_of(12000000), word_of(1234)
+    ('12Mbit/s', '1234bit/s')
+    """
+    scale = next((one for one in "GMK" if rate and rate % SCALES[one] == 0), "")
+    return f"{rate // SCALES[scale]}{scale}bit/s"
+
+
+def options_of(words: str) -> str:
+    """Returns the options of a pipe without its rate and losses, which the trace sets; other options keep their order.
+
+    >>> options_of("bw 5Mbit/s delay 20 queue 100 codel")
+    'delay 20 queue 100 codel'
+    """
+    return re.sub(r"(?:^|(?<= ))bw \S+ ?", "", " ".join(words.split())).strip()
+
+
+def lines_of(found: Iterable[tuple[int, int, bool]], pipe: int, options: str, begin: int) -> list[tuple[int, str]]:
+    """Returns the commands, each with its time, `begin` ns later. Raises `InputError` if they would exceed a scenario's size."""
+    lossless = re.sub(r"(?:^|(?<= ))plr \S+ ?", "", options).strip()
+    made, size = [], 0
+    for moment, rate, is_lost in found:
+        rest = f"plr 1 {lossless}" if is_lost else options
+        made.append((begin + moment, f"pipe {pipe} config bw {word_of(rate)} {rest}".rstrip()))
+        size += len(made[-1][1]) + 20
+        if size > MOST_BYTES:
+            raise InputError(f"the commands would have more than {MOST_BYTES} bytes: choose a longer --every or --step, or a part of the trace")
+    return made
+
+
+def could(trace: Trace) -> int:
+    """Returns how many bits the link can carry over the trace."""
+    ends = [one.moment for one in trace.rates[1:]] + [trace.end]
+    return sum(one.rate * (end - one.moment) for one, end in zip(trace.rates, ends)) // _SECOND
+
 
 EXAMPLE = """FILE has Mahimahi's milliseconds, at each of which a packet of 1504 bytes may
 leave (grouped by --every). Or it is CSV whose first line names the columns,
@@ -67,13 +275,13 @@ def words(given: Sequence[str]) -> argparse.Namespace:
     return given_words
 
 
-def trace_of(given: argparse.Namespace) -> rates.Trace:
+def trace_of(given: argparse.Namespace) -> Trace:
     """Returns the trace with the requested options applied."""
-    trace = rates.of_file(given.file, given.every)
+    trace = of_file(given.file, given.every)
     if given.repeat is not None:
         trace = trace.repeated(given.repeat)
-    trace = rates.lowered(trace, given.lowest)
-    gone = rates.outages(trace)
+    trace = lowered(trace, given.lowest)
+    gone = outages(trace)
     if gone and given.outage == "refuse":
         raise InputError(f"{given.file}: {len(gone)} outages, the first from {gone[0].begin} to {gone[0].end} ns: choose --outage hold or drop"
                      " (`bw 0` would mean unlimited)")
@@ -98,15 +306,15 @@ def own_options(plan: Plan, pipe: int, file: str) -> str:
     if len(own) != 1:
         raise InputError(f"{file}: {'no command configures' if not own else f'{len(own)} commands configure'} pipe {pipe}; exactly one is required,"
                      " whose options the trace keeps")
-    return rates.options_of(own[0].text.split(" config", 1)[1])
+    return options_of(own[0].text.split(" config", 1)[1])
 
 
 def made_of(given: argparse.Namespace) -> str:
     """Returns the text to write."""
     trace = trace_of(given)
     plan = plan_of(given.scenario, given.experiment) if given.scenario else None
-    options = own_options(plan, given.pipe, given.scenario) if plan else rates.options_of(given.config)
-    made = rates.lines_of(rates.changes(trace, given.outage, given.size, given.step), given.pipe, options, given.begin)
+    options = own_options(plan, given.pipe, given.scenario) if plan else options_of(given.config)
+    made = lines_of(changes(trace, given.outage, given.size, given.step), given.pipe, options, given.begin)
     if plan is not None:
         text = merged(plan, made, given.pipe)
         judged = text
@@ -120,15 +328,15 @@ def made_of(given: argparse.Namespace) -> str:
     return text
 
 
-def tell(given: argparse.Namespace, trace: rates.Trace, count: int) -> None:
+def tell(given: argparse.Namespace, trace: Trace, count: int) -> None:
     """Prints a summary of the trace on standard error."""
-    gone = rates.outages(trace)
+    gone = outages(trace)
     lost = f", {len(gone)} outages of {sum(one.end - one.begin for one in gone) / 10**9:g} s in all ({given.outage})" if gone else ""
-    say("rate-trace", f"{count} commands over {trace.end / 10**9:g} s: the link can carry {rates.could(trace) / 8 / 10**6:.6g} MB{lost}")
-    low = rates.slow(trace, given.size)
+    say("rate-trace", f"{count} commands over {trace.end / 10**9:g} s: the link can carry {could(trace) / 8 / 10**6:.6g} MB{lost}")
+    low = slow(trace, given.size)
     if low:
         say("rate-trace", f"{len(low)} rates are so low that a packet of {given.size} bytes takes longer than the rate lasts, the first"
-              f" {rates.word_of(low[0].rate)} at {low[0].moment} ns: it keeps its finish time, and the link is busy until then; --lowest makes"
+              f" {word_of(low[0].rate)} at {low[0].moment} ns: it keeps its finish time, and the link is busy until then; --lowest makes"
               " such rates outages")
 
 

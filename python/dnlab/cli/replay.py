@@ -6,16 +6,16 @@ from collections import Counter
 from contextlib import ExitStack
 from typing import TYPE_CHECKING, BinaryIO, Callable, Iterator, Optional, Sequence
 
-from dnlab.cli.from_ipfw import traffic_of
-from dnlab.cli.words import moment_of, parser_of, time_of
+from dnlab.cli.ipfw import traffic_of
+from dnlab.cli.arguments import moment_of, parser_of, time_of
 from dnlab.errors import InputError, ProgramError, cause_of, status_of
-from dnlab.io.outputs import whole_file
+from dnlab.io.files import whole_file
 from dnlab.io.scenario import Judged
 from dnlab.programs import program, say
 
 if TYPE_CHECKING:
-    from dnlab.io.arrivals import Arrival, Left
-    from dnlab.session.replaying import Fate
+    from dnlab.io.arrivals import Arrival, Omissions
+    from dnlab.session.replay import Fate
 
 EXAMPLE = """FILE is a capture (pcap or pcapng; TCP and UDP over IPv4) or a table of arrivals
 (CSV, whose first line names the columns: moment in ns or seconds, size, and
@@ -88,7 +88,7 @@ def link_of(given: argparse.Namespace, head: str) -> list[tuple[int, str]]:
     return commands
 
 
-def came(given: argparse.Namespace, left: "Left") -> "tuple[int, Iterator[Arrival]]":
+def came(given: argparse.Namespace, left: "Omissions") -> "tuple[int, Iterator[Arrival]]":
     """Returns the time of the first packet (ns), and all packets in order of time."""
     from dnlab.io import arrivals
 
@@ -100,9 +100,9 @@ def came(given: argparse.Namespace, left: "Left") -> "tuple[int, Iterator[Arriva
     return first.moment, itertools.chain([first], found)
 
 
-def run(given: argparse.Namespace, head: str, left: "Left") -> str:
+def run(given: argparse.Namespace, head: str, left: "Omissions") -> str:
     """Sends the packets through the link and returns a summary."""
-    from dnlab.session import replaying
+    from dnlab.session import replay
 
     link = link_of(given, head)
     begin, packets = came(given, left)
@@ -117,30 +117,30 @@ def run(given: argparse.Namespace, head: str, left: "Left") -> str:
             for take in takes:
                 take(seen)
 
-        held = replaying.replay(called, head, link, packets, begin - given.begin, given.tail, tell)
-    return replaying.tally_of(counts, held)
+        held = replay.replay(called, head, link, packets, begin - given.begin, given.tail, tell)
+    return replay.tally_of(counts, held)
 
 
 def _writer(given: argparse.Namespace, name: str, begin: int, stack: ExitStack) -> "Callable[[Fate], None]":
     from dnlab.io import arrivals
-    from dnlab.session import replaying
+    from dnlab.session import replay
 
     file: BinaryIO = sys.stdout.buffer if name == "-" else stack.enter_context(whole_file(name))
     if name.endswith(".csv"):
-        table = replaying.Table(file, begin)
+        table = replay.Table(file, begin)
         stack.callback(table.close)
         return table.take
-    link = replaying.common_link(arrivals.link_of(name) for name in given.files)
-    return replaying.Capture(file, link, 0 if given.align else begin).take
+    link = replay.common_link(arrivals.link_of(name) for name in given.files)
+    return replay.Capture(file, link, 0 if given.align else begin).take
 
 
 def main(words_given: Sequence[str]) -> int:
     given = words(words_given)
     # Imported here, so that --help works without dpkt.
-    from dnlab.io.arrivals import Left
-    from dnlab.session import replaying
+    from dnlab.io.arrivals import Omissions
+    from dnlab.session import replay
 
-    left = Left()
+    left = Omissions()
     said: Optional[str] = None
     head = f"experiment replay seed {given.seed} budget {given.budget} steps 10000000"
     try:
@@ -149,7 +149,7 @@ def main(words_given: Sequence[str]) -> int:
             sys.stdout.flush()
         else:
             begin, packets = came(given, left)
-            text = replaying.text_of(head, link_of(given, head), packets, begin - given.begin, given.tail)
+            text = replay.text_of(head, link_of(given, head), packets, begin - given.begin, given.tail)
             with whole_file(given.inject) as file:
                 file.write(text.encode("ascii"))
             said = f"{text.count(' inject ')} packets"

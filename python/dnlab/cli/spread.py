@@ -7,21 +7,21 @@ import tempfile
 from pathlib import Path
 from typing import Iterator, Mapping, Optional, Sequence
 
-from dnlab.cli.words import parser_of
+from dnlab.cli.arguments import parser_of
 from dnlab.errors import ParseError, ProgramError, cause_of
-from dnlab.io.origin import Origin, origin_of, write_beside
-from dnlab.io.outputs import with_name
-from dnlab.io.packed import unpacked
+from dnlab.io.files import Origin, origin_of, write_beside
+from dnlab.io.files import with_name
+from dnlab.io.files import unpacked
 from dnlab.io.scenario import Judged, read
 from dnlab.io.scenario_parts import MOST_BYTES, MOST_EXPERIMENTS, Plan
 from dnlab.io.splitting import Fault, Part, experiments_in, heading_fault, lines_in, repeated, shares, texts_of
-from dnlab.processes import children, ending
+from dnlab.processes import subprocesses
 from dnlab.processes.process_pool import ProcessPool
-from dnlab.processes.progress import Progress
-from dnlab.processes.rooms import Room
+from dnlab.processes.process_pool import Progress
+from dnlab.processes.subprocesses import TempDir
 from dnlab.programs import program as program_of
-from dnlab.sweeps.engines import failure, going, put_together
-from dnlab.sweeps.jobs import How, Job, Stop
+from dnlab.sweeps.engines import failure, join_reports, run_parts
+from dnlab.sweeps.engines import Job, RunFailedError, RunOptions
 
 
 EXAMPLE = """The scenarios are split at their experiments into N parts with about the same
@@ -93,9 +93,9 @@ def words(given: Sequence[str]) -> argparse.Namespace:
     return args
 
 
-def how_of(args: argparse.Namespace) -> How:
+def how_of(args: argparse.Namespace) -> RunOptions:
     """Returns the options of the run."""
-    return How(args.parts, args.jobs, args.ssh, args.slurm, args.program, args.work, args.resume)
+    return RunOptions(args.parts, args.jobs, args.ssh, args.slurm, args.program, args.work, args.resume)
 
 
 def text_of(name: str) -> bytes:
@@ -104,24 +104,24 @@ def text_of(name: str) -> bytes:
         with open(0 if name == "-" else name, "rb") as file:
             return unpacked(file.read())
     except OSError as error:
-        raise Stop(3, f"spread: {name}: {error.strerror}\n") from error
+        raise RunFailedError(3, f"spread: {name}: {error.strerror}\n") from error
     except ParseError as refused:
-        raise Stop(2, f"spread: {name}: {refused}\n") from None
+        raise RunFailedError(2, f"spread: {name}: {refused}\n") from None
 
 
 def counted(program: str, text: bytes) -> "Fault | tuple[int, int]":
-    """Returns the number of experiments and commands, as counted by `dnlab check`, or the fault. Raises `Stop` for any other
+    """Returns the number of experiments and commands, as counted by `dnlab check`, or the fault. Raises `RunFailedError` for any other
     answer."""
-    done = children.run([program, "check"], text)
+    done = subprocesses.run([program, "check"], text)
     said = done.said()
     number, _, cause = said[5:].partition(": ")
     if done.status == 1 and said.startswith("line ") and number.isdigit():
         return Fault(int(number), cause)
     if done.status != 0:
-        raise Stop(done.status if done.status in (1, 3) else 3, said + "\n")
+        raise RunFailedError(done.status if done.status in (1, 3) else 3, said + "\n")
     fields = done.out.split()
     if len(fields) != 3 or fields[0] != b"ok" or not (fields[1] + fields[2]).isdigit():
-        raise Stop(3, f"spread: {program} check answered {done.out[:60]!r}\n")
+        raise RunFailedError(3, f"spread: {program} check answered {done.out[:60]!r}\n")
     return int(fields[1]), int(fields[2])
 
 
@@ -161,7 +161,7 @@ def first_of(found: "Fault | tuple[int, int]", again: Optional[Part]) -> "Fault 
 
 
 def experiments_of(args: argparse.Namespace, program: str) -> list[Part]:
-    """Returns the experiments of all files. Raises `Stop` with the line of a fault, after the file's name if there are several."""
+    """Returns the experiments of all files. Raises `RunFailedError` with the line of a fault, after the file's name if there are several."""
     everything: list[Part] = []
     names: set[str] = set()
     for name in args.scenarios:
@@ -170,10 +170,10 @@ def experiments_of(args: argparse.Namespace, program: str) -> list[Part]:
         found = judged(program, text, parts, names)
         if isinstance(found, Fault):
             said = f"line {found.line}: {found.cause}\n"
-            raise Stop(1, said if len(args.scenarios) == 1 else f"{name}: {said}")
+            raise RunFailedError(1, said if len(args.scenarios) == 1 else f"{name}: {said}")
         own = len(parts), sum(part.commands for part in parts)
         if own != found:
-            raise Stop(3, f"spread: {program} counts {found[0]} experiments and {found[1]} commands, but spread counts others\n")
+            raise RunFailedError(3, f"spread: {program} counts {found[0]} experiments and {found[1]} commands, but spread counts others\n")
         everything += parts
     return everything
 
@@ -199,9 +199,9 @@ def judged_part(whole: str, text: str) -> Optional[str]:
     return None
 
 
-def check(how: How, jobs: Sequence[Job], folder: Path) -> None:
+def check(how: RunOptions, jobs: Sequence[Job], folder: Path) -> None:
     """Reads the reports of all parts as the other tools do. A report that cannot belong to its scenario is a failed part."""
-    from dnlab.analysis.work import cores
+    from dnlab.analysis.reports import cores
 
     wrong: dict[int, str] = {}
     with ProcessPool[int](min(how.jobs or cores(), len(jobs) or 1)) as pool:
@@ -241,13 +241,13 @@ def origin(args: argparse.Namespace, program: str, parts: Sequence[Part]) -> Ori
     return made._replace(program="", version="") if args.ssh or args.slurm else made
 
 
-def run_all(how: How, program: str, jobs: Sequence[Job], folder: Path) -> None:
+def run_all(how: RunOptions, program: str, jobs: Sequence[Job], folder: Path) -> None:
     """Runs the unfinished parts, and shows the progress."""
     progress: Optional[Progress] = None
     if how.work is not None:
-        ending.tells(lambda: f"{progress.done if progress else 0} of {len(jobs)} parts are kept in {folder}; the same command"
+        subprocesses.set_message(lambda: f"{progress.done if progress else 0} of {len(jobs)} parts are kept in {folder}; the same command"
                              " with --resume runs the others")
-    groups = going(how, program, jobs, folder)
+    groups = run_parts(how, program, jobs, folder)
     # The first group was finished before, so it does not count for the estimated time.
     with Progress("spread", len(jobs), len(next(groups)), "parts") as progress:
         for finished in groups:
@@ -255,14 +255,14 @@ def run_all(how: How, program: str, jobs: Sequence[Job], folder: Path) -> None:
 
 
 def spread(args: argparse.Namespace, named: Optional[str] = None) -> None:
-    """Runs the scenarios in parts, with the named program or that of `dnlab.programs.program`. Raises `Stop` if it fails."""
+    """Runs the scenarios in parts, with the named program or that of `dnlab.programs.program`. Raises `RunFailedError` if it fails."""
     try:
         program = named or program_of()
     except ProgramError as failed:
-        raise Stop(failed.status, f"spread: {failed.said}\n") from failed
+        raise RunFailedError(failed.status, f"spread: {failed.said}\n") from failed
     with with_name(tempfile.gettempdir()):
         how, everything = how_of(args), experiments_of(args, program)
-    with Room() as passing:
+    with TempDir() as passing:
         folder = Path(args.work or passing.path).absolute()
         jobs = [Job(folder, number, [part.name for part in share], b"".join(part.text for part in share))
                 for number, share in enumerate(shares(everything, args.parts), 1)]
@@ -270,20 +270,20 @@ def spread(args: argparse.Namespace, named: Optional[str] = None) -> None:
             run_all(how, program, jobs, folder)
             check(how, jobs, folder)
         made = origin(args, program, everything) if args.out is not None else None
-        with ending.held():
-            put_together(args.out, jobs)
+        with subprocesses.signals_delayed():
+            join_reports(args.out, jobs)
             if made is not None:
                 write_beside(args.out, made)
-            ending.tells(lambda: "the report is written")
+            subprocesses.set_message(lambda: "the report is written")
             if args.work is not None:
                 shutil.rmtree(folder)
 
 
 def main(words_given: Sequence[str]) -> int:
-    ending.watch("spread")
+    subprocesses.handle_signals("spread")
     try:
         spread(words(words_given))
-    except Stop as stop:
+    except RunFailedError as stop:
         sys.stderr.write(str(stop))
         return stop.status
     except ProgramError as failed:

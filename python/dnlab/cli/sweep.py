@@ -7,18 +7,18 @@ import io
 import sys
 from typing import TYPE_CHECKING, Any, BinaryIO, Sequence
 
-from dnlab.analysis.own import Own
-from dnlab.analysis.spans import Span
-from dnlab.analysis.stats import USUAL, Ask
-from dnlab.cli.layout import plain, sweep_table
+from dnlab.analysis.statistics import CustomStat
+from dnlab.analysis.metrics import Span
+from dnlab.analysis.statistics import USUAL, StatRequest
+from dnlab.cli.summary import plain, sweep_table
 from dnlab.cli.summary import print_csv, print_json
 from dnlab.cli.sweep_words import is_of_programs, look_of, pair_in, words
 from dnlab.errors import InputError, ProgramError, status_of
-from dnlab.io.outputs import whole_file
-from dnlab.processes import ending
+from dnlab.io.files import whole_file
+from dnlab.processes import subprocesses
 from dnlab.programs import say
-from dnlab.sweeps.cells import told_of
-from dnlab.sweeps.values import shown
+from dnlab.sweeps.grid import told_of
+from dnlab.sweeps.grid import shown
 
 if TYPE_CHECKING:
     import pandas as pd
@@ -88,12 +88,12 @@ def write_all(made: Sweep, table: pd.DataFrame, given: argparse.Namespace) -> No
     if given.long is not None:
         write(made.long(), given.long, given.long.rsplit(".", 1)[-1], made.settings)
     if given.plot is not None:
-        from dnlab.plot import curves, design
+        from dnlab.plot import curves, style
 
         look = look_of(given, made.setting_labels())
         figure = curves.figure_of(table, made.settings, look, made.long() if look.kind in ("ecdf", "box") else None)
         try:
-            design.save(figure, given.plot)
+            style.save(figure, given.plot)
         except OSError as fault:
             raise ProgramError(3, f"{given.plot}: {fault.strerror}") from None
 
@@ -128,7 +128,7 @@ def say_needed(made: Sweep, table: pd.DataFrame, within: float) -> None:
 
 def say_all(made: Sweep, table: pd.DataFrame) -> None:
     """Prints the notes, warnings and counts of the sweep."""
-    from dnlab.analysis.summing import tell
+    from dnlab.analysis.summary import tell
 
     rows = records_of(table)
     tell("sweep", made.notes(), len(made.cases))
@@ -151,7 +151,7 @@ def sweep_of(given: argparse.Namespace) -> tuple[Sweep, str | None]:
     """Returns the sweep of the command line, and the file that caches its results, if there is one."""
     from dnlab.sweeps.sweeping import Sweep
 
-    asks = [Ask(ask.of, ask.stats or USUAL) for ask in given.asks]
+    asks = [StatRequest(ask.of, ask.stats or USUAL) for ask in given.asks]
     span = Span(given.begin, given.end)
     if is_of_programs(given):
         from dnlab.sweeps.program_runs import ProgramSweep
@@ -170,12 +170,12 @@ def judge(given: argparse.Namespace, made: Sweep) -> None:
     """Raises `InputError` for a picture or pairs that do not fit the settings, before anything runs."""
     import pandas as pd
 
-    from dnlab.analysis.seeds import compared
+    from dnlab.sweeps.results import compared
 
     if given.plot is not None:
-        from dnlab.plot import looks
+        from dnlab.plot import style
 
-        looks.judge(pd.DataFrame([case.settings for case in made.cases]), made.settings,
+        style.judge(pd.DataFrame([case.settings for case in made.cases]), made.settings,
                      [(ask.of, stat) for ask in made.asks for stat in ask.stats], look_of(given))
     if given.pairs is not None:
         along, base = pair_in(given.pairs)
@@ -184,15 +184,15 @@ def judge(given: argparse.Namespace, made: Sweep) -> None:
 
 
 def sweep(given: argparse.Namespace) -> int:
-    ending.tells(lambda: "no experiment was run")
+    subprocesses.set_message(lambda: "no experiment was run")
     made, kept = sweep_of(given)
     if given.dry_run:
         sys.stdout.write(made.text(made.cases[0]))
         say("sweep", f"{len(made.cases)} experiments; this is the scenario of {made.cases[0].told()}")
         return 0
     judge(given, made)
-    ending.tells(lambda: far(made, kept))
-    ending.add(made.kept.close)
+    subprocesses.set_message(lambda: far(made, kept))
+    subprocesses.add_chore(made.kept.close)
     try:
         made.run()
     except ProgramError as failed:
@@ -208,13 +208,13 @@ def sweep(given: argparse.Namespace) -> int:
 def far(made: Sweep, kept: str | None) -> str:
     """Returns how many experiments are done, and where their results are."""
     done = f"{len(made.found)} of {len(made.cases)} experiments"
-    if any(isinstance(stat, Own) for stat in made.stats()):
+    if any(isinstance(stat, CustomStat) for stat in made.stats()):
         return f"{done} were done; results of your own functions are not kept, so the same command starts again"
     return f"{done} are kept in {kept}; the same command continues" if kept is not None else f"{done} were done; none is kept"
 
 
 def main(words_given: Sequence[str]) -> int:
-    ending.watch("sweep")
+    subprocesses.handle_signals("sweep")
     given = words(words_given)
     said = lacking(given)
     try:

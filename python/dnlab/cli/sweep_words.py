@@ -3,14 +3,14 @@ import argparse
 import os
 from typing import Any, Callable, Mapping, Optional, Sequence, TypeVar
 
-from dnlab.analysis.figures import KINDS
-from dnlab.analysis.notes import STOPPING
-from dnlab.analysis.stats import STATS, USUAL, Ask, stats_of
-from dnlab.cli.design_words import add_design, design_of, is_designed, picture
-from dnlab.cli.words import add_span, count_of, listed, parser_of, span_in
-from dnlab.sweeps.grids import seeds_of, setting_of
-from dnlab.sweeps.jobs import DASK
-from dnlab.sweeps.values import value_of
+from dnlab.analysis.quantities import KINDS
+from dnlab.errors import STOPPING
+from dnlab.analysis.statistics import STATS, USUAL, StatRequest, stats_of
+from dnlab.cli.arguments import add_design, design_of, is_designed, picture
+from dnlab.cli.arguments import add_span, count_of, listed, parser_of, span_in
+from dnlab.sweeps.grid import seeds_of, setting_of
+from dnlab.sweeps.engines import DASK
+from dnlab.sweeps.grid import value_of
 
 ABOUT = "Runs a template with each setting and seed, and prints means with intervals."
 T = TypeVar("T")
@@ -73,12 +73,12 @@ class Asked(argparse.Action):
     def __call__(self, parser: argparse.ArgumentParser, given: argparse.Namespace, value: Any,
                  option: Optional[str] = None) -> None:
         if option == "--of":
-            given.asks = [*given.asks, Ask(value, ())]
+            given.asks = [*given.asks, StatRequest(value, ())]
         elif not given.asks:
             parser.error(f"--stat {','.join(value)}: put the --of that it applies to before it")
         else:
             *before, last = given.asks
-            given.asks = [*before, Ask(last.of, last.stats + value)]
+            given.asks = [*before, StatRequest(last.of, last.stats + value)]
 
 
 def kind_of(function: Callable[[str], T]) -> Callable[[str], T]:
@@ -116,7 +116,7 @@ def share_of(text: str) -> float:
     return share
 
 
-# Equal to `dnlab.plot.looks.KINDS`, which needs matplotlib.
+# Equal to `dnlab.plot.style.KINDS`, which needs matplotlib.
 PICTURES = ("means", "tradeoff", "ecdf", "box")
 
 
@@ -135,7 +135,7 @@ def add_look(parser: argparse.ArgumentParser) -> None:
 
 def look_of(given: argparse.Namespace, known: Mapping[str, str] = {}) -> Any:
     """Returns the layout of the picture. `known` has labels for settings; --label overrides them."""
-    from dnlab.plot.looks import Look
+    from dnlab.plot.style import Look
 
     made = design_of(given)
     return Look(made.title, {**known, **made.labels}, made.size, made.font, made.style, made.legend, given.along, given.rows,

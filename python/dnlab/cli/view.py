@@ -2,9 +2,9 @@
 import argparse
 from typing import TYPE_CHECKING, Iterator, Sequence, cast
 
-from dnlab.analysis.notes import Note
-from dnlab.analysis.work import Given, TooMany, over, plans_of
-from dnlab.cli.words import add_texts, count_of, parser_of, taken
+from dnlab.errors import Note
+from dnlab.analysis.reports import Inputs, TooMany, map_experiments, plans_of
+from dnlab.cli.arguments import add_texts, count_of, parser_of, taken
 from dnlab.errors import InputError, status_of
 from dnlab.programs import say
 
@@ -62,7 +62,7 @@ def main(words_given: Sequence[str]) -> int:
     # Imported here, because the help must work without plotly and numpy.
     from plotly.offline import get_plotlyjs
 
-    from dnlab.analysis.summing import tell, whole
+    from dnlab.analysis.summary import tell, whole
     from dnlab.plot.page import Drawn, write
 
     notes: list[tuple[str, Note]] = []
@@ -70,8 +70,8 @@ def main(words_given: Sequence[str]) -> int:
 
     def experiments() -> Iterator[Drawn]:
         plans = plans_of(given.scenarios)
-        texts = Given(given.report, tuple(given.scenarios))
-        made = over(texts, draw_one, plans, given.experiment, given.workers, "view", _MOST_EXPERIMENTS)
+        texts = Inputs(given.report, tuple(given.scenarios))
+        made = map_experiments(texts, draw_one, plans, given.experiment, given.workers, "view", _MOST_EXPERIMENTS)
         for found, own in whole(texts, plans, given.experiment, made, lambda one: str(cast(Drawn, one[0]).head["name"])):
             assert isinstance(found, Drawn)
             names.append(found.head["name"])

@@ -1,7 +1,8 @@
-"""Starts the guest, or the link process if the clock is `wall`, and ends it at a limit or a signal."""
+"""Writes the plan for the guest, starts the guest, or the link process if the clock is `wall`, and ends it at a limit or a signal."""
 import os
 import resource
 import select
+import shutil
 import socket
 import subprocess
 import time
@@ -9,13 +10,112 @@ from contextlib import contextmanager
 from pathlib import Path
 from typing import Any, Iterator, NamedTuple, Optional, Union
 
-from dnlab.emulation import guest_plan
-from dnlab.emulation.experiment import Experiment
+from dnlab.emulation.experiment import Experiment, Host
 from dnlab.emulation.kernel_cache import Kernel
 from dnlab.emulation.terminal import Terminal
-from dnlab.errors import ResourceError
-from dnlab.processes import children
-from dnlab.processes.progress import Progress
+from dnlab.errors import InputError, ResourceError
+from dnlab.processes import subprocesses
+from dnlab.processes.process_pool import Progress
+
+# The line formats are those of hosts/start and hosts/link.
+
+LINK, PLAN = "guest/link.conf", "guest/plan"
+# What the guest leaves.
+EXITS, COUNTS, CONSOLE, FAILED = "guest/exits", "guest/counts", "guest/console", "guest/failed"
+TRANSCRIPT, REPORT = "transcript.txt", "report.txt"
+
+
+def capture_of(host: Host) -> str:
+    """Returns the name of a host's capture, relative to the output folder."""
+    return f"hosts/{host.name}/eth0.pcap"
+
+
+def link_lines(experiment: Experiment) -> Iterator[str]:
+    """Returns the lines of guest/link.conf."""
+    yield f"seed {experiment.seed}"
+    yield f"steps {experiment.steps}"
+    yield f"transcript {TRANSCRIPT}"
+    yield f"report {REPORT}"
+    for host in experiment.hosts:
+        yield f"host {host.name} {host.address} {capture_of(host)}"
+    for line in experiment.network:
+        yield f"do @{line.moment} {line.command}"
+
+
+def plan_lines(experiment: Experiment) -> Iterator[str]:
+    """Returns the lines of guest/plan."""
+    yield f"end {experiment.stop_ns}"
+    for host in experiment.hosts:
+        yield f"host {host.name} {host.address}"
+        yield from (f"sysctl {name} {value}" for name, value in host.sysctl)
+        yield from (f"setup {line}" for line in host.setup)
+        for index in range(len(host.processes)):
+            yield from _process_lines(experiment, host, index)
+
+
+def _process_lines(experiment: Experiment, host: Host, index: int) -> Iterator[str]:
+    process, stem = host.processes[index], host.stem(index)
+    yield f"process {index} {experiment.start_of(host, index)} {stem}.stdout {stem}.stderr"
+    yield f"path {_escaped(process.path)}"
+    yield from (f"argument {_escaped(word)}" for word in process.arguments)
+    yield from (f"environment {name}={_escaped(value)}" for name, value in process.environment)
+    if process.user is not None:
+        yield f"user {process.user}"
+    if process.stop_ns is not None:
+        yield f"stop {process.stop_ns} {process.stop_signal}"
+    expected = process.expected
+    yield f"expects {expected.kind}" + ("" if expected.number is None else f" {expected.number}")
+
+
+def _escaped(text: str) -> str:
+    r"""Returns a text on one line.
+
+    >>> _escaped("a\n\\b")
+    'a\\n\\\\b'
+    """
+    return text.replace("\\", "\\\\").replace("\n", "\\n")
+
+
+def write(experiment: Experiment, out: Path) -> None:
+    """Fills the output folder: the user's files, a folder for each host, and what the guest reads.
+
+    All have the start date as their time, so that programs that send file times send the same on each run."""
+    if experiment.template is not None:
+        shutil.copytree(experiment.template, out, symlinks=True, dirs_exist_ok=True)
+    for name, text in experiment.files:
+        (out / name).parent.mkdir(parents=True, exist_ok=True)
+        (out / name).write_text(text, encoding="utf-8")
+        if text.startswith("#!"):
+            (out / name).chmod(0o755)
+    (out / "guest").mkdir(exist_ok=True)
+    for host in experiment.hosts:
+        (out / "hosts" / host.name).mkdir(parents=True, exist_ok=True)
+    for place, lines in (LINK, link_lines(experiment)), (PLAN, plan_lines(experiment)):
+        (out / place).write_text("".join(f"{line}\n" for line in lines), encoding="utf-8")
+    _set_times(out, experiment.settings.start_date_ns)
+
+
+def _set_times(out: Path, moment: int) -> None:
+    for folder, folders, files in os.walk(out, topdown=False):
+        for name in (*files, *folders):
+            os.utime(os.path.join(folder, name), ns=(moment, moment), follow_symlinks=False)
+    os.utime(out, ns=(moment, moment))
+
+
+def empty_folder(out: Path, is_forced: bool) -> None:
+    """Creates the output folder. Raises `InputError` if it has files, unless `is_forced`, which empties it.
+
+    Removes only what a run has written: a folder without guest/plan in it is refused in any case."""
+    if out.is_dir() and any(out.iterdir()):
+        if not is_forced:
+            raise InputError(f"{out} is not empty; name another folder by --out, or overwrite it by --force")
+        if not (out / PLAN).is_file():
+            raise InputError(f"{out} is not the folder of a run, so --force does not remove it; name another by"
+                         " --out")
+        for it in out.iterdir():
+            shutil.rmtree(it) if it.is_dir() and not it.is_symlink() else it.unlink()
+    out.mkdir(parents=True, exist_ok=True)
+
 
 _TUN = Path("/dev/net/tun")
 # How often the progress is shown, in seconds.
@@ -32,7 +132,7 @@ class Ran(NamedTuple):
 
 def run_simulated(experiment: Experiment, kernel: Kernel, out: Path, limit_s: int) -> Ran:
     """Runs the guest's kernel in the output folder, on one CPU, without this process' environment."""
-    with _cpu() as cpu, open(out / guest_plan.CONSOLE, "wb") as console:
+    with _cpu() as cpu, open(out / CONSOLE, "wb") as console:
         words = ["taskset", "-c", str(cpu), "setarch", "-R", *kernel_words(experiment, kernel)]
         watched = _Watched(out, experiment.stop_ns // 10**9)
         return _run(words, limit_s, watched, cwd=out, stdin=subprocess.DEVNULL, stdout=console,
@@ -46,10 +146,10 @@ def run_by_wall_clock(kernel: Kernel, out: Path, limit_s: int, terminal: Optiona
     if not os.access(_TUN, os.R_OK | os.W_OK):
         raise ResourceError(f"{_TUN} cannot be opened, so there are no devices for the hosts: run as root, or type:"
                       f" chmod 666 {_TUN}")
-    words = [str(kernel.file("link")), guest_plan.LINK, guest_plan.PLAN]
+    words = [str(kernel.file("link")), LINK, PLAN]
     if os.geteuid() != 0:
         words = ["unshare", "-Urm", *words]
-    with open(out / guest_plan.CONSOLE, "wb") as console:
+    with open(out / CONSOLE, "wb") as console:
         return _run(words, limit_s, terminal, cwd=out, stdin=subprocess.DEVNULL, stdout=console,
                     stderr=console)
 
@@ -61,7 +161,7 @@ def kernel_words(experiment: Experiment, kernel: Kernel) -> list[str]:
             "time-travel=inf-cpu", f"time-travel-start={settings.start_date_ns}",
             f"time-travel-cost={settings.clock_read_ns},{settings.syscall_ns}",
             f"time-travel-reads={settings.reads}", f"time-travel-polls={settings.polls}",
-            f"rng-seed={experiment.seed}", "quiet", "con=null", "con0=null,fd:1", f"dnlab={guest_plan.LINK}"]
+            f"rng-seed={experiment.seed}", "quiet", "con=null", "con0=null,fd:1", f"dnlab={LINK}"]
 
 
 class _Watched(NamedTuple):
@@ -73,7 +173,7 @@ class _Watched(NamedTuple):
 def seconds_done(out: Path) -> int:
     """Returns the simulated seconds of a run so far, by the last whole line of its transcript."""
     try:
-        with open(out / guest_plan.TRANSCRIPT, "rb") as file:
+        with open(out / TRANSCRIPT, "rb") as file:
             file.seek(max(0, os.fstat(file.fileno()).st_size - 4096))
             lines = file.read().split(b"\n")[1:-1]
         return int(lines[-1].split()[0][1:]) // 10**9 if lines and lines[-1].startswith(b"@") else 0
@@ -84,14 +184,14 @@ def seconds_done(out: Path) -> int:
 def _run(words: list[str], limit_s: int, seen: Union[_Watched, Terminal, None], **how: Any) -> Ran:
     """Runs a process to its end or its limit, while its progress or its terminal is shown."""
     began, before = time.monotonic(), _cpu_of_children()
-    with children.child(words, **how) as process:
+    with subprocesses.child(words, **how) as process:
         if isinstance(seen, Terminal):
             _relay(process, seen)
         in_time = (_ends_within(process, limit_s, seen) if isinstance(seen, _Watched)
                    else _has_ended(process, limit_s))
         if not in_time:
-            children.end(process)
-        status = children.wait(process) if process.returncode is None else process.returncode
+            subprocesses.kill(process)
+        status = subprocesses.wait(process) if process.returncode is None else process.returncode
     return Ran(status, not in_time, time.monotonic() - began, _cpu_of_children() - before)
 
 

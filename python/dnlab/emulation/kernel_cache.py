@@ -16,10 +16,10 @@ from pathlib import Path
 from typing import Iterator, NamedTuple
 
 from dnlab.errors import ResourceError
-from dnlab.io.outputs import whole_file
-from dnlab.processes import children
-from dnlab.processes.progress import Progress
-from dnlab.processes.rooms import Room
+from dnlab.io.files import whole_file
+from dnlab.processes import subprocesses
+from dnlab.processes.process_pool import Progress
+from dnlab.processes.subprocesses import TempDir
 from dnlab.programs import DATA, ROOT, is_repository, say
 
 BUILD = DATA / "hosts" / "kernel" / "build"
@@ -130,9 +130,9 @@ def _fingerprint() -> str:
 
 def _made(cache: Path) -> Kernel:
     """Returns the kernel of the checksum, built if it is not there."""
-    with Room(cache) as room:
+    with TempDir(cache) as room:
         prefix, is_proved = _library(room.path / "prefix")
-        done = children.run([str(BUILD), "--checksum", str(prefix)])
+        done = subprocesses.run([str(BUILD), "--checksum", str(prefix)])
         if done.status:
             raise _lacking(done.errors.decode(errors="replace"))
         checksum = done.out.decode().strip()
@@ -163,9 +163,9 @@ def _library(prefix: Path) -> tuple[Path, bool | None]:
             raise ResourceError(f"{_ARCHIVES[0]} is missing: install dnlab with its library for C (Debian: libdnlab-dev)")
         return _INSTALLED, None
     words = [str(ROOT / "tools" / "library"), str(prefix)]
-    if children.run(words).status == 0:
+    if subprocesses.run(words).status == 0:
         return prefix, True
-    done = children.run([*words, "--unproved"])
+    done = subprocesses.run([*words, "--unproved"])
     if done.status:
         raise ResourceError(f"libdnlab cannot be made: {_last(done.errors.decode(errors='replace'))}")
     return prefix, False
@@ -189,14 +189,14 @@ def _build(prefix: Path, work: Path, folder: Path) -> None:
     say("hosts", "building the guest's kernel, once for these sources: about five minutes on four cores")
     work.mkdir()
     with tempfile.TemporaryFile() as errors, Progress("hosts", 100, unit="% of the kernel") as progress:
-        with children.child([str(BUILD), str(work), str(prefix)], stdin=subprocess.DEVNULL,
+        with subprocesses.child([str(BUILD), str(work), str(prefix)], stdin=subprocess.DEVNULL,
                             stdout=subprocess.PIPE, stderr=errors) as process:
             assert process.stdout is not None
             for line in process.stdout:
                 words = line.decode(errors="replace").split()
                 if words[:1] == ["progress"] and len(words) > 1 and words[1].isdigit():
                     progress.step(max(0, min(100, int(words[1])) - progress.done))
-            status = children.wait(process)
+            status = subprocesses.wait(process)
         errors.seek(0)
         if status:
             raise _lacking(errors.read().decode(errors="replace"))

@@ -10,7 +10,7 @@ import tty
 from contextlib import contextmanager, suppress
 from typing import Any, Callable, Iterator, Optional
 
-from dnlab.processes import ending
+from dnlab.processes import subprocesses
 
 _BLOCK = 65536
 # What a terminal takes for the end of the input, at the begin of a line.
@@ -77,13 +77,13 @@ def _raw() -> Iterator[None]:
     def restore() -> None:
         termios.tcsetattr(sys.stdin, termios.TCSADRAIN, mode)
 
-    ending.add(restore)
+    subprocesses.add_chore(restore)
     try:
         tty.setraw(sys.stdin)
         yield
     finally:
         restore()
-        ending.remove(restore)
+        subprocesses.remove_chore(restore)
 
 
 @contextmanager

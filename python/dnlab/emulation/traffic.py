@@ -1,22 +1,103 @@
 """The traffic of a run by hosts and ports, as `client:* > server:5201`: packets, losses, delays and rates."""
+import bisect
 import json
+import struct
 from collections import defaultdict
 from pathlib import Path
-from typing import Any, NamedTuple, Optional
+from typing import Any, Iterator, NamedTuple, Optional
 
 import numpy as np
 
 from dnlab.analysis.commands import injected_of
-from dnlab.analysis.figures import place
 from dnlab.analysis.packets import DELIVERED, DROPPED, Packets
+from dnlab.analysis.quantities import place
 from dnlab.analysis.view import View
-from dnlab.emulation import guest_plan
-from dnlab.emulation.captures import Delivered, Ends, delivered
-from dnlab.emulation.outcome import SUMMARY, VERSION
+from dnlab.emulation import guest
+from dnlab.emulation.run import SUMMARY, VERSION
 from dnlab.errors import InputError, ParseError
-from dnlab.io import report, scenario
+from dnlab.io import arrivals, report, scenario
+from dnlab.io.arrivals import Arrival, Omissions
 from dnlab.io.report import Recorded
 from dnlab.io.scenario_parts import Plan
+
+_SYN = 0x02
+_HALF = 1 << 31
+
+Ends = tuple[str, str, int, str, int]
+
+
+class Covered:
+    """The bytes of one direction of a TCP connection that have arrived, by sequence number.
+
+    >>> seen = Covered(100)
+    >>> [seen.add(100, 10), seen.add(120, 10), seen.add(105, 20), seen.add(100, 30)]
+    [10, 10, 10, 0]
+    """
+
+    def __init__(self, first: int) -> None:
+        self.first = first
+        self._last = 0
+        # Ends of the parts that have arrived, from the first byte on: begin, end, begin, end ..
+        self._ends: list[int] = []
+
+    def add(self, sequence: int, length: int) -> int:
+        """Returns how many bytes are new of a segment; its sequence number wraps at 2^32."""
+        begin = self._last + (sequence - self.first - self._last + _HALF) % (1 << 32) - _HALF
+        end = begin + length
+        self._last = max(self._last, end)
+        low, high = bisect.bisect_left(self._ends, begin), bisect.bisect_right(self._ends, end)
+        held = self._ends[low:high]
+        parts = ([begin] if low % 2 else []) + held + ([end] if high % 2 else [])
+        old = sum(parts[place + 1] - parts[place] for place in range(0, len(parts), 2))
+        self._ends[low:high] = ([] if low % 2 else [begin]) + ([] if high % 2 else [end])
+        return length - old
+
+
+class Delivered(NamedTuple):
+    """Bytes that arrived in one direction between two ports (new ones of TCP, all of UDP), and when (ns)."""
+    bytes: int
+    last_ns: int
+
+
+def ends_of(packet: Arrival) -> Ends:
+    """Returns protocol, source, source port, target and target port."""
+    return packet.protocol, packet.source, packet.source_port, packet.target, packet.target_port
+
+
+def received(path: Path, address: str) -> Iterator[Arrival]:
+    """Returns the packets of a capture that were delivered to an address. Raises `InputError` if it is not a capture."""
+    if not path.is_file():
+        raise InputError(f"{path} is missing: name the folder of a run")
+    return (packet for packet in arrivals.of_file(str(path), Omissions()) if packet.target == address)
+
+
+def payload_of(packet: Arrival) -> tuple[int, int, int]:
+    """Returns sequence number, payload bytes and flags of a packet of TCP; 0, payload bytes and 0 of UDP."""
+    header = (packet.kept[0] & 15) * 4
+    if packet.protocol == "udp":
+        return 0, max(0, packet.size - header - 8), 0
+    sequence, = struct.unpack_from(">I", packet.kept, header + 4)
+    return sequence, packet.size - header - (packet.kept[header + 12] >> 4) * 4, packet.kept[header + 13]
+
+
+def delivered(path: Path, address: str) -> dict[Ends, Delivered]:
+    """Returns what arrived at a host, by ends: each byte of TCP once, also if it was sent again."""
+    streams: dict[Ends, Covered] = {}
+    found: dict[Ends, Delivered] = defaultdict(lambda: Delivered(0, 0))
+    for packet in received(path, address):
+        ends = ends_of(packet)
+        sequence, length, flags = payload_of(packet)
+        new = length
+        if packet.protocol == "tcp":
+            # The SYN has a sequence number of its own, before that of the first byte.
+            first = (sequence + (flags & _SYN) // _SYN) % (1 << 32)
+            if ends not in streams or flags & _SYN and streams[ends].first != first:
+                streams[ends] = Covered(first)
+            new = streams[ends].add(sequence, length) if length else 0
+        before = found[ends]
+        found[ends] = Delivered(before.bytes + new, packet.moment if new else before.last_ns)
+    return dict(found)
+
 
 PERCENTILES = (50, 95, 99)
 
@@ -90,10 +171,10 @@ def _joined(folder: Path, names: dict[str, str]) -> tuple[View, dict[Ends, Pair]
 
 def _read(folder: Path) -> tuple[Plan, Recorded]:
     """Reads the transcript and the report. Raises `InputError` if one of them is incomplete."""
-    name = guest_plan.TRANSCRIPT
+    name = guest.TRANSCRIPT
     try:
         plan = next(iter(scenario.read((folder / name).read_bytes()).values()))
-        name = guest_plan.REPORT
+        name = guest.REPORT
         return plan, next(report.read(folder / name))
     except (ParseError, StopIteration, OSError) as fault:
         cause = str(fault) or "it has no experiment"

@@ -49,7 +49,7 @@ class Arrival(NamedTuple):
                 f" {max(self.size, LEAST)}")
 
 
-class Left(Counter[str]):
+class Omissions(Counter[str]):
     """Counts packets that were changed or left out, by kind."""
 
     def told(self) -> str:
@@ -57,7 +57,7 @@ class Left(Counter[str]):
         return ", ".join(f"{count} {what}" for what, count in sorted(self.items()))
 
 
-def of_file(path: str, left: Left) -> Iterator[Arrival]:
+def of_file(path: str, left: Omissions) -> Iterator[Arrival]:
     """Yields the packets of a capture or a table, in order of time. Raises `InputError` with the packet or line."""
     try:
         with open(path, "rb") as file:
@@ -116,7 +116,7 @@ class _Whole:
         return data
 
 
-def _captured(file: BinaryIO, is_new: bool, path: str, left: Left) -> Iterator[Arrival]:
+def _captured(file: BinaryIO, is_new: bool, path: str, left: Omissions) -> Iterator[Arrival]:
     """Yields the packets of a capture, in its order."""
     number = 0
     try:
@@ -150,7 +150,7 @@ def _start(link: int, frame: bytes) -> Optional[int]:
     raise ValueError(f"its link (number {link} of libpcap) is not supported: Ethernet, Linux cooked capture, loopback and raw IP are")
 
 
-def _packet(moment: int, link: int, frame: bytes, left: Left) -> Optional[Arrival]:
+def _packet(moment: int, link: int, frame: bytes, left: Omissions) -> Optional[Arrival]:
     begin = _start(link, frame)
     if begin is None or len(frame) < begin + 20 or frame[begin] >> 4 != 4:
         left["without IPv4, left out"] += 1
@@ -217,7 +217,7 @@ def _aligned(arrivals: Iterable[Arrival]) -> Iterator[Arrival]:
         yield one._replace(moment=one.moment - begin)
 
 
-def fitting(arrivals: Iterable[Arrival], large: str, left: Left) -> Iterator[Arrival]:
+def fitting(arrivals: Iterable[Arrival], large: str, left: Omissions) -> Iterator[Arrival]:
     """Yields the packets; those above 1500 bytes are refused, cut or split (`large`)."""
     for number, one in enumerate(arrivals, 1):
         if one.size <= MOST:
@@ -266,4 +266,3 @@ def _part(kept: bytes, size: int, number: int, place: int, is_last: bool) -> byt
     elif kept[9] == 17 and len(made) >= begin + 8:
         made[begin + 4:begin + 8] = (size - begin).to_bytes(2, "big") + b"\0\0"
     return bytes(made)
-

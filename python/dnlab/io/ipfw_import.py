@@ -4,11 +4,10 @@ from collections import Counter
 from decimal import Decimal
 from typing import Mapping, Optional, Sequence
 
-from dnlab.io import ipfw_rules, ipfw_spread, ipfw_words
-from dnlab.io.ipfw_became import Became
+from dnlab.io import ipfw_rules, ipfw_script, ipfw_words
 from dnlab.io.ipfw_rules import Known
-from dnlab.io.ipfw_script import Line
-from dnlab.io.ipfw_words import APPROXIMATED, DROPPED, KINDS, REFUSED, REWRITTEN, SAME, Cannot, How, Unmatchable
+from dnlab.io.ipfw_script import Line, Translation
+from dnlab.io.ipfw_words import APPROXIMATED, DROPPED, KINDS, REFUSED, REWRITTEN, SAME, How, Unmatchable, UnsupportedError
 
 _LAST = 65534
 _MOST_RULES, _MOST_PIPES = 256, 64
@@ -24,7 +23,7 @@ class Import:
         self.behind, self.me = dict(behind), me
         self.flatten, self.drop_unmatchable = flatten, drop_unmatchable
         self.moment = moment
-        self.became: list[Became] = []
+        self.became: list[Translation] = []
         self._tables: dict[str, dict[str, str]] = {}
         # The kind of each pipe, scheduler and queue.
         self._pipes: dict[int, list[str]] = {}
@@ -66,8 +65,8 @@ class Import:
                 self._sleep(words)
                 return
             commands = self._sysctl(words) if line.words[0] == "sysctl" else self._ipfw(words)
-        except Cannot as cannot:
-            self.became.append(Became(line.text(), REFUSED, self.moment, (), (str(cannot),)))
+        except UnsupportedError as cannot:
+            self.became.append(Translation(line.text(), REFUSED, self.moment, (), (str(cannot),)))
             return
         if commands is None:
             kind, commands = DROPPED, []
@@ -75,7 +74,7 @@ class Import:
             kind = APPROXIMATED
         else:
             kind = SAME if commands == [" ".join(words)] else REWRITTEN
-        self.became.append(Became(line.text(), kind, self.moment, tuple(commands), tuple(self._costs)))
+        self.became.append(Translation(line.text(), kind, self.moment, tuple(commands), tuple(self._costs)))
 
     def tally(self) -> dict[str, int]:
         """Returns how many lines are of each kind."""
@@ -85,7 +84,7 @@ class Import:
     def _sleep(self, words: list[str]) -> None:
         """Advances the time for the lines that follow."""
         if len(words) != 1 or not re.fullmatch(r"[0-9]{1,6}(\.[0-9]{1,9})?s?", words[0]):
-            raise Cannot(f"`sleep {' '.join(words)}`: a number of seconds must follow, as 0.5")
+            raise UnsupportedError(f"`sleep {' '.join(words)}`: a number of seconds must follow, as 0.5")
         self.moment += int(Decimal(words[0].rstrip("s")) * 10**9)
 
     def _say(self, how: How) -> str:
@@ -111,7 +110,7 @@ class Import:
 
     def _ipfw(self, words: list[str]) -> Optional[list[str]]:
         if not words:
-            raise Cannot("a command must follow `ipfw`")
+            raise UnsupportedError("a command must follow `ipfw`")
         first, *rest = words
         if first == "add":
             return self._add(rest)
@@ -130,19 +129,19 @@ class Import:
             return self._delete(rest)
         if first in ("enable", "disable") and rest == ["one_pass"]:
             return self._one_pass_is("1" if first == "enable" else "0")
-        raise Cannot(f"`{first}` is not supported here")
+        raise UnsupportedError(f"`{first}` is not supported here")
 
     def _judge_flush(self, is_late: bool, what: str) -> None:
         if is_late:
-            raise Cannot(f"`flush` after {what}: a scenario starts empty, so leave out what precedes it")
+            raise UnsupportedError(f"`flush` after {what}: a scenario starts empty, so leave out what precedes it")
 
     def _delete(self, words: list[str]) -> Optional[list[str]]:
         numbers = [int(word) for word in words if word.isdigit()]
         if len(numbers) != len(words) or not numbers:
-            raise Cannot("`delete`: numbers of rules must follow")
+            raise UnsupportedError("`delete`: numbers of rules must follow")
         for number in numbers:
             if number not in self._rules:
-                raise Cannot(f"`delete {number}`: no rule has this number")
+                raise UnsupportedError(f"`delete {number}`: no rule has this number")
         given = [number for number in numbers if self._rules[number]]
         for number in numbers:
             self._rules.pop(number, None)
@@ -153,7 +152,7 @@ class Import:
         name, *rest = words if words else [""]
         if rest[:1] == ["create"]:
             if "type" in rest and rest[rest.index("type") + 1:][:1] != ["addr"]:
-                raise Cannot(f"`table {name}`: only tables of addresses are supported")
+                raise UnsupportedError(f"`table {name}`: only tables of addresses are supported")
             self._tables.setdefault(name, {})
         elif rest[:1] == ["add"] and len(rest) in (2, 3):
             entry = ipfw_words.address(rest[1])
@@ -166,7 +165,7 @@ class Import:
         elif rest[:1] in (["list"], ["info"]):
             return None
         else:
-            raise Cannot(f"`table {' '.join(words)}`: only create, add, delete, flush and destroy are supported")
+            raise UnsupportedError(f"`table {' '.join(words)}`: only create, add, delete, flush and destroy are supported")
         return []
 
     def _shaper(self, what: str, words: list[str]) -> Optional[list[str]]:
@@ -178,20 +177,20 @@ class Import:
             return ["pipe show"] if what == "pipe" else None
         number, does = next((word for word in words[:2] if word.isdigit()), ""), words[:2]
         if len(words) < 2 or not number or not 1 <= int(number) <= 65535:
-            raise Cannot(f"`{what}`: a number from 1 to 65535 and `config` must follow")
+            raise UnsupportedError(f"`{what}`: a number from 1 to 65535 and `config` must follow")
         if "delete" in does:
             if what != "pipe" or self._pipes.pop(int(number), None) is None:
-                raise Cannot(f"`{what} {number} delete`: there is no such pipe")
+                raise UnsupportedError(f"`{what} {number} delete`: there is no such pipe")
             return [f"pipe delete {number}"]
         if "config" not in does:
-            raise Cannot(f"`{what} {' '.join(does)}`: only config, delete and show are supported")
+            raise UnsupportedError(f"`{what} {' '.join(does)}`: only config, delete and show are supported")
         if what != "pipe":
             return self._scheduled(what, int(number), words[2:])
         return self._pipe(int(number), words[2:])
 
     def _pipe(self, number: int, words: list[str]) -> list[str]:
         if number not in self._pipes and len(self._pipes) == _MOST_PIPES:
-            raise Cannot(f"there are {_MOST_PIPES} pipes already")
+            raise UnsupportedError(f"there are {_MOST_PIPES} pipes already")
         options: list[str] = []
         while words:
             name = words.pop(0)
@@ -209,19 +208,19 @@ class Import:
                 reads = {"delay": ipfw_words.delay, "plr": ipfw_words.loss, "queue": ipfw_words.queue}.get(name, ipfw_words.rate)
                 options.append(("bw" if name == "bandwidth" else name) + " " + self._say(reads(words.pop(0))))
             else:
-                raise Cannot(f"`{name}`: pipes here have bw, delay, queue, plr, mask, droptail and codel: leave it out")
+                raise UnsupportedError(f"`{name}`: pipes here have bw, delay, queue, plr, mask, droptail and codel: leave it out")
         self._pipes[number] = options
         return [" ".join(["pipe", str(number), "config", *options])]
 
     def _scheduled(self, what: str, number: int, words: list[str]) -> list[str]:
         """Translates a queue or a scheduler, which is replaced by its pipe if requested."""
         if not self.flatten:
-            raise Cannot(f"`{what} {number}`: weighted queues and schedulers (WF2Q+, FQ-CoDel) are not supported: --flatten uses the"
+            raise UnsupportedError(f"`{what} {number}`: weighted queues and schedulers (WF2Q+, FQ-CoDel) are not supported: --flatten uses the"
                          " pipe instead")
         named = {name: int(value) for name, value in zip(words, words[1:]) if name in ("pipe", "sched") and value.isdigit()}
         pipe = named.get("pipe", number if what == "sched" else self._schedulers.get(named.get("sched", -1), -1))
         if pipe not in self._pipes and (pipe not in self._later or {"fq_codel", "codel"} & set(words)):
-            raise Cannot(f"`{what} {number}`: its pipe must be configured before it")
+            raise UnsupportedError(f"`{what} {number}`: its pipe must be configured before it")
         if what == "queue":
             self._queues[number] = pipe
             self._costs.append(f"`queue {number}` is replaced by pipe {pipe}: its own weight, queue, mask and red are lost")
@@ -241,7 +240,7 @@ class Import:
         if words and re.fullmatch(r"[0-9]+", words[0]):
             number = int(words.pop(0))
             if not 1 <= number <= _LAST:
-                raise Cannot(f"a rule's number is 1 to {_LAST}")
+                raise UnsupportedError(f"a rule's number is 1 to {_LAST}")
             return number
         last = max(self._rules, default=0)
         return last + self._step if last + self._step <= _LAST else last
@@ -263,14 +262,14 @@ class Import:
         before: list[str] = []
         if rule.share:
             before = self._by_chance(rule)
-        commands = ipfw_spread.commands_of(rule, number, known)
+        commands = ipfw_script.commands_of(rule, number, known)
         if self._goes_on and rule.action.startswith("pipe ") and not rule.share:
             # A rule of its own allows what leaves the pipe, as one_pass 1 would.
             commands = [each for one in commands for each in dict.fromkeys((one, re.sub(r"^(add \d+) pipe \d+", r"\1 allow", one)))]
         if number in self._around or (rule.excluded and self._rules[number]):
-            raise Cannot(f"rule {number}: `not` skips all rules of this number: give one of them another number")
+            raise UnsupportedError(f"rule {number}: `not` skips all rules of this number: give one of them another number")
         if sum(self._rules.values()) + len(commands) > _MOST_RULES:
-            raise Cannot(f"with it there are more than {_MOST_RULES} rules, the maximum of an experiment")
+            raise UnsupportedError(f"with it there are more than {_MOST_RULES} rules, the maximum of an experiment")
         self._judge(rule, number)
         if rule.excluded:
             self._around.add(number)
@@ -281,14 +280,14 @@ class Import:
         """Adds what a rule's action implies."""
         name, _, value = rule.action.partition(" ")
         if name == "skipto" and int(value) <= number:
-            raise Cannot(f"`{rule.action}` goes backwards, which is not supported")
+            raise UnsupportedError(f"`{rule.action}` goes backwards, which is not supported")
         if name == "pipe" and not any("passes the rules once here" in one for one in rule.costs) and not rule.share:
             self._costs.append("on a router this rule shapes a packet twice, coming in and going out; here once")
 
     def _by_chance(self, rule: ipfw_rules.Rule) -> list[str]:
         """Translates a rule that denies at random into a pipe with losses."""
         if rule.action != "deny":
-            raise Cannot(f"`prob {rule.share}`: only random `deny` is supported, as a pipe with losses: route by addresses and ports instead")
+            raise UnsupportedError(f"`prob {rule.share}`: only random `deny` is supported, as a pipe with losses: route by addresses and ports instead")
         if self._one_pass:
             self._costs.append("one_pass 0 from here, and an `allow` after each rule to a pipe instead of one_pass 1: 1 ns more")
         pipe = next(number for number in range(65535, 0, -1) if number not in self._pipes)

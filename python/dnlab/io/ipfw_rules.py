@@ -4,7 +4,7 @@ import socket
 from dataclasses import dataclass, field
 from typing import Mapping, Optional, Sequence
 
-from dnlab.io.ipfw_words import Cannot, Unmatchable, address, narrowed, network, ports
+from dnlab.io.ipfw_words import Unmatchable, UnsupportedError, address, narrowed, network, ports
 
 ACTIONS = {"allow": "allow", "accept": "allow", "pass": "allow", "permit": "allow", "deny": "deny", "drop": "deny", "count": "count"}
 _ANSWERS = {"reset": 0, "reset6": 0, "reject": 0, "unreach": 1, "unreach6": 1}
@@ -49,7 +49,7 @@ class Rule:
 
 def _take(words: list[str], what: str) -> str:
     if not words:
-        raise Cannot(f"the rule ends where {what} should be")
+        raise UnsupportedError(f"the rule ends where {what} should be")
     return words.pop(0)
 
 
@@ -73,7 +73,7 @@ def read(words: Sequence[str], known: Known) -> Rule:
         _protocol(rule, left)
         for side, word in enumerate(("from", "to")):
             if _take(left, f"`{word}`") != word:
-                raise Cannot(f"`{word}` is missing: write `from any to any`")
+                raise UnsupportedError(f"`{word}` is missing: write `from any to any`")
             _side(rule, left, side, known)
     while left:
         _option(rule, left, known)
@@ -98,14 +98,14 @@ def _action(rule: Rule, words: list[str], known: Known) -> None:
         number = _take(words, "a number")
         if action == "queue":
             if number not in map(str, known.queues):
-                raise Cannot(f"`queue {number}`: weighted queues (WF2Q+) are not supported: --flatten uses the pipe instead")
+                raise UnsupportedError(f"`queue {number}`: weighted queues (WF2Q+) are not supported: --flatten uses the pipe instead")
             rule.costs.append(f"`queue {number}` is replaced by its pipe: the weights are lost")
             action, number = "pipe", str(known.queues[int(number)])
         if not number.isdigit() and not (action == "pipe" and number == "tablearg"):
-            raise Cannot(f"`{action} {number}`: a number is expected here")
+            raise UnsupportedError(f"`{action} {number}`: a number is expected here")
         rule.action = f"{action} {int(number) if number.isdigit() else number}"
     else:
-        raise Cannot(f"`{action}`: this action is not supported: allow, deny, count, skipto and pipe are")
+        raise UnsupportedError(f"`{action}`: this action is not supported: allow, deny, count, skipto and pipe are")
     while words and words[0] in ("log", "logamount"):
         if words.pop(0) == "logamount":
             _take(words, "a number")
@@ -138,7 +138,7 @@ def _matched(name: str) -> set[str]:
         try:
             socket.getprotobyname(name)
         except OSError:
-            raise Cannot(f"`{name}` isn't a protocol") from None
+            raise UnsupportedError(f"`{name}` isn't a protocol") from None
     return set()
 
 
@@ -162,16 +162,16 @@ def _addresses(rule: Rule, words: list[str], known: Known) -> list[str]:
         table = re.fullmatch(r"table\(([^),]+)\)", name)
         if table:
             if table[1] not in known.tables:
-                raise Cannot(f"`{name}`: this table is empty")
+                raise UnsupportedError(f"`{name}`: this table is empty")
             rule.table = table[1]
             # The longest prefix comes first, because it determines a table's value.
             found += sorted(known.tables[table[1]], key=lambda one: -network(one).prefixlen)
         elif name == "me":
             if known.me is None:
-                raise Cannot("`me`: give this machine's address: --me 203.0.113.10")
+                raise UnsupportedError("`me`: give this machine's address: --me 203.0.113.10")
             found.append(known.me)
         elif name in ("me6", "any6"):
-            raise Cannot(f"`{name}`: IPv6 addresses are not supported")
+            raise UnsupportedError(f"`{name}`: IPv6 addresses are not supported")
         else:
             found.append(address(name))
     if rule.table:
@@ -207,7 +207,7 @@ def _option(rule: Rule, words: list[str], known: Known) -> None:
         rule.ports[name == "dst-port"] = ports(_take(words, "a port"))
     elif name in ("dst-ip", "src-ip"):
         if rule.sides[name == "dst-ip"] != ["any"]:
-            raise Cannot(f"`{name}` with another address of the same side is not supported: write one")
+            raise UnsupportedError(f"`{name}` with another address of the same side is not supported: write one")
         rule.sides[name == "dst-ip"] = _addresses(rule, words, known)
     elif name == "proto":
         _protocol(rule, words)
@@ -217,16 +217,16 @@ def _option(rule: Rule, words: list[str], known: Known) -> None:
         _interface(rule, {"via": "", "recv": "in", "xmit": "out"}[name], _take(words, "an interface"), known)
     elif name == "setup":
         if rule.action == "deny":
-            raise Cannot("`deny .. setup`: without flags the whole connection would be denied: deny its addresses and ports instead")
+            raise UnsupportedError("`deny .. setup`: without flags the whole connection would be denied: deny its addresses and ports instead")
         rule.costs.append("`setup` left out: the rule matches all packets of the connection")
     elif name in ("keep-state", "limit"):
         _state(rule, words, name)
     elif name in ("icmptypes", "icmp6types"):
         raise Unmatchable(f"`{name}`: packets here are TCP or UDP, so the rule matches nothing: --drop-unmatchable leaves it out")
     elif name in _LACKING:
-        raise Cannot(f"`{name}`: {_LACKING[name]}: leave the rule out, or write its purpose as addresses and ports")
+        raise UnsupportedError(f"`{name}`: {_LACKING[name]}: leave the rule out, or write its purpose as addresses and ports")
     else:
-        raise Cannot(f"`{name}` is not supported here")
+        raise UnsupportedError(f"`{name}` is not supported here")
 
 
 def _opposite(rule: Rule, words: list[str], known: Known) -> None:
@@ -241,7 +241,7 @@ def _opposite(rule: Rule, words: list[str], known: Known) -> None:
     elif name in ("in", "out"):
         _direction(rule, [], "out" if name == "in" else "in", known)
     elif name not in _NEVER:
-        raise Cannot(f"`not {name}` is not supported here")
+        raise UnsupportedError(f"`not {name}` is not supported here")
 
 
 def _state(rule: Rule, words: list[str], name: str) -> None:
@@ -282,7 +282,7 @@ def _interface(rule: Rule, direction: str, name: str, known: Known) -> None:
         rule.is_void = True
         return
     if name not in known.behind:
-        raise Cannot(f"`{name}`: name the addresses behind this interface: --if {name}=10.0.1.0/24, or --if {name}=any")
+        raise UnsupportedError(f"`{name}`: name the addresses behind this interface: --if {name}=10.0.1.0/24, or --if {name}=any")
     behind = known.behind[name]
     if behind == "any":
         rule.costs.append(f"`{f'{direction} .. ' if direction else 'via '}{name}` left out, because any address is behind {name}"

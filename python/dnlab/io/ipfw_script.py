@@ -1,11 +1,13 @@
-"""The lines that ipfw(8) receives: of a script, which is read and never executed, of a file for `ipfw FILE`, or of the output of
-`ipfw list` and `ipfw pipe show`."""
+"""The lines of a configuration of ipfw(8), and the scenario that they became."""
 import itertools
 import re
-from typing import NamedTuple
+from dataclasses import dataclass
+from typing import NamedTuple, Sequence
 
 from dnlab.errors import InputError, ParseError
 from dnlab.io import shell_words
+from dnlab.io.ipfw_rules import Known, Rule
+from dnlab.io.ipfw_words import REFUSED, SAME, UnsupportedError, narrowed
 
 _COMMANDS = {"add", "delete", "pipe", "queue", "sched", "table", "set", "flush", "zero", "resetlog", "list", "show", "enable",
              "disable", "nat"}
@@ -97,3 +99,90 @@ def _mask(line: str) -> list[str]:
         return ["mask"]
     named = zip(("proto", "src-ip", "src-port", "dst-ip", "dst-port"), found.groups())
     return ["mask", *(word for name, bits in named if int(bits, 16) for word in (name, bits))]
+
+
+_MOST = 256
+
+
+def _words(number: int, action: str, protocol: str, ends: Sequence[str]) -> str:
+    source, target = (" ".join(filter(None, (ends[side], ends[2 + side]))) for side in (0, 1))
+    return f"add {number} {action} {protocol} from {source} to {target}"
+
+
+def _spread(rule: Rule, number: int, action: str, places: Sequence[Sequence[str]]) -> list[str]:
+    """Returns a rule for each protocol, address and port."""
+    made = []
+    for protocol, *ends in itertools.product(rule.protocols, *places):
+        made.append(_words(number, action, protocol, ends))
+        if rule.both:
+            made.append(_words(number, action, protocol, (ends[1], ends[0], ends[3], ends[2])))
+    return made
+
+
+def commands_of(rule: Rule, number: int, known: Known) -> list[str]:
+    """Returns the `add` commands of a rule, all with its number."""
+    wanted = [[rule.sides[0], rule.sides[1], rule.ports[0], rule.ports[1]]]
+    if rule.either:
+        wanted = [[[narrowed(one, rule.either)[0] for one in wanted[0][side]] if side == turn else wanted[0][side] for side in range(4)]
+                  for turn in (0, 1)]
+    if rule.excluded and (rule.both or rule.table):
+        raise UnsupportedError("`not` with `keep-state` or a table is not supported: write the intended rules")
+    made: list[str] = []
+    for places in wanted:
+        for place, excluded in rule.excluded:
+            made += _spread(rule, number, f"skipto {number + 1}",
+                            [excluded if one == place else places[one] for one in range(4)])
+        made += _valued(rule, number, places, known)
+    if len(made) > _MOST:
+        raise UnsupportedError(f"it needs {len(made)} rules, but an experiment has {_MOST}: write prefixes and ranges")
+    return made
+
+
+def _valued(rule: Rule, number: int, places: Sequence[Sequence[str]], known: Known) -> list[str]:
+    """Returns the rules themselves; with `tablearg` each entry goes to the pipe of its value."""
+    if rule.action != "pipe tablearg":
+        return _spread(rule, number, rule.action, places)
+    if not rule.table:
+        raise UnsupportedError("`pipe tablearg`: the rule has no table")
+    entries = known.tables[rule.table]
+    side = next(side for side in (0, 1) if set(places[side]) >= set(entries))
+    made: list[str] = []
+    for entry in places[side]:
+        value = entries.get(entry, "")
+        if not value.isdigit() or not int(value):
+            raise UnsupportedError(f"`pipe tablearg`: the entry {entry} of table {rule.table} has no pipe's number")
+        made += _spread(rule, number, f"pipe {int(value)}", [[entry] if one == side else places[one] for one in range(4)])
+    return made
+
+
+@dataclass(frozen=True)
+class Translation:
+    """A line of ipfw, its kind (`same`, `rewritten`, `approximated`, `dropped`, `refused`), the scenario commands that it became, without
+    their time, and what that costs or why it is refused."""
+    text: str
+    kind: str
+    moment: int
+    commands: tuple[str, ...] = ()
+    said: tuple[str, ...] = ()
+
+
+def scenario_of(became: Sequence[Translation], head: str, traffic: Sequence[tuple[int, str]], end: int) -> str:
+    """Returns a scenario: each line of ipfw that is not the same is a comment before its translation; then the commands of `traffic`, each
+    with its time, merged by time."""
+    parts: list[tuple[int, str]] = []
+    for one in became:
+        above = "" if one.kind == SAME else f"# {'refused' if one.kind == REFUSED else 'ipfw'}: {_printable(one.text)}\n"
+        parts.append((one.moment, above + "".join(f"@{one.moment} {command}\n" for command in one.commands)))
+    parts += [(moment, f"@{moment} {words}\n") for moment, words in traffic]
+    body = "".join(text for _, text in sorted(parts, key=lambda part: part[0]))
+    return f"{head}\n{body}@{end} end\n"
+
+
+def _printable(text: str) -> str:
+    """Returns text for a comment: printable ASCII, short enough for a line.
+
+    >>> _printable("caf\\u00e9")
+    'caf?'
+    """
+    shown = re.sub(r"[^ -~]", "?", text)
+    return shown if len(shown) <= 480 else shown[:476] + " .."

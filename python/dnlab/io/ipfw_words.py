@@ -1,6 +1,6 @@
 """Amounts in ipfw(8) and in scenarios: rates, queues, losses, masks, addresses, ports.
 
-Each function returns the scenario's words and their cost (`How`). Raises `Cannot`, with what to do, if there are none.
+Each function returns the scenario's words and their cost (`How`). Raises `UnsupportedError`, with what to do, if there are none.
 """
 import ipaddress
 import re
@@ -15,11 +15,11 @@ KINDS = (SAME, REWRITTEN, APPROXIMATED, DROPPED, REFUSED)
 _MOST_BITS = 10**10
 
 
-class Cannot(Exception):
+class UnsupportedError(Exception):
     """An ipfw word that no scenario can express; the text says which, and what to do."""
 
 
-class Unmatchable(Cannot):
+class Unmatchable(UnsupportedError):
     """A rule that matches no TCP or UDP packet."""
 
 
@@ -38,12 +38,12 @@ def rate(word: str) -> How:
     found = re.fullmatch(r"([0-9]+(?:\.[0-9]+)?|\.[0-9]+)([KkMmGg]?)([A-Za-z/]*)", word)
     if not found:
         is_number = re.match(r"[0-9.]", word)
-        raise Cannot(f"`bw {word}`: " + ("it isn't a rate: expected digits with a point, then the unit, as 1.5Mbit/s" if is_number else
+        raise UnsupportedError(f"`bw {word}`: " + ("it isn't a rate: expected digits with a point, then the unit, as 1.5Mbit/s" if is_number else
                                          "the rate of an interface or a clock is not supported: write it as 10Mbit/s"))
     is_bytes = found[3].startswith("by") or (found[3].startswith("B") and not found[3].startswith("Bi"))
     bits = Decimal(found[1]) * SCALES[found[2].upper()] * (8 if is_bytes else 1)
     if bits > _MOST_BITS:
-        raise Cannot(f"`bw {word}`: 10Gbit/s is the maximum")
+        raise UnsupportedError(f"`bw {word}`: 10Gbit/s is the maximum")
     if re.fullmatch(r"(0|[1-9][0-9]*)([KMG]?(bit/s|Byte/s))?", word):
         return How(word)
     whole = int(bits)
@@ -59,13 +59,13 @@ def delay(word: str) -> How:
     """
     found = re.fullmatch(r"([0-9]{1,9})?(\.[0-9]{1,9})?(s|ms|us)?", word)
     if not found or not (found[1] or found[2]):
-        raise Cannot(f"`delay {word}` isn't a time in milliseconds, as 20ms")
+        raise UnsupportedError(f"`delay {word}` isn't a time in milliseconds, as 20ms")
     time = Decimal((found[1] or "0") + (found[2] or "")) * {"s": Decimal(1000), "us": Decimal("0.001")}.get(found[3], Decimal(1))
     whole = int(time)
     if time != whole:
-        raise Cannot(f"`delay {word}`: delays are whole milliseconds: write {whole}ms or {whole + 1}ms")
+        raise UnsupportedError(f"`delay {word}`: delays are whole milliseconds: write {whole}ms or {whole + 1}ms")
     if whole > 60000:
-        raise Cannot(f"`delay {word}`: 60000 ms is the maximum")
+        raise UnsupportedError(f"`delay {word}`: 60000 ms is the maximum")
     if re.fullmatch(r"(0|[1-9][0-9]*)(ms)?", word):
         return How(word)
     digits = int(found[1] or "0")
@@ -80,12 +80,12 @@ def loss(word: str) -> How:
     ('0.01', '0.005', '0.000002')
     """
     if word.endswith("%"):
-        raise Cannot(f"`plr {word}`: ipfw reads {word[:-1]} here, as a fraction: write 1% as 0.01")
+        raise UnsupportedError(f"`plr {word}`: ipfw reads {word[:-1]} here, as a fraction: write 1% as 0.01")
     try:
         share = Decimal(word)
         exact = min(max(share, Decimal(0)), Decimal(1))
     except InvalidOperation:
-        raise Cannot(f"`plr {word}` is not a fraction such as 0.01") from None
+        raise UnsupportedError(f"`plr {word}` is not a fraction such as 0.01") from None
     short = exact.quantize(Decimal("0.000001"))
     text = f"{short:f}".rstrip("0").rstrip(".")
     if re.fullmatch(r"[01](\.[0-9]{1,6})?", word) and share == exact:
@@ -101,7 +101,7 @@ def queue(word: str) -> How:
     """
     found = re.fullmatch(r"0*([0-9]+)([A-Za-z]*)", word)
     if not found:
-        raise Cannot(f"`queue {word}` is not a limit such as 50 or 30KBytes")
+        raise UnsupportedError(f"`queue {word}` is not a limit such as 50 or 30KBytes")
     number, unit = int(found[1]), found[2]
     if unit[:1] in ("K", "k"):
         kbytes, cost = number, ""
@@ -110,13 +110,13 @@ def queue(word: str) -> How:
         kbytes = number // 1024
         said, cost = f"{kbytes}KBytes", "" if number % 1024 == 0 else f"`queue {word}` is {kbytes * 1024} bytes, rounded down"
     elif unit:
-        raise Cannot(f"`queue {word}`: the unit must be KBytes, bytes or none")
+        raise UnsupportedError(f"`queue {word}`: the unit must be KBytes, bytes or none")
     elif not 1 <= number <= 1000:
-        raise Cannot(f"`queue {word}`: 1 to 1000 slots, or up to 1024KBytes")
+        raise UnsupportedError(f"`queue {word}`: 1 to 1000 slots, or up to 1024KBytes")
     else:
         return How(str(number))
     if not 1 <= kbytes <= 1024:
-        raise Cannot(f"`queue {word}`: 1 to 1024 KBytes")
+        raise UnsupportedError(f"`queue {word}`: 1 to 1024 KBytes")
     return How(said, cost)
 
 
@@ -133,7 +133,7 @@ def mask(words: list[str]) -> How:
         elif name == "queue":
             costs.append("`mask queue` left out")
         elif not words:
-            raise Cannot(f"`mask {name}`: the bits are missing, as 0xffffffff")
+            raise UnsupportedError(f"`mask {name}`: the bits are missing, as 0xffffffff")
         else:
             bits = words.pop(0)
             if name in MASKS:
@@ -141,7 +141,7 @@ def mask(words: list[str]) -> How:
             else:
                 costs.append(f"`mask {name}` left out: packets here have none")
     if not found:
-        raise Cannot("`mask`: packets here have none of these fields: use src-ip, dst-ip, src-port, dst-port or proto")
+        raise UnsupportedError("`mask`: packets here have none of these fields: use src-ip, dst-ip, src-port, dst-port or proto")
     return How("mask " + " ".join(found), "; ".join(costs))
 
 
@@ -156,7 +156,7 @@ def _bits(name: str, word: str) -> str:
         value = (2**width - 2 ** (width - int(found[1]))) if found[1] and int(found[1]) <= width else \
             int(found[2], 0) if found[2] and (found[2] == "0" or found[2][:2] == "0x" or found[2][0] != "0") else -1
     if not 0 <= value < 2**width:
-        raise Cannot(f"`mask {name} {word}` isn't {width} bits: write them as 0x{'f' * MASKS[name]}")
+        raise UnsupportedError(f"`mask {name} {word}` isn't {width} bits: write them as 0x{'f' * MASKS[name]}")
     return hex(int(value))
 
 
@@ -169,7 +169,7 @@ def codel(words: list[str]) -> How:
             cost = "`ecn` left out: packets are dropped instead of marked"
         elif name != "noecn":
             if not words or not re.fullmatch(r"(0|[1-9][0-9]*)(s|ms|us)?", words[0]):
-                raise Cannot(f"`codel {name}`: a time must follow, as 5ms")
+                raise UnsupportedError(f"`codel {name}`: a time must follow, as 5ms")
             found.append(f"{name} {words.pop(0)}")
     return How(" ".join(found), cost)
 
@@ -183,13 +183,13 @@ def address(word: str) -> str:
     if word == "any":
         return word
     if ":" in word and word.count(":") > 1:
-        raise Cannot(f"`{word}`: IPv6 addresses are not supported")
+        raise UnsupportedError(f"`{word}`: IPv6 addresses are not supported")
     try:
         if ":" in word:
             return str(ipaddress.IPv4Network(word.replace(":", "/"), strict=False))
         ipaddress.IPv4Interface(word)
     except ValueError:
-        raise Cannot(f"`{word}` is not an address (names and sets are not supported): write numbers, as 10.0.0.1 or 10.0.0.0/24") from None
+        raise UnsupportedError(f"`{word}` is not an address (names and sets are not supported): write numbers, as 10.0.0.1 or 10.0.0.0/24") from None
     return word
 
 
@@ -220,5 +220,5 @@ def ports(word: str) -> list[str]:
         try:
             found.append(str(socket.getservbyname(one)))
         except OSError:
-            raise Cannot(f"`{one}` is not a port, a range of ports or a known service") from None
+            raise UnsupportedError(f"`{one}` is not a port, a range of ports or a known service") from None
     return found

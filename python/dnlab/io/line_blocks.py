@@ -5,7 +5,7 @@ from typing import TYPE_CHECKING, Callable, Optional
 import numpy as np
 
 from dnlab.io.digits import Flags, Ints, Text, word_key
-from dnlab.io.drops import CAUSES
+from dnlab.io.scenario_parts import DROP_CAUSES as CAUSES
 from dnlab.io.lines import (ACK, ARRIVE, CODES, DELIVER, DROP, EXPIRE, FINISH, IDENTIFIER, IDENTIFY, KINDS, LISTINGS,
                             MAKE, OK, PASS, REFUSED, SPENT, WORDS, no_rows)
 

@@ -10,7 +10,7 @@ from pathlib import Path
 from typing import IO, Any, BinaryIO, Callable, Iterable, Iterator, Optional, Union
 
 from dnlab.errors import ParseError
-from dnlab.io.packed import GZIP, reading_gzip
+from dnlab.io.files import GZIP, reading_gzip
 
 _HEADING = re.compile(rb"experiment ([a-z0-9_-]{1,32})")
 _MARK = b"experiment "

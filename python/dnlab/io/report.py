@@ -13,7 +13,7 @@ import numpy as np
 
 from dnlab.errors import ParseError
 from dnlab.io.digits import Ints
-from dnlab.io.drops import CAUSES
+from dnlab.io.scenario_parts import DROP_CAUSES as CAUSES
 from dnlab.io.line_reader import Reader
 from dnlab.io.lines import ACK, DELIVER, Columns, refused_at
 from dnlab.io.pieces import Piece, pieces

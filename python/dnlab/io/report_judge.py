@@ -3,7 +3,7 @@ from typing import Optional
 
 import numpy as np
 
-from dnlab.io.drops import CAUSES
+from dnlab.io.scenario_parts import DROP_CAUSES as CAUSES
 from dnlab.io.lines import DELIVER, DROP, MAKE, OK, REFUSED, RULE, SPENT, Columns
 
 # No experiment has more packets: it has at most 10^7 steps, and each creates at most one.

@@ -2,8 +2,7 @@
 import re
 from typing import Callable, NamedTuple, Optional
 
-from dnlab.io.scenario_parts import (ADDRESS, BIT_UNITS, HEADER, MASKS, MOMENTS, NUMBER, SCALES, SSTHRESH, STEPS, TIMES,
-                                     WINDOW, Sends)
+from dnlab.io.scenario_parts import ADDRESS, BIT_UNITS, HEADER, MASKS, MOMENTS, NUMBER, SCALES, SSTHRESH, STEPS, TIMES, WINDOW, Sends
 
 
 class BadWord(Exception):

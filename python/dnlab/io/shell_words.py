@@ -11,7 +11,7 @@ from dnlab.errors import ParseError
 from dnlab.io import shell_syntax
 from dnlab.io.shell_lexer import Part, Word, parts_of
 from dnlab.io.shell_syntax import Case, Chain, For, Group, If, Node, Nodes, Simple, While
-from dnlab.io.shell_values import is_so, sequence_of, sum_of
+from dnlab.io.shell_lexer import is_so, sequence_of, sum_of
 
 KEPT = ("ipfw", "sysctl", "sleep")
 # Commands without an effect on a scenario.

@@ -1,4 +1,5 @@
 """Splits scenarios between their experiments, so that the program can read them."""
+import re
 from typing import Iterable, Iterator, NamedTuple, Optional, Sequence
 
 from dnlab.io.scenario import Judged
@@ -118,3 +119,28 @@ def heading_fault(line: bytes) -> Optional[str]:
     """Returns the fault of a heading by itself, or None."""
     fault = Judged(line.split(b"\n")[0] + b"\n").fault
     return None if fault is None or fault[1] == "noend" else fault[1]
+
+
+# The maximum output of one step, one command, one `show` and one `pipe show`, in bytes, with a margin: a listing has 256 rules,
+# or 64 pipes of 256 instances.
+_STEP, _COMMAND, _RULES, _INSTANCES = 1 << 10, 1 << 8, 1 << 16, 1 << 22
+_STEPS = 10**6
+# Further output, on standard error.
+_SAID = 1 << 20
+# What one step may send at once: windows of many flows, in steps.
+_BURST = 1 << 14
+_LISTING = re.compile(rb" show\b")
+_WORDS = re.compile(rb" steps +([0-9]{1,8})")
+
+
+def most_report(text: bytes) -> int:
+    """Returns the maximum length of the reports of a text in bytes, from its steps and commands.
+
+    >>> most_report(b"experiment a seed 1 budget 1 steps 10\\n@0 end\\n")
+    17836544
+    """
+    said = [_WORDS.search(heading) for _, heading, _ in lines_in(text)]
+    steps = sum(_BURST + (int(found[1]) if found else _STEPS) for found in said)
+    listings = [text[text.rfind(b"\n", 0, found.start()) + 1:found.start()] for found in _LISTING.finditer(text)]
+    pipes = sum(before.split()[-1:] == [b"pipe"] for before in listings)
+    return _SAID + steps * _STEP + text.count(b"\n") * _COMMAND + pipes * _INSTANCES + (len(listings) - pipes) * _RULES

@@ -8,10 +8,10 @@ import ipaddress
 from typing import Iterator, NamedTuple, Optional, Sequence
 
 from dnlab.errors import InputError
-from dnlab.io.exports import Rule, Setting, number_behind, printable
+from dnlab.io.ipfw_export import Rule, Setting, number_behind, printable
 from dnlab.io.ipfw_words import network
 from dnlab.io.scenario_parts import TIMES
-from dnlab.io.settings import Config
+from dnlab.io.scenario_parts import Config
 
 _FAST = "100000000000bit quantum 1514"
 _LEAST = 64

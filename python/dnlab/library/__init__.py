@@ -7,7 +7,7 @@ Calls release the GIL, so threads run concurrently. A call can't be interrupted:
 engine="library")` returns the same as tables, and `dnlab.live(engine="library")` opens a session on `Talk`.
 """
 from dnlab.library.calls import FaultIn, alone, check, explain, version
-from dnlab.library.places import library
-from dnlab.library.talks import Talk
+from dnlab.library.calls import library
+from dnlab.library.calls import Talk
 
 __all__ = ["FaultIn", "Talk", "alone", "check", "explain", "library", "version"]

@@ -13,12 +13,12 @@ from typing import Any, Iterable, NamedTuple, Optional, Sequence
 import numpy as np
 
 from dnlab.analysis.packets import DELIVERED, DROPPED, OUTCOMES, UNKNOWN
-from dnlab.analysis.pipe_series import flights, labelled, link_rates, queues
+from dnlab.analysis.distributions import flights, labelled, link_rates, queues
 from dnlab.analysis.series import Panel, Series, Values, rates, sojourns, windows, without_acks
 from dnlab.analysis.view import View, flows_of
 from dnlab.io.digits import Ints
 from dnlab.io.lines import ACKNOWLEDGES, pipe_name
-from dnlab.io.outputs import whole_file
+from dnlab.io.files import whole_file
 
 SCRIPT = "dnlab-plotly.js"
 _HERE = Path(__file__).resolve().parent

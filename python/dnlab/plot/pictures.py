@@ -10,10 +10,10 @@ from matplotlib.lines import Line2D
 from matplotlib.ticker import MaxNLocator, NullLocator
 
 from dnlab.analysis.series import Panel, Series, panel_of
-from dnlab.analysis.spans import Span
+from dnlab.analysis.metrics import Span
 from dnlab.analysis.view import View
-from dnlab.plot import names
-from dnlab.plot.design import LINES, MARKERS, Design, add_legend, subplots
+from dnlab.analysis import names
+from dnlab.plot.style import LINES, MARKERS, Design, add_legend, subplots
 
 Unit = tuple[int, str]
 UNITS: tuple[Unit, ...] = ((10**9, "s"), (10**6, "ms"), (10**3, "us"), (1, "ns"))

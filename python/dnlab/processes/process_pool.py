@@ -5,8 +5,10 @@ worker is killed while a queue has more bytes than a pipe holds (CPython issue 9
 import os
 import pickle
 import queue
+import shutil
 import signal
 import sys
+import time
 import traceback
 import weakref
 from concurrent.futures import Future, ProcessPoolExecutor
@@ -20,9 +22,9 @@ from types import ModuleType
 from typing import Any, Callable, Generic, Iterator, NamedTuple, Optional, TypeVar
 
 from dnlab.errors import ProgramError
-from dnlab.processes import children, ending
-from dnlab.processes.children import Killed, signal_of, told
-from dnlab.processes.rooms import Room
+from dnlab.processes import subprocesses
+from dnlab.processes.subprocesses import Killed, TempDir, describe_exit, signal_of
+from dnlab.programs import called
 
 T = TypeVar("T")
 # The folder of the jobs of a worker's pool. It is set in the worker.
@@ -49,7 +51,7 @@ class ProcessPool(Generic[T]):
 
     def __init__(self, workers: int) -> None:
         self.workers = workers
-        self._room = Room()
+        self._room = TempDir()
         self._started: list[SpawnProcess] = []
         _start_tracker()
         self._executor = ProcessPoolExecutor(workers, _Context(self._started), _start_worker, (os.getpid(), self._room.path))
@@ -57,7 +59,7 @@ class ProcessPool(Generic[T]):
         self._jobs: "dict[Future[None], tuple[T, int]]" = {}
         self._count = 0
         chore = partial(_kill_all, self._started, os.getpid())
-        ending.add(chore)
+        subprocesses.add_chore(chore)
         self._left = weakref.finalize(self, _close, chore, self._executor, os.getpid())
 
     def __enter__(self) -> "ProcessPool[T]":
@@ -75,7 +77,7 @@ class ProcessPool(Generic[T]):
         self._count += 1
         (self._room.path / f"{self._count}.job").write_bytes(pickle.dumps((function, args)))
         try:
-            with ending.held():
+            with subprocesses.signals_delayed():
                 future = self._executor.submit(_run_job, self._count)
         except BrokenProcessPool:
             self._raise_lost()
@@ -106,7 +108,7 @@ class ProcessPool(Generic[T]):
         ended_by = signal_of(status)
         if ended_by is None:
             raise ProgramError(3, f"a worker process ended with status {status}") from None
-        raise Killed(3, f"a worker process was {told(ended_by)}") from None
+        raise Killed(3, f"a worker process was {describe_exit(ended_by)}") from None
 
     def close(self) -> None:
         """Kills all workers at once."""
@@ -135,11 +137,11 @@ def _kill(process: SpawnProcess) -> None:
         process.kill()
 
 
-def _close(chore: ending.Chore, executor: ProcessPoolExecutor, owner: int) -> None:
+def _close(chore: subprocesses.Chore, executor: ProcessPoolExecutor, owner: int) -> None:
     if os.getpid() == owner:
-        with ending.held():
+        with subprocesses.signals_delayed():
             chore()
-            ending.remove(chore)
+            subprocesses.remove_chore(chore)
         executor.shutdown(cancel_futures=True)
 
 
@@ -177,7 +179,7 @@ def _start_tracker() -> None:
 @contextmanager
 def _inherited(name: str, value: str) -> Iterator[None]:
     """Makes the processes that are started within the block inherit a variable and blocked signals."""
-    mask, before = signal.pthread_sigmask(signal.SIG_BLOCK, ending.SIGNALS), os.environ.get(name)
+    mask, before = signal.pthread_sigmask(signal.SIG_BLOCK, subprocesses.SIGNALS), os.environ.get(name)
     os.environ[name] = value
     try:
         yield
@@ -198,11 +200,11 @@ def _start_worker(parent: int, folder: Path) -> None:
     signal.signal(signal.SIGTERM, _end_worker)
     signal.signal(signal.SIGINT, signal.SIG_IGN)
     signal.signal(signal.SIGHUP, signal.SIG_IGN)
-    children.die_with(parent, signal.SIGTERM)
-    children.GROUPED = False
+    subprocesses.die_with(parent, signal.SIGTERM)
+    subprocesses.GROUPED = False
     # What a function prints is not part of a result.
     os.dup2(2, 1)
-    signal.pthread_sigmask(signal.SIG_UNBLOCK, ending.SIGNALS)
+    signal.pthread_sigmask(signal.SIG_UNBLOCK, subprocesses.SIGNALS)
 
 
 def _end_worker(*_: object) -> None:
@@ -226,3 +228,69 @@ def _run_job(number: int) -> None:
         answer = pickle.dumps((None, RuntimeError(f"{raised or value!r} ({fault})"), cause))
     with suppress(FileNotFoundError):  # The pool was closed meanwhile, and its folder is removed.
         (_FOLDER / f"{number}.answer").write_bytes(answer)
+
+
+try:
+    from tqdm import tqdm
+except ModuleNotFoundError:
+    # tqdm is optional: without it, no progress is shown.
+    tqdm = None
+
+# Seconds between updates: on a terminal, and in a log.
+_SEEN, _LOGGED = 0.5, 30.0
+_REST = "{n_fmt} of {total_fmt} {unit}, ETA {remaining}"
+
+
+class Progress:
+    """Shows how many of `total` are done, of which `done` before this call; without a total, only how many.
+
+    A log gets a line every half minute. A terminal has one line with a bar, updated twice a second and removed at the end of the
+    block, or on a signal."""
+
+    def __init__(self, tool: str, total: Optional[int] = None, done: int = 0, unit: str = "experiments") -> None:
+        self.tool, self.total, self.unit = called(tool), total, unit
+        self.done = self.before = done
+        self.begin = self.last = time.monotonic()
+        self._bar: Any = None
+        if tqdm is not None and sys.stderr.isatty():
+            self._bar = _Bar(total=total, initial=done, desc=self.tool, unit=unit, leave=False, miniters=1,
+                             file=getattr(sys.stderr, "direct", sys.stderr),
+                             mininterval=_SEEN, delay=_SEEN, ncols=shutil.get_terminal_size().columns - 1,
+                             bar_format=_form(total, "{bar:20} "))
+
+    def __enter__(self) -> "Progress":
+        subprocesses.add_chore(self.close)
+        return self
+
+    def __exit__(self, *_: object) -> None:
+        self.close()
+        subprocesses.remove_chore(self.close)
+
+    def step(self, count: int = 1) -> None:
+        """Counts `count` more as done."""
+        self.done += count
+        if self._bar is not None:
+            self._bar.update(count)
+        elif tqdm is not None and not sys.stderr.isatty() and time.monotonic() - self.last >= _LOGGED:
+            self.last = time.monotonic()
+            print(self.told(self.last), file=sys.stderr, flush=True)
+
+    def told(self, now: float) -> str:
+        """Returns the line for a log at a time (s, of `time.monotonic`)."""
+        return str(tqdm.format_meter(self.done, self.total, now - self.begin, initial=self.before, prefix=self.tool,
+                                     unit=self.unit, bar_format=_form(self.total)))
+
+    def close(self) -> None:
+        """Removes the bar."""
+        if self._bar is not None:
+            self._bar.close()
+
+
+def _form(total: Optional[int], bar: str = "") -> str:
+    return "{desc}: " + (bar + _REST if total else "{n_fmt} {unit}")
+
+
+if tqdm is not None:
+    class _Bar(tqdm):  # type: ignore[misc]  # tqdm has no types here
+        """A bar without tqdm's thread, because this process handles signals and children itself."""
+        monitor_interval = 0

@@ -20,8 +20,8 @@ Needs only Python; `table` needs pandas.
 """
 from dnlab.senders.flows import Flow
 from dnlab.senders.network import Network
-from dnlab.senders.patterns import Arrivals, Chain, Requests, Web
-from dnlab.senders.timeouts import Timeout
+from dnlab.senders.network import Arrivals, Chain, Requests, Web
+from dnlab.senders.windows import Timeout
 from dnlab.senders.windows import Cubic, NewReno, Reno, Window
 
 __all__ = ["Arrivals", "Chain", "Cubic", "Flow", "Network", "NewReno", "Reno", "Requests", "Timeout", "Web", "Window"]

@@ -5,9 +5,9 @@ SMSS bytes and 40 of headers. With `Reno` it equals such a flow; a window can se
 """
 from typing import Any, Callable, NamedTuple, Optional, Protocol
 
-from dnlab.senders.timeouts import Timeout
+from dnlab.senders.windows import Timeout
 from dnlab.senders.windows import Window
-from dnlab.session.events import Address
+from dnlab.session.transport import Address
 
 HEADER = 40
 # RFC 5681, section 3.2: this many duplicates mean a loss.

@@ -7,7 +7,7 @@ import os
 from contextlib import contextmanager
 from typing import Any, Iterator, Optional
 
-from dnlab.session.events import LEAST_SIZE, MOST_SIZE, Address, Event
+from dnlab.session.transport import LEAST_SIZE, MOST_SIZE, Address, Event
 from dnlab.session.links import Link
 
 # Size of the IPv4 and UDP headers of a datagram, in bytes.

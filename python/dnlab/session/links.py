@@ -3,8 +3,8 @@ import io
 from pathlib import Path
 from typing import IO, Any, Optional, Protocol, Union
 
-from dnlab.io.outputs import whole_file
-from dnlab.session.events import LATEST, LEAST_SIZE, MOST_SIZE, Address, Event, ExperimentEndedError, Packet, header_of
+from dnlab.io.files import whole_file
+from dnlab.session.transport import LATEST, LEAST_SIZE, MOST_SIZE, Address, Event, ExperimentEndedError, Packet, header_of
 
 
 class Speaks(Protocol):

@@ -20,9 +20,9 @@ from typing import IO, Literal, Optional
 
 from dnlab.io.scenario_parts import STEPS
 from dnlab.programs import program
-from dnlab.session.events import CommandRefusedError, LineRejectedError, Packet
+from dnlab.session.transport import CommandRefusedError, LineRejectedError, Packet
 from dnlab.session.links import Link
-from dnlab.session.talks import Here, Spoken, Talk
+from dnlab.session.transport import LibraryTransport, ProcessTransport, Transport
 
 # Bytes to collect before they are sent although no reply is needed.
 _MOST_GATHERED = 1 << 15
@@ -142,15 +142,15 @@ class Session:
             self._talk.kill()
 
 
-def _spoken(dnlab: Optional[str], engine: str) -> Spoken:
+def _spoken(dnlab: Optional[str], engine: str) -> Transport:
     """Returns the transport of a session."""
     if engine == "library":
         if dnlab is not None:
             raise ValueError('engine="library" takes no program: leave it out, or use engine="process"')
-        return Here()
+        return LibraryTransport()
     if engine != "process":
         raise ValueError(f'the engine is "process" or "library", not {engine!r}')
-    return Talk(program(dnlab))
+    return ProcessTransport(program(dnlab))
 
 
 def live(dnlab: Optional[str] = None, engine: str = "process") -> Session:

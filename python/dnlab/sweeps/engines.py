@@ -1,4 +1,4 @@
-"""The engines of `spread`: processes on this machine, GNU parallel with ssh, and Slurm; and the joining of reports."""
+"""Runs in parts: the parts and their files; processes on this machine, GNU parallel with ssh, and Slurm; and the joining of reports."""
 import getpass
 import os
 import re
@@ -7,19 +7,98 @@ import shlex
 import shutil
 import signal
 import subprocess
+from dataclasses import dataclass
 from functools import partial
 from pathlib import Path
 from typing import IO, Iterable, Iterator, Optional, Sequence
 
 from dnlab.errors import ProgramError, cause_of
-from dnlab.io.outputs import whole_file
-from dnlab.io.report_bound import most_report
-from dnlab.io.splitting import groups
-from dnlab.processes import children, ending
-from dnlab.processes.children import Killed
+from dnlab.io.files import whole_file
+from dnlab.io.splitting import groups, most_report
+from dnlab.processes import subprocesses
 from dnlab.processes.process_pool import ProcessPool
-from dnlab.processes.rooms import CANCEL, cancel
-from dnlab.sweeps.jobs import How, Job, Stop
+from dnlab.processes.subprocesses import CANCEL, Killed, cancel
+
+# The prefix of a Dask scheduler's address.
+DASK = "dask:"
+
+
+class RunFailedError(Exception):
+    """Ends the run with an exit status and a message for standard error."""
+
+    def __init__(self, status: int, said: str) -> None:
+        super().__init__(said)
+        self.status = status
+
+
+@dataclass(frozen=True)
+class RunOptions:
+    """The options of a run: at most `parts` parts, `jobs` of them at once.
+
+    It runs on this machine, with `ssh` on machines in the form of parallel's --sshlogin, or as a `slurm` array; `program` is the
+    path of dnlab there. `work` is the folder of the parts if the run can be continued, and `resume` whether it is."""
+    parts: int = 16
+    jobs: Optional[int] = None
+    ssh: Optional[str] = None
+    slurm: bool = False
+    program: Optional[str] = None
+    work: Optional[str] = None
+    resume: bool = False
+
+    def fault(self) -> Optional[str]:
+        """Returns why it can't run so on this machine, or None."""
+        if self.ssh and set(self.program or "") & set("{}"):
+            return f"--program {self.program}: parallel would fill in its braces"
+        engine, package = ("sbatch", "slurm-client") if self.slurm else ("parallel", "parallel")
+        if (self.slurm or self.ssh) and shutil.which(engine) is None:
+            return f"{engine} is missing (Debian: {package})"
+        return None
+
+
+class Job:
+    """A part in the work folder: its scenario N.txt, and its report N.whole once it is done."""
+
+    def __init__(self, folder: Path, number: int, names: list[str], text: bytes) -> None:
+        self.folder = folder
+        self.number = number
+        self.names = names
+        self.text = text
+        # What is wrong with its report, if it was checked.
+        self.wrong: Optional[str] = None
+
+    def file(self, kind: str) -> Path:
+        return self.folder / f"{self.number}.{kind}"
+
+    def is_done(self) -> bool:
+        """Returns whether it is done: its report has the part's experiments in order and ends with counters."""
+        if not self.file("whole").is_file():
+            return False
+        names: list[str] = []
+        last = b"counters 0\n"
+        with open(self.file("whole"), "rb") as report:
+            for line in report:
+                last = line
+                if line.startswith(b"experiment "):
+                    names.append(line.split()[1].decode(errors="replace"))
+        return names == self.names and last.startswith(b"counters ") and last.endswith(b"\n")
+
+    def why(self) -> str:
+        """Returns what is known about a part that isn't done."""
+        if self.wrong is not None:
+            return self.wrong
+        status = self.file("status")
+        if not status.is_file():
+            return "it did not run to its end"
+        errors = self.file("err")
+        said = errors.read_bytes().decode(errors="replace").strip().splitlines() if errors.is_file() else []
+        number = status.read_text().strip()
+        if number == "0":
+            return "status 0, but its report is incomplete or belongs to another scenario"
+        ended_by = subprocesses.signal_of(int(number)) if re.fullmatch("-?[0-9]+", number) else None
+        if ended_by:
+            return f"status {number}, {subprocesses.describe_exit(ended_by)}"
+        return f"status {number}" + (f", {said[-1]}" if said else "")
+
 
 # A task of the Slurm array runs the parts in its line of `tasks`, one after another. It writes each report under a name of its
 # own and renames it, so that a part has a complete report or none, even if an earlier, abandoned array still runs.
@@ -45,7 +124,7 @@ _LOOK = 0.5
 def version_of(program: str) -> bytes:
     """Returns the output of a program's --version, or nothing if it fails."""
     try:
-        return children.run([program, "--version"]).out
+        return subprocesses.run([program, "--version"]).out
     except Killed:
         return b""
 
@@ -55,17 +134,17 @@ def _most(parts: Sequence[Job]) -> int:
     return max((most_report(part.text) for part in parts), default=0)
 
 
-def laid_down(how: How, program: str, parts: Sequence[Job], folder: Path) -> None:
-    """Writes the texts of the parts, or checks those of the previous run. Raises `Stop` if they belong to another scenario."""
+def prepare_parts(how: RunOptions, program: str, parts: Sequence[Job], folder: Path) -> None:
+    """Writes the texts of the parts, or checks those of the previous run. Raises `RunFailedError` if they belong to another scenario."""
     mark = version_of(program) + f"{len(parts)} parts\n".encode()
     if how.resume:
         try:
             same = (folder / "mark").read_bytes() == mark and all(
                 part.file("txt").read_bytes() == part.text for part in parts)
         except OSError as error:
-            raise Stop(2, f"spread: --resume: {error.filename}: {error.strerror}\n") from error
+            raise RunFailedError(2, f"spread: --resume: {error.filename}: {error.strerror}\n") from error
         if not same:
-            raise Stop(2, f"spread: --resume: {folder} belongs to another scenario, number of parts or program\n")
+            raise RunFailedError(2, f"spread: --resume: {folder} belongs to another scenario, number of parts or program\n")
         cancel(folder)
         _leave(folder)
         return
@@ -73,7 +152,7 @@ def laid_down(how: How, program: str, parts: Sequence[Job], folder: Path) -> Non
         try:
             folder.mkdir()
         except FileExistsError as error:
-            raise Stop(2, f"spread: {folder} exists: continue it with --resume, or remove it\n") from error
+            raise RunFailedError(2, f"spread: {folder} exists: continue it with --resume, or remove it\n") from error
     for part in parts:
         part.file("txt").write_bytes(part.text)
     # Written last, so that a folder with a mark has all texts.
@@ -91,7 +170,7 @@ def _alone(program: str, job: Job) -> None:
     with open(job.file("half"), "wb") as out:
         try:
             text = job.file("txt").read_bytes()
-            done = children.run([program, "alone"], text, out, most_report(text))
+            done = subprocesses.run([program, "alone"], text, out, most_report(text))
             status, errors = done.status, done.errors
         except Killed as killed:
             status, errors = -int(signal.Signals[killed.said.split("ended by ")[-1].split()[0]]), b""
@@ -102,9 +181,9 @@ def _alone(program: str, job: Job) -> None:
     job.file("status").write_text(f"{status}\n")
 
 
-def here(how: How, program: str, waiting: Sequence[Job], folder: Path) -> Iterator[None]:
+def run_locally(how: RunOptions, program: str, waiting: Sequence[Job], folder: Path) -> Iterator[None]:
     """Runs parts in processes of this machine, `jobs` at a time."""
-    from dnlab.analysis.work import cores
+    from dnlab.analysis.reports import cores
 
     with ProcessPool[int](how.jobs or cores()) as pool:
         for part in waiting:
@@ -135,10 +214,10 @@ def _end_parallel(engine: "subprocess.Popen[bytes]") -> None:
                 engine.wait(0.5)
             except subprocess.TimeoutExpired:
                 continue
-    children.end(engine)
+    subprocesses.kill(engine)
 
 
-def by_parallel(how: How, program: str, waiting: Sequence[Job], folder: Path) -> Iterator[None]:
+def by_parallel(how: RunOptions, program: str, waiting: Sequence[Job], folder: Path) -> Iterator[None]:
     assert how.ssh is not None
     command = ["parallel", "--plain", "--will-cite", "--joblog", "joblog", "--results", "out.{}"]
     if how.jobs:
@@ -148,13 +227,13 @@ def by_parallel(how: How, program: str, waiting: Sequence[Job], folder: Path) ->
     (folder / "order").write_text("".join(f"{part.number}\n" for part in waiting))
     (folder / "joblog").unlink(missing_ok=True)
     with open(folder / "engine.err", "wb") as errors:
-        with children.child([*command, *(str(part.number) for part in waiting)], _end_parallel, death=signal.SIGTERM,
+        with subprocesses.child([*command, *(str(part.number) for part in waiting)], _end_parallel, death=signal.SIGTERM,
                             most=_most(waiting), cwd=folder, stdin=subprocess.DEVNULL, stdout=subprocess.DEVNULL, stderr=errors,
                             env={**os.environ, "PARALLEL_SHELL": "/bin/sh"}) as engine:
             yield from _waited(engine)
 
 
-def gathered(folder: Path) -> None:
+def read_job_log(folder: Path) -> None:
     """Reads parallel's log: a part is done only if its job ended with status 0 and without a signal."""
     log, order = folder / "joblog", folder / "order"
     if not log.is_file() or not order.is_file():
@@ -174,14 +253,14 @@ def gathered(folder: Path) -> None:
 def most_tasks() -> int:
     """Returns the maximum number of tasks in a Slurm array on this machine."""
     try:
-        said = children.run(["scontrol", "show", "config"]).out.decode(errors="replace")
+        said = subprocesses.run(["scontrol", "show", "config"]).out.decode(errors="replace")
     except ProgramError:
         said = ""
     found = re.search(r"^MaxArraySize\s*=\s*([0-9]+)", said, re.MULTILINE)
     return max(int(found[1]) if found else _MAX_ARRAY_SIZE, 2) - 1
 
 
-def by_slurm(how: How, program: str, waiting: Sequence[Job], folder: Path) -> Iterator[None]:
+def by_slurm(how: RunOptions, program: str, waiting: Sequence[Job], folder: Path) -> Iterator[None]:
     """Runs parts as one array with as many tasks as Slurm allows; the array is cancelled if this run is interrupted."""
     ends = groups([max(len(part.text), 1) for part in waiting], min(how.parts, most_tasks()))
     tasks = [waiting[begin:end] for begin, end in zip([0, *ends], ends)]
@@ -191,49 +270,49 @@ def by_slurm(how: How, program: str, waiting: Sequence[Job], folder: Path) -> It
     name = f"dnlab-{secrets.token_hex(8)}"
     (folder / CANCEL).write_text(f"scancel\n--user={getpass.getuser()}\n--name={name}")
     chore = partial(cancel, folder)
-    ending.add(chore)
+    subprocesses.add_chore(chore)
     try:
         with open(folder / "engine.err", "wb") as errors:
-            with children.child(["sbatch", "--wait", f"--job-name={name}", "--output=/dev/null", f"--chdir={folder}",
+            with subprocesses.child(["sbatch", "--wait", f"--job-name={name}", "--output=/dev/null", f"--chdir={folder}",
                                  f"--array={array}", "task"], cwd=folder, stdin=subprocess.DEVNULL,
                                 stdout=subprocess.DEVNULL, stderr=errors) as engine:
                 yield from _waited(engine)
                 (folder / CANCEL).unlink()
     finally:
         cancel(folder)
-        ending.remove(chore)
+        subprocesses.remove_chore(chore)
 
 
-def going(how: How, program: str, parts: Sequence[Job], folder: Path) -> Iterator[list[Job]]:
-    """Runs the parts that aren't done, and yields those that are done now, repeatedly. Raises `Stop` at the end with the parts that
+def run_parts(how: RunOptions, program: str, parts: Sequence[Job], folder: Path) -> Iterator[list[Job]]:
+    """Runs the parts that aren't done, and yields those that are done now, repeatedly. Raises `RunFailedError` at the end with the parts that
     failed."""
-    laid_down(how, program, parts, folder)
-    gathered(folder)
+    prepare_parts(how, program, parts, folder)
+    read_job_log(folder)
     waiting = {part.number: part for part in parts if not part.is_done()}
     yield [part for part in parts if part.number not in waiting]
     for part in waiting.values():
         for kind in "whole", "status", "err":
             part.file(kind).unlink(missing_ok=True)
     chore = partial(_leave, folder)
-    ending.add(chore)
+    subprocesses.add_chore(chore)
     try:
         if waiting:
-            engine = by_slurm if how.slurm else by_parallel if how.ssh else here
+            engine = by_slurm if how.slurm else by_parallel if how.ssh else run_locally
             for _ in engine(how, program, list(waiting.values()), folder):
-                gathered(folder)
+                read_job_log(folder)
                 done = [part for part in waiting.values() if part.is_done()]
                 for part in done:
                     del waiting[part.number]
                 yield done
     finally:
-        gathered(folder)
+        read_job_log(folder)
         _leave(folder)
-        ending.remove(chore)
+        subprocesses.remove_chore(chore)
     if waiting:
         raise failure(how, parts, list(waiting.values()), folder)
 
 
-def failure(how: How, parts: Sequence[Job], failed: Sequence[Job], folder: Path) -> Stop:
+def failure(how: RunOptions, parts: Sequence[Job], failed: Sequence[Job], folder: Path) -> RunFailedError:
     """Returns the error for failed parts."""
     said = [f"spread: part {part.number} of {len(parts)} failed (experiments {part.names[0]} to "
             f"{part.names[-1]}): {part.why()}" for part in failed]
@@ -242,7 +321,7 @@ def failure(how: How, parts: Sequence[Job], failed: Sequence[Job], folder: Path)
     if how.work is not None:
         said.append(f"spread: {len(parts) - len(failed)} parts are kept in {folder}; "
                     "the same command with --resume runs the others")
-    return Stop(3, "\n".join(said) + "\n")
+    return RunFailedError(3, "\n".join(said) + "\n")
 
 
 def _join(parts: Iterable[Job], report: IO[bytes]) -> None:
@@ -252,7 +331,7 @@ def _join(parts: Iterable[Job], report: IO[bytes]) -> None:
     report.flush()
 
 
-def put_together(out: Optional[str], parts: Sequence[Job]) -> None:
+def join_reports(out: Optional[str], parts: Sequence[Job]) -> None:
     """Writes the report: to its file, completely or not at all, or to standard output."""
     try:
         if out is None:
@@ -262,4 +341,4 @@ def put_together(out: Optional[str], parts: Sequence[Job]) -> None:
             with whole_file(out) as file:
                 _join(parts, file)
     except OSError as error:
-        raise Stop(3, f"spread: {cause_of(error)}\n") from error
+        raise RunFailedError(3, f"spread: {cause_of(error)}\n") from error

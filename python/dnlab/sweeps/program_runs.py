@@ -6,20 +6,20 @@ import tempfile
 from pathlib import Path
 from typing import Any, Iterable, Mapping, NamedTuple, Optional, Sequence
 
-from dnlab.analysis.asking import Found, answer
-from dnlab.analysis.naming import sources_of, with_names
-from dnlab.analysis.spans import Span
-from dnlab.analysis.stats import USUAL, Ask
+from dnlab.sweeps.measuring import StatResults, answer
+from dnlab.analysis.names import sources_of, with_names
+from dnlab.analysis.metrics import Span
+from dnlab.analysis.statistics import USUAL, StatRequest
 from dnlab.analysis.view import View
 from dnlab.errors import InputError, ParseError, ProgramError
 from dnlab.io import report, scenario
 from dnlab.io.scenario_parts import Plan
-from dnlab.processes import children
+from dnlab.processes import subprocesses
 from dnlab.processes.process_pool import ProcessPool
-from dnlab.processes.rooms import Room
+from dnlab.processes.subprocesses import TempDir
 from dnlab.programs import program as program_of
-from dnlab.sweeps.batches import Waiting
-from dnlab.sweeps.grids import Case
+from dnlab.sweeps.measuring import Waiting
+from dnlab.sweeps.grid import Case
 from dnlab.sweeps.sweeping import Sweep
 
 TRANSCRIPT, REPORT, SUMMARY = "transcript.txt", "report.txt", "summary.json"
@@ -41,10 +41,10 @@ class ProgramSweep(Sweep):
                 transcript.txt and report.txt there; or the path of a hosts file as a template"""
 
     def __init__(self, source: str, grid: Mapping[str, Sequence[Any]], seeds: Iterable[int] = (1,),
-                 asks: Sequence[Ask] = (), is_command: bool = False, workers: Optional[int] = None,
+                 asks: Sequence[StatRequest] = (), is_command: bool = False, workers: Optional[int] = None,
                  allow: Sequence[str] = (), span: Span = Span()) -> None:
         super().__init__(f"{source}\n" if is_command else source, grid, seeds,
-                         asks or [Ask("injected", USUAL)], None, workers, allow=allow, span=span)
+                         asks or [StatRequest("injected", USUAL)], None, workers, allow=allow, span=span)
         self.kind = Kind(is_command, os.path.dirname(os.path.abspath("." if is_command else source)))
 
     def text(self, case: Case) -> str:
@@ -77,12 +77,12 @@ class ProgramSweep(Sweep):
         return "the seeds change nothing: there is no {{ seed }} in it" if is_same else None
 
 
-def ran(texts: Sequence[str], kind: Kind, asks: Sequence[Ask], program: str, span: Span) -> list[Found]:
+def ran(texts: Sequence[str], kind: Kind, asks: Sequence[StatRequest], program: str, span: Span) -> list[StatResults]:
     """Runs programs, one after the other, and returns the results of their reports in order. Raises `ProgramError` with a program's
     message if its status is not 0."""
     found = []
     for text in texts:
-        with Room() as room:
+        with TempDir() as room:
             out = room.path / "run"
             if kind.is_command:
                 out.mkdir()
@@ -95,22 +95,22 @@ def ran(texts: Sequence[str], kind: Kind, asks: Sequence[Ask], program: str, spa
     return found
 
 
-def _hosts(words: Sequence[str], text: str, folder: str, program: str) -> children.Done:
+def _hosts(words: Sequence[str], text: str, folder: str, program: str) -> subprocesses.Done:
     return _run([sys.executable, "-B", "-m", "dnlab", "hosts", *words], text, folder, program)
 
 
-def _run(words: Sequence[str], text: str, folder: str, program: str) -> children.Done:
+def _run(words: Sequence[str], text: str, folder: str, program: str) -> subprocesses.Done:
     path = os.pathsep.join(filter(None, (str(_PACKAGE), os.environ.get("PYTHONPATH"))))
     with (tempfile.TemporaryFile() as given, tempfile.TemporaryFile() as out,
           tempfile.TemporaryFile() as errors):
         given.write(text.encode())
         given.seek(0)
-        with children.child(words, cwd=folder, stdin=given, stdout=out, stderr=errors,
+        with subprocesses.child(words, cwd=folder, stdin=given, stdout=out, stderr=errors,
                             env={**os.environ, "DNLAB": program, "PYTHONPATH": path}) as process:
-            status = children.wait(process)
+            status = subprocesses.wait(process)
         for file in out, errors:
             file.seek(0)
-        return children.Done(status, out.read(), errors.read())
+        return subprocesses.Done(status, out.read(), errors.read())
 
 
 def view_of(folder: Path) -> View:

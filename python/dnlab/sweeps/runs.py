@@ -5,19 +5,19 @@ from pathlib import Path
 from typing import BinaryIO, Iterator, Mapping, NamedTuple, Optional, Union
 
 from dnlab import library
-from dnlab.analysis.naming import with_names
+from dnlab.analysis.names import with_names
 from dnlab.analysis.reports import Report
 from dnlab.errors import ParseError, ProgramError
-from dnlab.io.origin import Origin, origin_of, write_beside
-from dnlab.io.outputs import whole_file
-from dnlab.io.packed import unpacked
+from dnlab.io.files import Origin, origin_of, write_beside
+from dnlab.io.files import whole_file
+from dnlab.io.files import unpacked
 from dnlab.io.pieces import pieces
-from dnlab.io.report_bound import most_report
+from dnlab.io.splitting import most_report
 from dnlab.io.scenario import read
 from dnlab.io.scenario_parts import MOST_BYTES, MOST_EXPERIMENTS
 from dnlab.io.splitting import experiments_in, texts_of
-from dnlab.processes import children
-from dnlab.processes.rooms import Room
+from dnlab.processes import subprocesses
+from dnlab.processes.subprocesses import TempDir
 from dnlab.programs import program
 
 
@@ -43,7 +43,7 @@ def run(text: Union[str, bytes, Path], workers: int = 1, moves: Optional[int] = 
         # Checked before anything runs; the program refuses a faulty scenario.
         with suppress(ParseError):
             with_names(read(data), names)
-    room = Room()
+    room = TempDir()
     scenario = room.path / "scenario.txt"
     scenario.write_bytes(data)
     report = Path(out) if out is not None else room.path / "report.txt"
@@ -72,12 +72,12 @@ class _Program(NamedTuple):
 
     def write(self, text: bytes, out: BinaryIO) -> tuple[int, str]:
         """Writes the report of a scenario; returns the exit status and the messages."""
-        done = children.run([self.path, *self.words], text, out, most_report(text))
+        done = subprocesses.run([self.path, *self.words], text, out, most_report(text))
         return done.status, done.said()
 
     def explained(self, text: bytes) -> str:
         """Returns the explanation of `--explain` for a faulty scenario, with the line of its fault, or ''."""
-        done = children.run([self.path, "check", "--explain"], text)
+        done = subprocesses.run([self.path, "check", "--explain"], text)
         return done.said() if done.status == 1 else ""
 
 

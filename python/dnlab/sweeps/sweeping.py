@@ -5,37 +5,37 @@ from functools import cached_property
 from pathlib import Path
 from typing import Any, Iterable, Iterator, Mapping, Optional, Sequence, Union
 
-from dnlab.analysis.asking import Found, check, names_in, usual
-from dnlab.analysis.notes import STOPPING, Note
-from dnlab.analysis.own import Own
-from dnlab.analysis.spans import Span, span_of
-from dnlab.analysis.stats import USUAL, Ask, merged, stats_given
-from dnlab.analysis.work import cores
+from dnlab.sweeps.measuring import StatResults, check, names_in, usual
+from dnlab.errors import STOPPING, Note
+from dnlab.analysis.statistics import CustomStat
+from dnlab.analysis.metrics import Span, span_of
+from dnlab.analysis.statistics import USUAL, StatRequest, merged, stats_given
+from dnlab.analysis.reports import cores
 from dnlab.errors import InputError, ProgramError
 from dnlab.io.scenario import read
 from dnlab.io.scenario_parts import MOST_BYTES, MOST_EXPERIMENTS, Plan
 from dnlab.io.splitting import lines_in, names_of
-from dnlab.plot import names
-from dnlab.processes import ending
-from dnlab.processes.children import Killed
+from dnlab.analysis import names
+from dnlab.processes import subprocesses
+from dnlab.processes.subprocesses import Killed
 from dnlab.processes.process_pool import ProcessPool
-from dnlab.processes.progress import Progress
+from dnlab.processes.process_pool import Progress
 from dnlab.programs import program as program_of
-from dnlab.sweeps.batches import Answered, Waiting, answer_of, judged, raise_first, steps_of, together
-from dnlab.sweeps.grids import Case, cases_of
-from dnlab.sweeps.kept import Kept, checksum, program_checksum
-from dnlab.sweeps.making import Maker
+from dnlab.sweeps.measuring import Answered, Waiting, answer_of, batches_of_waiting, judged, raise_first, steps_of
+from dnlab.sweeps.grid import Case, cases_of
+from dnlab.sweeps.cache import ResultCache, checksum, program_checksum
+from dnlab.sweeps.templates import Renderer
 from dnlab.sweeps.measuring import measured
-from dnlab.sweeps.swept import Swept
+from dnlab.sweeps.results import SweepResults
 from dnlab.sweeps.templates import Template
-from dnlab.sweeps.values import shown, why_taken
+from dnlab.sweeps.grid import shown, why_taken
 
 # An experiment's name depends on the order of --set, but its results don't.
 _HEADING = re.compile(r"^( *experiment +)\S+", re.MULTILINE)
 _LOSS = re.compile(rb" plr +(?!0(\.0*)?( |$))", re.MULTILINE)
 
 
-class Sweep(Swept):
+class Sweep(SweepResults):
     """The experiments of a template, in the order of `cases`. They run when `rows()` or `table()` is requested.
 
     template  as in `sweep`
@@ -53,7 +53,7 @@ class Sweep(Swept):
     span      the time range to measure"""
 
     def __init__(self, template: Union[str, Path], grid: Mapping[str, Sequence[Any]], seeds: Iterable[int] = (1,),
-                 asks: Sequence[Ask] = (), kept: Union[str, Path, None] = None, workers: Optional[int] = None,
+                 asks: Sequence[StatRequest] = (), kept: Union[str, Path, None] = None, workers: Optional[int] = None,
                  on: Optional[str] = None, there: Optional[str] = None, dnlab: Optional[str] = None,
                  anew: bool = False, allow: Sequence[str] = (), parts: Optional[int] = None, span: Span = Span()) -> None:
         self.template = Template(template)
@@ -70,11 +70,11 @@ class Sweep(Swept):
         self.on, self.there, self.parts = on, there, parts
         self.allow = frozenset(allow)
         self.span = span
-        self._maker = Maker(self.template)
+        self._maker = Renderer(self.template)
         self._named = dnlab
-        self.kept = Kept(kept)
+        self.kept = ResultCache(kept)
         self.anew = anew
-        self.found: dict[str, Found] = {}
+        self.found: dict[str, StatResults] = {}
         # The number of experiments that were run, not found in the cache.
         self.ran = 0
 
@@ -167,7 +167,7 @@ class Sweep(Swept):
         program = program_of(self._named)
         with Progress("sweep", len(self.cases), len(self.cases) - len(waiting)) as progress:
             for batch, found in self._answers(waiting, program):
-                with ending.held():
+                with subprocesses.signals_delayed():
                     self.kept.put([(one.key, self._keepable(answered)) for one, answered in zip(batch, found)])
                     self.found.update((one.case.name, answered) for one, answered in zip(batch, found))
                     self.ran += len(batch)
@@ -175,18 +175,18 @@ class Sweep(Swept):
                 for one in batch:
                     self._judge(one.case)
 
-    def _keepable(self, found: Found) -> Found:
+    def _keepable(self, found: StatResults) -> StatResults:
         """Returns the part of a result to store: not those of your own functions, which may change."""
-        own = {str(stat) for ask in self.asks for stat in ask.stats if isinstance(stat, Own)}
+        own = {str(stat) for ask in self.asks for stat in ask.stats if isinstance(stat, CustomStat)}
         return found if not own else found._replace(values={
             of: {stat: values for stat, values in stats.items() if stat not in own} for of, stats in found.values.items()})
 
     def _answers(self, waiting: Sequence[Waiting], program: str) -> Iterator[Answered]:
         if self.on is None:
             return self.here(waiting, program)
-        from dnlab.sweeps import elsewhere
+        from dnlab.sweeps import cluster
 
-        return elsewhere.answers(self, waiting, program)
+        return cluster.answers(self, waiting, program)
 
     def _judge(self, case: Case) -> None:
         """Raises `InputError` for an experiment that did not run as written, unless that is allowed."""
@@ -202,7 +202,7 @@ class Sweep(Swept):
             def begin(batch: Sequence[Waiting]) -> None:
                 self.give(pool, batch, program)
 
-            for batch in together(waiting, self.workers):
+            for batch in batches_of_waiting(waiting, self.workers):
                 begin(batch)
                 while len(pool) > 2 * self.workers:
                     yield from self._taken(pool, begin, failures)
@@ -280,6 +280,6 @@ def sweep(template: Union[str, Path], *, seed: Union[int, Iterable[int]] = 1, of
         if not all(callable(one) for one in (stat if isinstance(stat, (list, tuple)) else [stat])):
             raise InputError("stat needs of, a sender, as of='train 9' (a function alone applies to the whole run)")
         asked = {"all": stat}
-    asks = [Ask(one, stats_given(stats)) for one, stats in asked.items()]
+    asks = [StatRequest(one, stats_given(stats)) for one, stats in asked.items()]
     return Sweep(template, every, [seed] if isinstance(seed, int) else seed, asks, kept, workers, on, dnlab=dnlab,
                  allow=allow, span=span_of(begin, end))

@@ -1,0 +1,303 @@
+"""Judges a run: warnings for its rows, and hints at what a scenario does although its author hardly meant it."""
+from __future__ import annotations
+
+from collections import Counter
+from typing import TYPE_CHECKING, Iterable, Iterator, NamedTuple, Optional, Sequence
+
+import numpy as np
+
+from dnlab.analysis.commands import unmet
+from dnlab.analysis.emissions import first_window
+from dnlab.analysis.packets import DELIVERED, DROPPED
+from dnlab.errors import Note
+from dnlab.io.lines import ACK, ACKNOWLEDGES, DATA, EXPIRE, OK, REFUSED, pipe_name
+from dnlab.io.scenario_parts import DEFAULTS, DROP_CAUSES, Change, Config, Sends, stretches_of
+
+if TYPE_CHECKING:
+    from dnlab.analysis.view import View
+
+# `unsent`          `end` cut off a train or a flow
+# `reconfigured`    a later `config` of a pipe reset an option of an earlier one to its default
+# `outage`          in a link that changes: `bw 0`, which means unlimited, or a rate at which a packet takes longer than it lasts
+# `half-duplex`     a flow's acknowledgements wait in the pipe of its segments
+# `window-limited`  for part of a flow's time its `window`, and not cwnd, was the limit
+# `unused`          a rule or a pipe that no packet met
+# `units`           a time, a gap or a rate that looks like another unit
+
+# A flow with this many segments, the maximum of a scenario, is meant to continue to the end.
+ENDLESS = 10**6
+# No pipe is faster (bit/s), so a smaller gap than that of packets at this rate must be a mistake.
+_FASTEST = 10**10
+_SLOWEST = 1000
+# A run that ends before this (ns) without a delivery was meant to be longer; so were times below the other value.
+_SHORT = 10**6
+_ODD = range(10, 1000)
+# The maximum number of rules and pipes in a message.
+_MOST_UNUSED = 3
+
+
+def likely_of(view: View) -> list[Note]:
+    """Returns the notes of an experiment with its scenario; none without a scenario."""
+    if view.plan is None:
+        return []
+    return [*_unsent(view), *_by_pipes(view), *_half_duplex(view), *_window_limited(view), *_unused(view), *_units(view)]
+
+
+def spoken(moment: int) -> str:
+    """Returns a time in the unit that fits it.
+
+    >>> spoken(1500000), spoken(100), spoken(0)
+    ('1.5 ms', '100 ns', '0 ns')
+    """
+    for size, unit in ((10**9, "s"), (10**6, "ms"), (10**3, "us")):
+        if moment >= size:
+            return f"{moment / size:.6g} {unit}"
+    return f"{moment} ns"
+
+
+def _unsent(view: View) -> Iterator[Note]:
+    if view.ended.is_short():
+        return
+    stopped = {command.stops for _, command in view.done.plain if command.stops is not None}
+    packets = dict(view.senders)
+    for name, (moment, sends) in view.sends.items():
+        own = packets.get(name, np.zeros(0, dtype=np.int64))
+        is_flow = sends.word == "flow"
+        if is_flow and (sends.count == ENDLESS or sends.number in stopped):
+            continue
+        sent = int(np.count_nonzero(~view.packets.retransmission[own])) if is_flow else len(own)
+        if sent < sends.count:
+            what = "segments were sent" if is_flow else "packets were made"
+            more = (f"segments {ENDLESS} means an endless flow" if is_flow else
+                    f"its last is due at {moment + sends.gap * (sends.count - 1)} ns")
+            yield Note("unsent", f"{name}: {sent} of {sends.count} {what} before `end` at {spoken(view.ended.moment)}"
+                       f" ({more})", "unsent", name)
+
+
+def _by_pipes(view: View) -> Iterator[Note]:
+    """Returns notes about successive configurations of a pipe."""
+    largest = max([*(sends.size for _, sends in view.sends.values()), int(view.done.injected.size.max(initial=0))])
+    for pipe, changes in view.changes.items():
+        for stretch in stretches_of(changes):
+            for place, change in enumerate(stretch[1:], 1):
+                yield from _reconfigured(pipe, stretch[:place], change)
+            if len({change.config.bw for change in stretch if change.config}) > 1:
+                yield from _outages(pipe, stretch, largest)
+
+
+def _reconfigured(pipe: int, earlier: Sequence[Change], change: Change) -> Iterator[Note]:
+    """Returns notes about options that fall back to a default which the pipe never had. A return to an earlier value is normal, as at the
+    end of an outage."""
+    known = [one.config for one in earlier if one.config is not None]
+    config, before, usual = change.config, known[-1], Config(0)
+    assert config is not None
+    lost = [name for name in DEFAULTS if name not in dict(config.given)
+            and all(_value(one, name) != _value(usual, name) for one in known)]
+    if lost:
+        back = ", ".join(f"{name} ({DEFAULTS[name]})" for name in lost)
+        yield Note("reconfigured", f"line {config.line}: this `config` of pipe {pipe} resets {back} to the default, because"
+                   f" it omits what line {before.line} set ({before.words(*lost)}): write every option again",
+                   "reconfigured")
+
+
+def _value(config: Config, name: str) -> object:
+    return (config.slots, config.bytes) if name == "queue" else getattr(config, name)
+
+
+def _outages(pipe: int, stretch: Sequence[Change], largest: int) -> Iterator[Note]:
+    for change, following in zip(stretch, [*stretch[1:], None]):
+        config = change.config
+        assert config is not None
+        if config.bw == 0 and "bw" in dict(config.given):
+            yield Note("outage", f"line {config.line}: `bw 0` of pipe {pipe} means unlimited, not an outage: `plr 1` loses every"
+                       " packet", "outage")
+        elif config.bw and following is not None:
+            time, holds = -(-8 * 10**9 * largest // config.bw), following.moment - change.moment
+            if time > holds > 0:
+                yield Note("outage", f"line {config.line}: at {config.words('bw')} a packet of {largest} bytes takes"
+                           f" {spoken(time)}, and this rate of pipe {pipe} lasts {spoken(holds)}: the packet in"
+                           " service keeps its finish time, so the link is busy until then", "outage")
+
+
+def _half_duplex(view: View) -> Iterator[Note]:
+    packet = view.visits.packet
+    flow, kind = view.packets.flow[packet].astype(np.int64), view.packets.kind[packet]
+    # The flow and the instance as one number.
+    key = flow << 32 | view.visits.pipe.astype(np.int64)
+    both = np.intersect1d(key[kind == DATA], key[kind == ACKNOWLEDGES])
+    for one in both.tolist():
+        number, pipe = one >> 32, one & (2**32 - 1)
+        if any(change.config is not None and change.config.bw for change in view.changes.get(pipe // 256, [])):
+            yield Note("half-duplex", f"flow {number}: its acknowledgements wait behind its segments, in {pipe_name(pipe)}: a"
+                       " pipe has one direction, so give the return path a rule and a pipe of its own", "half-duplex", f"flow {number}")
+
+
+def _window_limited(view: View) -> Iterator[Note]:
+    columns = view.experiment.columns
+    rows = np.flatnonzero((columns.word == ACK) | (columns.word == EXPIRE))
+    packets = dict(view.senders)
+    for name, (begin, sends) in view.sends.items():
+        if sends.word != "flow" or name not in packets:
+            continue
+        own = rows[columns.flow[rows] == sends.number]
+        sent = packets[name][~view.packets.retransmission[packets[name]]]
+        until = int(view.packets.made[sent].max()) if len(sent) == sends.count or not len(own) else int(columns.moment[own[-1]])
+        moments = np.concatenate((np.array([begin]), columns.moment[own], np.array([until])))
+        cwnd = np.concatenate((np.array([first_window(sends.smss)]), columns.number[own]))
+        times = np.maximum(np.minimum(moments[1:], until) - moments[:-1], 0)
+        held = int(times[cwnd // sends.smss > sends.window // sends.smss].sum())
+        if 100 * held >= until - begin > 0:
+            share, more = 100 * held // (until - begin), ": a longer queue gives it nothing more" if 2 * held > until - begin else ""
+            yield Note("window-limited", f"{name}: its window of {sends.window} bytes, and not the network, held it back for"
+                       f" {share} % of its time{more}", "window-limited", name)
+
+
+def _unused(view: View) -> Iterator[Note]:
+    rules, pipes = unmet(view)
+    names = [f"pipe {pipe}" for pipe in pipes] + [f"`add {rule.text()}`" for _, rule in rules]
+    if names:
+        more = f" and {len(names) - _MOST_UNUSED} more" if len(names) > _MOST_UNUSED else ""
+        yield Note("unused", f"no packet met {', '.join(names[:_MOST_UNUSED])}{more}: an earlier rule decides, or it matches no"
+                   " sender", "unused")
+
+
+def _units(view: View) -> Iterator[Note]:
+    end = view.ended.moment
+    done, injected = view.done, view.done.injected
+    sent = [(row, command.line, command.moment, command.sends) for row, command in done.plain]
+    odd = np.flatnonzero((injected.columns[0] >= _ODD.start) & (injected.columns[0] < _ODD.stop))
+    sent += zip(done.rows[odd].tolist(), injected.line[odd].tolist(), injected.columns[0, odd].tolist(), [None] * len(odd))
+    for _, line, moment, sends in sorted(sent, key=lambda one: one[0]):
+        if sends is not None and sends.count > 1 and 0 < sends.gap and sends.size * 8 * 10**9 > _FASTEST * sends.gap:
+            yield _unit(line, f"gap {sends.gap} is {spoken(sends.gap)}, so the train is faster than any pipe: gaps are"
+                        f" nanoseconds, {sends.gap} ms is {sends.gap * 10**6}", sends)
+        if moment in _ODD and end >= _SHORT:
+            yield _unit(line, f"@{moment} is {spoken(moment)}: times are in nanoseconds, {moment} ms is @{moment * 10**6}")
+    for changes in view.changes.values():
+        for config in (change.config for change in changes if change.config is not None):
+            if 0 < config.bw < _SLOWEST:
+                yield Note("units", f"line {config.line}: {config.words('bw')} is {config.bw} bit/s: is a unit missing, as in"
+                           " 10Mbit/s?", "units")
+    if (view.sends or len(done.rows)) and 0 < end < _SHORT and not view.ended.is_short() and not view.counters.delivered:
+        yield _unit(done.plain[-1][1].line, f"@{end} end is {spoken(end)}, and nothing was delivered by then: times are in nanoseconds,"
+                    f" {end} ms is @{end * 10**6}")
+
+
+def _unit(line: int, said: str, sends: Sends | None = None) -> Note:
+    return Note("units", f"line {line}: {said}", "units", sends.name() if sends is not None else "")
+
+
+# `refused_of` and `marks_of` take a `dnlab.analysis.view.View`, with its scenario or without.
+
+# The meaning of each code of a refused command (docs/reference/faults.md).
+MEANS = {
+    10: "a rule's number is 1 to 65534",
+    11: "`skipto` must go forward",
+    12: "there are 256 rules already",
+    13: "no rule has this number",
+    20: "there is no pipe of this number",
+    21: "the pipe's mask is fixed, since packets have come to it",
+    22: "a flow or a train has this number already",
+    23: "there is no flow of this number",
+    24: "there are 64 pipes already",
+    25: "there are 256 flows and trains already, those that have ended too",
+}
+_DENIED = DROPPED + DROP_CAUSES.index("denied")
+_NOPIPE = DROPPED + DROP_CAUSES.index("nopipe")
+_BUDGET = DROPPED + DROP_CAUSES.index("budget")
+# The maximum number of refused commands that are listed.
+_MOST_TOLD = 3
+
+
+class Refusal(NamedTuple):
+    """A refused command: its index in the experiment (from 0), its time in ns, the code, its line in the report, and its line and text
+    in the scenario (None if the scenario isn't known)."""
+    experiment: str
+    number: int
+    moment: int
+    code: int
+    report_line: int
+    line: Optional[int] = None
+    text: Optional[str] = None
+
+    def told(self) -> str:
+        """Returns the command, its code and the reason as text.
+
+        >>> Refusal("a", 1, 0, 13, 3, 4, "delete 7").told()
+        'line 4: `delete 7` (13: no rule has this number)'
+        """
+        what = f"command {self.number} at {self.moment} ns" if self.line is None else f"line {self.line}: `{self.text}`"
+        return f"{what} ({self.code}: {MEANS[self.code]})"
+
+
+def refused_of(view: View) -> list[Refusal]:
+    """Returns the refused commands of an experiment, in order."""
+    experiment = view.experiment
+    columns = experiment.columns
+    commands = view.plan.commands if view.plan else []
+    found = []
+    for row in experiment.rows(REFUSED).tolist():
+        number = int(columns.number[row])
+        line, text = (commands[number].line, commands[number].text) if number < len(commands) else (None, None)
+        found.append(Refusal(experiment.name, number, int(columns.moment[row]), int(columns.more[row]),
+                             experiment.line_of(row), line, text))
+    return found
+
+
+def codes_of(refused: Iterable[Refusal]) -> str:
+    """Returns each code with the number of commands, as `10:1 22:3`; '' if none was refused."""
+    counts = Counter(one.code for one in refused)
+    return " ".join(f"{code}:{counts[code]}" for code in sorted(counts))
+
+
+def told_of(refused: Sequence[Refusal], commands: int) -> str:
+    """Returns the message about refused commands, with the first of them; `commands` is the number of all commands."""
+    said = "; ".join(one.told() for one in refused[:_MOST_TOLD])
+    more = f"; and {len(refused) - _MOST_TOLD} more, codes {codes_of(refused)}" if len(refused) > _MOST_TOLD else ""
+    were = "was" if len(refused) == 1 else "were"
+    return f"{len(refused)} of {commands} commands {were} refused and did nothing: {said}{more}"
+
+
+def marks_of(view: View) -> list[Note]:
+    """Returns the notes of an experiment that cause warnings, the most serious first."""
+    return [*_refused(view), *_ends(view), *_losses(view), *likely_of(view)]
+
+
+def _refused(view: View) -> list[Note]:
+    refused = view.refused
+    if not refused:
+        return []
+    commands = int(np.count_nonzero(np.isin(view.experiment.columns.word, (OK, REFUSED))))
+    return [Note("refused", told_of(refused, commands), "refused")]
+
+
+def _ends(view: View) -> list[Note]:
+    if not view.ended.is_short():
+        return []
+    end = "" if view.ended.end is None else f", before its end at {view.ended.end} ns"
+    return [Note("spent", f"its steps were spent at {view.ended.moment} ns{end}: what follows is missing; give"
+                 " it more `steps`", "spent")]
+
+
+def _losses(view: View) -> list[Note]:
+    """Returns notes about drops that suggest a mistake: by rules, in a pipe that doesn't exist, or for the budget."""
+    found = []
+    fate, kind = view.packets.outcome, view.packets.kind
+    for name, packets in view.senders:
+        denied = int(np.count_nonzero(fate[packets] == _DENIED))
+        nowhere = int(np.count_nonzero(fate[packets] == _NOPIPE))
+        over = int(np.count_nonzero(fate[packets] == _BUDGET))
+        came = int(np.count_nonzero(fate[packets] == DELIVERED))
+        if denied and not came and int(kind[packets[0]]) == ACKNOWLEDGES:
+            found.append(Note("no way back", f"{name}: all {denied} that ended were denied: no rule allows the return"
+                              " path, so the sender never saw an acknowledgement", "no-way-back", name))
+        elif denied:
+            found.append(Note("denied", f"{name}: {denied} of {len(packets)} packets were denied: no rule matched,"
+                              " or a `deny`", "denied", name))
+        if nowhere:
+            found.append(Note("nopipe", f"{name}: {nowhere} of {len(packets)} packets were dropped because a rule sends them to a pipe"
+                              " that does not exist: configure that pipe, or name another", "nopipe", name))
+        if over:
+            found.append(Note("budget", f"{name}: {over} of {len(packets)} packets were dropped because the budget"
+                              " of packets in flight was used up", "budget", name))
+    return found
