@@ -1,4 +1,5 @@
 mod Accounting
 pub mod Behind
+mod Rates
 mod Sharing
 mod States

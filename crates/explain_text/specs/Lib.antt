@@ -1,6 +1,7 @@
 pub mod Accounts
 pub mod Flows
 pub mod Likely
+pub mod Outages
 pub mod Pipes
 pub mod Shared
 pub mod Shown

@@ -23,17 +23,36 @@ pub enum Doubt {
     /// A train's gap looks like milliseconds.
     ShortGap(u64),
     /// The last packet of a train is due at `last`, and the experiment ends before that.
-    CutTrain { last: u64, end: u64 },
+    CutTrain {
+        last: u64,
+        end: u64,
+    },
     /// A rate (bit/s) looks as if its unit was left out.
     LowRate(u64),
     /// A pipe's delay is as long as the experiment.
-    LongDelay { delay: u64, end: u64 },
+    LongDelay {
+        delay: u64,
+        end: u64,
+    },
     /// A pipe always loses all packets.
     LosesAll(PipeNumber),
     /// A receiver's window is smaller than a segment.
-    SmallWindow { window: u64, smss: u64 },
+    SmallWindow {
+        window: u64,
+        smss: u64,
+    },
     /// A later `config` of a pipe leaves out an option that every earlier one gave.
-    Forgets { pipe: PipeNumber, setting: Setting },
+    Forgets {
+        pipe: PipeNumber,
+        setting: Setting,
+    },
+    /// A rate of a pipe lasts for `lasts` ns, and a packet of `size` bytes takes `time` ns at it.
+    Outage {
+        pipe: PipeNumber,
+        size: u64,
+        time: u64,
+        lasts: u64,
+    },
     /// The segments and the acknowledgements of a flow wait in one pipe.
     SharedPipe(PipeNumber),
     /// No packet meets a rule.
@@ -41,11 +60,19 @@ pub enum Doubt {
     /// No packet enters a pipe.
     UnusedPipe(PipeNumber),
     /// The listings of the experiment may have up to this many bytes.
-    LongListings { bytes: u64 },
+    LongListings {
+        bytes: u64,
+    },
     /// The experiment ended when `acked` of the `bytes` of a flow were acknowledged.
-    Unfinished { acked: u64, bytes: u64 },
+    Unfinished {
+        acked: u64,
+        bytes: u64,
+    },
     /// A flow was limited by its window, and not by cwnd, for this share of its time (%).
-    WindowLimited { window: u64, share: u64 },
+    WindowLimited {
+        window: u64,
+        share: u64,
+    },
 }
 
 /// A doubt, and the number of its command, from 0.
@@ -127,6 +154,7 @@ fn kind_word(doubt: &Doubt) -> &'static str {
         Doubt::LosesAll(_) => "plr",
         Doubt::SmallWindow { .. } => "window",
         Doubt::Forgets { .. } => "reconfigured",
+        Doubt::Outage { .. } => "outage",
         Doubt::SharedPipe(_) => "half-duplex",
         Doubt::UnusedRule | Doubt::UnusedPipe(_) => "unused",
         Doubt::WindowLimited { .. } => "window-limited",
@@ -188,6 +216,29 @@ fn put_of_run(out: &mut Vec<u8>, doubt: &Doubt) -> Result<(), AllocError> {
     }
 }
 
+// Appends the meaning of a rate that ends before one packet is sent.
+fn put_outage(
+    out: &mut Vec<u8>,
+    pipe: PipeNumber,
+    size: u64,
+    time: u64,
+    lasts: u64,
+) -> Result<(), AllocError> {
+    put_with(
+        out,
+        "this rate of pipe ",
+        u64::from(pipe.get()),
+        " lasts for ",
+    )?;
+    put_time(out, lasts)?;
+    put_with(out, ", but a packet of ", size, " bytes takes ")?;
+    put_time(out, time)?;
+    put(
+        out,
+        " and keeps its finish time, so the link is busy until then",
+    )
+}
+
 fn put_meaning(out: &mut Vec<u8>, doubt: &Doubt) -> Result<(), AllocError> {
     match doubt {
         Doubt::EarlyMoment(moment) => put_with(
@@ -225,6 +276,12 @@ fn put_meaning(out: &mut Vec<u8>, doubt: &Doubt) -> Result<(), AllocError> {
             put_with(out, "", *smss, " bytes, so it sends nothing")
         }
         Doubt::Forgets { pipe, setting } => put_forgotten(out, *pipe, *setting),
+        Doubt::Outage {
+            pipe,
+            size,
+            time,
+            lasts,
+        } => put_outage(out, *pipe, *size, *time, *lasts),
         Doubt::SharedPipe(pipe) => {
             put_with(
                 out,
@@ -277,6 +334,10 @@ fn put_hint(out: &mut Vec<u8>, doubt: &Doubt) -> Result<(), AllocError> {
                 "a `config` sets all options: repeat those that stay (for an outage write `plr 1`)",
             )
         }
+        Doubt::Outage { .. } => put(
+            out,
+            "for an outage write `plr 1`, or use tools/rate-trace with --outage",
+        ),
         Doubt::SharedPipe(_) => {
             put(
                 out,

@@ -11,6 +11,7 @@ mod expected;
 mod faults;
 mod flows;
 mod likely;
+mod outages;
 mod pipes;
 mod rules;
 mod shared;

@@ -3,6 +3,7 @@
 use crate::doubt::{Doubtful, Setting, first_of_each, show_doubt};
 use crate::flows::of_flows;
 use crate::likely::likely;
+use crate::outages::outages;
 use crate::pipes::{forgets, loses_all};
 use crate::shared::shared;
 use crate::show::show_warning;
@@ -140,6 +141,7 @@ fn doubts_of(
     for setting in [Setting::Bw, Setting::Delay, Setting::Queue, Setting::Plr] {
         out.extend_from_slice(forgets(alloc, setting, commands)?.as_slice())?;
     }
+    out.extend_from_slice(outages(alloc, commands)?.as_slice())?;
     out.extend_from_slice(shared(alloc, commands)?.as_slice())?;
     out.extend_from_slice(unmet(alloc, commands)?.as_slice())?;
     if let Some(long) = long_listings(commands) {
