@@ -26,5 +26,6 @@ complete -c dnlab -n '__fish_seen_subcommand_from check' -l json -d 'print what 
 complete -c dnlab -n '__fish_seen_subcommand_from check' -l strict -d 'end with status 5 if a command will be refused'
 complete -c dnlab -n '__fish_seen_subcommand_from check' -s h -l help -d 'print help'
 complete -c dnlab -n '__fish_seen_subcommand_from live' -f -l explain -d 'say what is wrong with a line at fault'
+complete -c dnlab -n '__fish_seen_subcommand_from live' -f -l max-steps -x -d 'begin no experiment beyond these steps in all'
 complete -c dnlab -n '__fish_seen_subcommand_from live' -s h -l help -d 'print help'
 complete -c dnlab -n '__fish_seen_subcommand_from help' -f -a 'alone run check live'

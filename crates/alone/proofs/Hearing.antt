@@ -69,7 +69,7 @@ puts-handed v w x k l bytes now puts out none =
     (subst (λ (m : List ℕ). Puts v k x [] m) (append-nil bytes) (puts_both v w x k l [] bytes [] puts out))
 
 goes-free : (hinting : Hinting) (heard : List ℕ) (qs : List Piece) (s t u : KeptTalk) → u ≡ record t { out = [] } → GoesOn hinting heard qs s t → GoesOn hinting heard qs s u
-goes-free hinting heard qs s t u is goes text ps h = heard-free hinting (text ++ heard) (ps ++ qs) t u is (goes text ps h)
+goes-free hinting heard qs s t u is goes steps text ps h = heard-free hinting steps (text ++ heard) (ps ++ qs) t u is (goes steps text ps h)
 
 pub taken-handed : (hinting : Hinting) (v w x : Option (List ℕ)) (s t u : KeptTalk) (bytes rest : List ℕ) → IsTaken hinting v w s t bytes rest → Puts w t.out x [] [] → u ≡ record t { out = [] } →
     IsTaken hinting v x s u bytes rest
@@ -121,34 +121,34 @@ half-unwritten-by hinting v w x s t bytes rest (Err e) taken cut failed =
     subst (λ (q : Result (Unit {0}) RunFault). IfErr q (IsHalfHeard hinting bytes s v x)) (sym failed) (half-unwritten hinting v w x s t bytes rest taken cut)
 
 -- ---- what was heard of all that was read
-pub record HasRead {A : Type 0} (gives : A → List ℕ → A → Type 0) (hinting : Hinting) (first now : A) (unread rest v w : Option (List ℕ)) (t : KeptTalk) (n : ℕ) : Type 0 where
+pub record HasRead {A : Type 0} (gives : A → List ℕ → A → Type 0) (hinting : Hinting) (steps : Option ℕ) (first now : A) (unread rest v w : Option (List ℕ)) (t : KeptTalk) (n : ℕ) : Type 0 where
   pub text : List ℕ
   pub ps : List Piece
   pub gave : gives first text now
   pub took : Consumes unread rest text
   pub puts : Puts v [] w [] (flat_map written ps)
   pub none : t.out ≡ []
-  pub heard : Heard hinting text ps t
+  pub heard : Heard hinting steps text ps t
   pub many : n ≤ length text
 
 -- what a session leaves that answers so
-abbrev pub Lives : {A : Type 0} → (A → List ℕ → A → Type 0) → Hinting → A → A → Option (List ℕ) → Option (List ℕ) → Bool → Option (List ℕ) → Option (List ℕ) → Result (Unit {0}) RunFault → Type 0
-Lives gives hinting first now unread rest failed v w r =
-    (text : List ℕ) × gives first text now × Consumes unread rest text × Converses hinting text v w r × Leaves text rest failed r
+abbrev pub Lives : {A : Type 0} → (A → List ℕ → A → Type 0) → Hinting → Option ℕ → A → A → Option (List ℕ) → Option (List ℕ) → Bool → Option (List ℕ) → Option (List ℕ) → Result (Unit {0}) RunFault → Type 0
+Lives gives hinting steps first now unread rest failed v w r =
+    (text : List ℕ) × gives first text now × Consumes unread rest text × Converses hinting steps text v w r × Leaves text rest failed r
 
 -- calls one after the other
 abbrev pub Joins : {A : Type 0} → (A → List ℕ → A → Type 0) → Type 0
 Joins {A} gives = (a b c : A) (xs ys : List ℕ) → gives a xs b → gives b ys c → gives a (xs ++ ys) c
 
-module _ {A : Type 0} (gives : A → List ℕ → A → Type 0) (hinting : Hinting) (first : A) (unread v : Option (List ℕ)) where
+module _ {A : Type 0} (gives : A → List ℕ → A → Type 0) (hinting : Hinting) (steps : Option ℕ) (first : A) (unread v : Option (List ℕ)) where
   abbrev Has : A → Option (List ℕ) → Option (List ℕ) → KeptTalk → ℕ → Type 0
-  Has now rest w t n = HasRead gives hinting first now unread rest v w t n
+  Has now rest w t n = HasRead gives hinting steps first now unread rest v w t n
 
   abbrev Ends : A → Option (List ℕ) → Bool → Option (List ℕ) → Result (Unit {0}) RunFault → Type 0
-  Ends now rest failed w r = Lives gives hinting first now unread rest failed v w r
+  Ends now rest failed w r = Lives gives hinting steps first now unread rest failed v w r
 
-  pub read-none : (t : KeptTalk) → gives first [] first → t ≡ record { session = nobody; part = []; out = []; is_skipping = false; lines = 0 } →
-      HasRead gives hinting first first unread unread v v t 0
+  pub read-none : (t : KeptTalk) → gives first [] first → t ≡ record { session = nobody steps; part = []; out = []; is_skipping = false; lines = 0 } →
+      HasRead gives hinting steps first first unread unread v v t 0
   read-none t gave is = record {
     text = [];
     ps = [];
@@ -156,7 +156,7 @@ module _ {A : Type 0} (gives : A → List ℕ → A → Type 0) (hinting : Hinti
     took = Consumes-nil unread;
     puts = puts_none v [];
     none = ap (λ (k : KeptTalk). k.out) is;
-    heard = heard-none hinting t is;
+    heard = heard-none hinting steps t is;
     many = omega arith;
   }
 
@@ -167,10 +167,10 @@ module _ {A : Type 0} (gives : A → List ℕ → A → Type 0) (hinting : Hinti
       subst (λ (l : List ℕ). Puts v [] x now l) (sym (flat_map-append written ps qs))
       (puts_both v w x [] [] now (flat_map written ps) (flat_map written qs) puts (subst (λ (l : List ℕ). Puts w l x now (flat_map written qs)) none more))
 
-  pub read-more : Joins gives → (now next : A) (rest left w x y z : Option (List ℕ)) (s t u : KeptTalk) (bytes : List ℕ) (n : ℕ) → HasRead gives hinting first now unread rest v w s n →
+  pub read-more : Joins gives → (now next : A) (rest left w x y z : Option (List ℕ)) (s t u : KeptTalk) (bytes : List ℕ) (n : ℕ) → HasRead gives hinting steps first now unread rest v w s n →
       Consumes rest left bytes → gives now bytes next → 0 < length bytes →
       ((qs : List Piece) × Puts w s.out x t.out (flat_map written qs) × GoesOn hinting bytes qs s t) →
-      Puts x t.out y [] [] → u ≡ record t { out = [] } → Keeps y z → HasRead gives hinting first next unread left v z u (n + 1)
+      Puts x t.out y [] [] → u ≡ record t { out = [] } → Keeps y z → HasRead gives hinting steps first next unread left v z u (n + 1)
   read-more joins now next rest left w x y z s t u bytes n h took gave some (qs, puts, goes) out is keeps = record {
     text = h.text ++ bytes;
     ps = h.ps ++ qs;
@@ -179,7 +179,7 @@ module _ {A : Type 0} (gives : A → List ℕ → A → Type 0) (hinting : Hinti
     puts = puts_flushed v y z [] [] (flat_map written (h.ps ++ qs))
         (puts-handed v x y [] t.out (flat_map written (h.ps ++ qs)) [] (puts-heard w x h.ps qs s.out t.out h.puts h.none puts) out refl) keeps;
     none = ap (λ (k : KeptTalk). k.out) is;
-    heard = heard-free hinting (h.text ++ bytes) (h.ps ++ qs) t u is (goes h.text h.ps h.heard);
+    heard = heard-free hinting steps (h.text ++ bytes) (h.ps ++ qs) t u is (goes steps h.text h.ps h.heard);
     many = omega (arith, h.many, some, length-append h.text bytes);
   }
 
@@ -201,8 +201,8 @@ module _ {A : Type 0} (gives : A → List ℕ → A → Type 0) (hinting : Hinti
   gave_none joins now next text gave none = subst (λ (l : List ℕ). gives first l next) (append-nil text) (joins first now next text [] gave none)
 
   -- the reader failed
-  pub live-unread : Joins gives → (now next : A) (rest left w : Option (List ℕ)) (failed : Bool) (t : KeptTalk) (n : ℕ) → HasRead gives hinting first now unread rest v w t n →
-      gives now [] next → Keeps rest left → failed ≡ true → Lives gives hinting first next unread left failed v w (Err Read)
+  pub live-unread : Joins gives → (now next : A) (rest left w : Option (List ℕ)) (failed : Bool) (t : KeptTalk) (n : ℕ) → HasRead gives hinting steps first now unread rest v w t n →
+      gives now [] next → Keeps rest left → failed ≡ true → Lives gives hinting steps first next unread left failed v w (Err Read)
   live-unread joins now next rest left w failed t n h gave keeps is = (
     h.text,
     gave_none joins now next h.text h.gave gave,
@@ -212,8 +212,8 @@ module _ {A : Type 0} (gives : A → List ℕ → A → Type 0) (hinting : Hinti
   )
 
   -- so many reads
-  pub live-long : (now : A) (rest w : Option (List ℕ)) (failed : Bool) (t : KeptTalk) (n : ℕ) → HasRead gives hinting first now unread rest v w t n →
-      2 ^ 64 - 1 ≤ n → Lives gives hinting first now unread rest failed v w (Err Read)
+  pub live-long : (now : A) (rest w : Option (List ℕ)) (failed : Bool) (t : KeptTalk) (n : ℕ) → HasRead gives hinting steps first now unread rest v w t n →
+      2 ^ 64 - 1 ≤ n → Lives gives hinting steps first now unread rest failed v w (Err Read)
   live-long now rest w failed t n h all = (
     h.text,
     h.gave,
@@ -223,20 +223,20 @@ module _ {A : Type 0} (gives : A → List ℕ → A → Type 0) (hinting : Hinti
   )
 
   -- memory was refused, or the writer failed, in the midst of bytes that were read
-  pub live-half : Joins gives → (now next : A) (rest left w x : Option (List ℕ)) (failed : Bool) (t : KeptTalk) (bytes : List ℕ) (n : ℕ) (e : RunFault) → HasRead gives hinting first now unread rest v w t n →
+  pub live-half : Joins gives → (now next : A) (rest left w x : Option (List ℕ)) (failed : Bool) (t : KeptTalk) (bytes : List ℕ) (n : ℕ) (e : RunFault) → HasRead gives hinting steps first now unread rest v w t n →
       gives now bytes next → Consumes rest left bytes → failed ≡ false → IsHalfHeard hinting bytes t w x e →
-      Lives gives hinting first next unread left failed v x (Err e)
+      Lives gives hinting steps first next unread left failed v x (Err e)
   live-half joins now next rest left w x failed t bytes n e h gave took is half =
       let heard = half.1 in let qs = half.3 in
       let said : List ℕ = flat_map written (h.ps ++ qs) in
       let behind : Stops v [] x said =
       subst (λ (l : List ℕ). Stops v [] x l) (sym (flat_map-append written h.ps qs))
       (stops_behind v w x [] [] (flat_map written h.ps) (flat_map written qs) h.puts (subst (λ (l : List ℕ). Stops w l x (flat_map written qs)) h.none half.7)) in
-      let some : WritesSome hinting (h.text ++ bytes) v x =
-      (h.text ++ heard, half.2, said, ap (λ (l : List ℕ). h.text ++ l) half.5 ∙ sym (append_assoc h.text heard half.2), (half.6 h.text h.ps h.heard).says, stopped_cut x said behind) in
+      let some : WritesSome hinting steps (h.text ++ bytes) v x =
+      (h.text ++ heard, half.2, said, ap (λ (l : List ℕ). h.text ++ l) half.5 ∙ sym (append_assoc h.text heard half.2), (half.6 steps h.text h.ps h.heard).says, stopped_cut x said behind) in
       by e half.0 (h.text ++ bytes) (joins first now next h.text bytes h.gave gave) (Consumes-trans unread rest left h.text bytes h.took took) some
     where
-      by : (f : RunFault) → IsStop f → (text : List ℕ) → gives first text next → Consumes unread left text → WritesSome hinting text v x → Lives gives hinting first next unread left failed v x (Err f)
+      by : (f : RunFault) → IsStop f → (text : List ℕ) → gives first text next → Consumes unread left text → WritesSome hinting steps text v x → Lives gives hinting steps first next unread left failed v x (Err f)
       by Memory stop text gave took some = (text, gave, took, some, is)
       by Write stop text gave took some = (text, gave, took, some, is)
       by (Scenario f) stop text gave took some = absurd stop
@@ -245,19 +245,19 @@ module _ {A : Type 0} (gives : A → List ℕ → A → Type 0) (hinting : Hinti
       by Gate stop text gave took some = absurd stop
 
   -- the writer failed behind them
-  pub live-cut : Joins gives → (now next : A) (rest left w x y : Option (List ℕ)) (failed : Bool) (s t : KeptTalk) (bytes : List ℕ) (n : ℕ) → HasRead gives hinting first now unread rest v w s n →
+  pub live-cut : Joins gives → (now next : A) (rest left w x y : Option (List ℕ)) (failed : Bool) (s t : KeptTalk) (bytes : List ℕ) (n : ℕ) → HasRead gives hinting steps first now unread rest v w s n →
       gives now bytes next → Consumes rest left bytes → failed ≡ false →
       ((qs : List Piece) × Puts w s.out x t.out (flat_map written qs) × GoesOn hinting bytes qs s t) → IsCut x y t.out →
-      Lives gives hinting first next unread left failed v y (Err Write)
+      Lives gives hinting steps first next unread left failed v y (Err Write)
   live-cut joins now next rest left w x y failed s t bytes n h gave took is (qs, puts, goes) cut =
       live-half joins now next rest left w y failed s bytes n Write h gave took is
       (half-unwritten hinting w x y s t bytes [] (bytes, qs, sym (append-nil bytes), puts, goes) cut)
 
   -- it couldn't be handed on
-  pub live-unflushed : Joins gives → (now next : A) (rest left w x y z : Option (List ℕ)) (failed : Bool) (s t u : KeptTalk) (bytes : List ℕ) (n : ℕ) → HasRead gives hinting first now unread rest v w s n →
+  pub live-unflushed : Joins gives → (now next : A) (rest left w x y z : Option (List ℕ)) (failed : Bool) (s t u : KeptTalk) (bytes : List ℕ) (n : ℕ) → HasRead gives hinting steps first now unread rest v w s n →
       Consumes rest left bytes → gives now bytes next → 0 < length bytes → failed ≡ false →
       ((qs : List Piece) × Puts w s.out x t.out (flat_map written qs) × GoesOn hinting bytes qs s t) →
-      Puts x t.out y [] [] → u ≡ record t { out = [] } → Keeps y z → Lives gives hinting first next unread left failed v z (Err Write)
+      Puts x t.out y [] [] → u ≡ record t { out = [] } → Keeps y z → Lives gives hinting steps first next unread left failed v z (Err Write)
   live-unflushed joins now next rest left w x y z failed s t u bytes n h took gave some is hears out same keeps =
       let m = read-more joins now next rest left w x y z s t u bytes n h took gave some hears out same keeps in
       (m.text, m.gave, m.took, (m.text, [], flat_map written m.ps, sym (append-nil m.text), m.heard.says, appended_cut z (flat_map written m.ps) (all_written z m.ps m.puts)), is)
@@ -272,17 +272,17 @@ module _ {A : Type 0} (gives : A → List ℕ → A → Type 0) (hinting : Hinti
   cut false last part kept (inr skips) none = absurd (cc)
   cut true last part kept some none = let long = kept.0 in let empty = ap length none in omega (arith, long, empty)
 
-  concluded : (text : List ℕ) (ps : List Piece) (t : KeptTalk) (f : Fault) → (h : Heard hinting text ps t) → IsEnding t (Err (Scenario f)) → EndsBy f.cause h.says.last h.says.now
+  concluded : (text : List ℕ) (ps : List Piece) (t : KeptTalk) (f : Fault) → (h : Heard hinting steps text ps t) → IsEnding t (Err (Scenario f)) → EndsBy f.cause h.says.last h.says.now
   concluded text ps t f h (line, inl (is, some)) = inl (is, cut t.is_skipping h.says.last t.part h.kept some)
   concluded text ps t f h (line, inr (is, none, takes, lacks)) =
       inr (is, well t.is_skipping h.says.last t.part h.kept takes none, λ closed. lacks (subst AreClosed (sym h.now) closed))
 
-  pub live-ended : Joins gives → (now next : A) (rest left w : Option (List ℕ)) (failed : Bool) (t : KeptTalk) (n : ℕ) (r : Result (Unit {0}) RunFault) → HasRead gives hinting first now unread rest v w t n →
-      gives now [] next → Consumes rest left [] → IsAtEnd left → failed ≡ false → IsEnding t r → Lives gives hinting first next unread left failed v w r
+  pub live-ended : Joins gives → (now next : A) (rest left w : Option (List ℕ)) (failed : Bool) (t : KeptTalk) (n : ℕ) (r : Result (Unit {0}) RunFault) → HasRead gives hinting steps first now unread rest v w t n →
+      gives now [] next → Consumes rest left [] → IsAtEnd left → failed ≡ false → IsEnding t r → Lives gives hinting steps first next unread left failed v w r
   live-ended joins now next rest left w failed t n r h gave took end is ending =
       by r ending (gave_none joins now next h.text h.gave gave) (subst (Consumes unread left) (append-nil h.text) (Consumes-trans unread rest left h.text [] h.took took))
     where
-      by : (q : Result (Unit {0}) RunFault) → IsEnding t q → gives first h.text next → Consumes unread left h.text → Lives gives hinting first next unread left failed v w q
+      by : (q : Result (Unit {0}) RunFault) → IsEnding t q → gives first h.text next → Consumes unread left h.text → Lives gives hinting steps first next unread left failed v w q
       by (Ok x) (none, takes, closed) gave took = (
         h.text,
         gave,

@@ -118,9 +118,9 @@ heard-line line done ps qs s u h t mine plain (e ∷ before) say =
     (t.hears (second_half IsPlain ps qs plain) mine.0 e before (flat_map told ps) say.0 (h mine.1 (first_half IsPlain ps qs plain) before say.1))
 
 pub goes-both : (hinting : Hinting) (a b : List ℕ) (ps qs : List Piece) (r s t : KeptTalk) → GoesOn hinting a ps r s → GoesOn hinting b qs s t → GoesOn hinting (a ++ b) (ps ++ qs) r t
-goes-both hinting a b ps qs r s t f g text first h =
-    subst (λ (l : List ℕ). Heard hinting l (first ++ (ps ++ qs)) t) (append_assoc text a b)
-    (subst (λ (l : List Piece). Heard hinting ((text ++ a) ++ b) l t) (append_assoc first ps qs) (g (text ++ a) (first ++ ps) (f text first h)))
+goes-both hinting a b ps qs r s t f g steps text first h =
+    subst (λ (l : List ℕ). Heard hinting steps l (first ++ (ps ++ qs)) t) (append_assoc text a b)
+    (subst (λ (l : List Piece). Heard hinting steps ((text ++ a) ++ b) l t) (append_assoc first ps qs) (g steps (text ++ a) (first ++ ps) (f steps text first h)))
 
 pub never : (b : Bool) → b ≡ true → b ≡ false → ⊥
 never true e f = absurd (cc)
@@ -131,9 +131,9 @@ too_far n few many = omega (arith, few, many)
 
 -- ---- nothing more
 pub goes-none : (hinting : Hinting) (s : KeptTalk) → GoesOn hinting [] [] s s
-goes-none hinting s text ps h =
-    subst (λ (l : List ℕ). Heard hinting l (ps ++ []) s) (sym (append-nil text))
-    (subst (λ (l : List Piece). Heard hinting text l s) (sym (append-nil ps)) h)
+goes-none hinting s steps text ps h =
+    subst (λ (l : List ℕ). Heard hinting steps l (ps ++ []) s) (sym (append-nil text))
+    (subst (λ (l : List Piece). Heard hinting steps text l s) (sym (append-nil ps)) h)
 
 -- ---- of a line that isn't whole
 is_long : (hinting : Hinting) (last part said : List ℕ) (b : Bool) → b ≡ true → IsKept b last part → IsAwaited hinting last said →
@@ -161,11 +161,11 @@ longer last bytes many = omega (arith, many, length-append last bytes)
 
 -- the rest of one that is too long is passed over
 pub goes-skipping : (hinting : Hinting) (bytes : List ℕ) (s : KeptTalk) → s.is_skipping ≡ true → lines bytes ≡ bytes ∷ [] → GoesOn hinting bytes [] s s
-goes-skipping hinting bytes s skips no_feed text ps h =
+goes-skipping hinting bytes s skips no_feed steps text ps h =
     let c = h.says in
     let w = is_long hinting c.last s.part c.more s.is_skipping skips h.kept c.awaited in
     let may = subst (λ (l : List ℕ). hinting l TooLong w.2.0) (sym (take-append-le 513 c.last bytes w.0)) w.2.1 in
-    subst (λ (l : List Piece). Heard hinting (text ++ bytes) l s) (sym (append-nil ps)) (record {
+    subst (λ (l : List Piece). Heard hinting steps (text ++ bytes) l s) (sym (append-nil ps)) (record {
       says = record {
         done = c.done;
         last = c.last ++ bytes;
@@ -205,7 +205,7 @@ not_plain hint plain = plain.1.0 tt
 
 goes-long : (hinting : Hinting) (hint bytes : List ℕ) (s t : KeptTalk) → s.is_skipping ≡ false → lines bytes ≡ bytes ∷ [] → 512 < length s.part + length bytes →
     hinting (s.part ++ take (513 - length s.part) bytes) TooLong hint → t.session ≡ s.session → t.lines ≡ s.lines → t.part ≡ [] → t.is_skipping ≡ true → GoesOn hinting bytes (refusal hint TooLong) s t
-goes-long hinting hint bytes s t takes no_feed many may session lines_are none skips text ps h =
+goes-long hinting hint bytes s t takes no_feed many may session lines_are none skips steps text ps h =
     let c = h.says in
     let w = is_short hinting c.last s.part c.more s.is_skipping takes h.kept c.awaited in
     let long : 512 < length (c.last ++ bytes) = omega (arith, many, length-append c.last bytes, ap length w.1) in
@@ -231,12 +231,12 @@ goes-long hinting hint bytes s t takes no_feed many may session lines_are none s
 -- bytes without a line feed are added to the part of a line
 pub goes-added : (hinting : Hinting) (bytes : List ℕ) (s t : KeptTalk) → s.is_skipping ≡ false → lines bytes ≡ bytes ∷ [] → t.part ≡ s.part ++ bytes → length t.part ≤ 512 →
     t.session ≡ s.session → t.lines ≡ s.lines → t.is_skipping ≡ s.is_skipping → GoesOn hinting bytes [] s t
-goes-added hinting bytes s t takes no_feed part short session lines_are skipping text ps h =
+goes-added hinting bytes s t takes no_feed part short session lines_are skipping steps text ps h =
     let c = h.says in
     let w = is_short hinting c.last s.part c.more s.is_skipping takes h.kept c.awaited in
     let now : t.part ≡ c.last ++ bytes = part ∙ ap (λ (l : List ℕ). l ++ bytes) w.1 in
     let few : length (c.last ++ bytes) ≤ 512 = subst (λ (l : List ℕ). length l ≤ 512) now short in
-    subst (λ (l : List Piece). Heard hinting (text ++ bytes) l t) (sym (append-nil ps)) (record {
+    subst (λ (l : List Piece). Heard hinting steps (text ++ bytes) l t) (sym (append-nil ps)) (record {
       says = record {
         done = c.done;
         last = c.last ++ bytes;
@@ -257,10 +257,10 @@ goes-added hinting bytes s t takes no_feed part short session lines_are skipping
 
 -- ---- of a whole line
 -- one that isn't too long is answered
-replied : (hinting : Hinting) (text whole line : List ℕ) (ps qs : List Piece) (s t : KeptTalk) → (h : Heard hinting text ps s) →
+replied : (hinting : Hinting) (steps : Option ℕ) (text whole line : List ℕ) (ps qs : List Piece) (s t : KeptTalk) → (h : Heard hinting steps text ps s) →
     lines whole ≡ with_earlier (line ∷ h.says.done) ([] ∷ []) → h.says.more ≡ [] → IsReplied hinting line qs s.session t.session →
-    t.part ≡ [] → t.is_skipping ≡ false → t.lines ≡ next_line s.lines → Heard hinting whole (ps ++ qs) t
-replied hinting text whole line ps qs s t h lines_are none is part takes count =
+    t.part ≡ [] → t.is_skipping ≡ false → t.lines ≡ next_line s.lines → Heard hinting steps whole (ps ++ qs) t
+replied hinting steps text whole line ps qs s t h lines_are none is part takes count =
     let c = h.says in
     record {
       says = record {
@@ -286,10 +286,10 @@ replied hinting text whole line ps qs s t h lines_are none is part takes count =
 -- the line came in parts
 pub goes-answered : (hinting : Hinting) (qs : List Piece) (s t : KeptTalk) → s.is_skipping ≡ false → IsReplied hinting s.part qs s.session t.session →
     t.part ≡ [] → t.is_skipping ≡ s.is_skipping → t.lines ≡ s.lines → GoesOn hinting (10 ∷ []) qs s (counted t)
-goes-answered hinting qs s t takes is part skipping count text ps h =
+goes-answered hinting qs s t takes is part skipping count steps text ps h =
     let c = h.says in
     let w = is_short hinting c.last s.part c.more s.is_skipping takes h.kept c.awaited in
-    replied hinting text (text ++ 10 ∷ []) s.part ps qs s (counted t) h
+    replied hinting steps text (text ++ 10 ∷ []) s.part ps qs s (counted t) h
     (lines-fed text [] c.done c.last c.lines_are refl ∙ ap (λ (l : List ℕ). with_earlier (l ∷ c.done) ([] ∷ [])) (append-nil c.last ∙ sym w.1))
     w.2 is part (skipping ∙ takes) (ap next_line count)
 
@@ -297,21 +297,21 @@ goes-answered hinting qs s t takes is part skipping count text ps h =
 pub goes-line : (hinting : Hinting) (line : List ℕ) (qs : List Piece) (s t : KeptTalk) → lines line ≡ line ∷ [] → s.part ≡ [] → s.is_skipping ≡ false →
     IsReplied hinting line qs s.session t.session → t.part ≡ s.part → t.is_skipping ≡ s.is_skipping → t.lines ≡ s.lines →
     GoesOn hinting (line ++ 10 ∷ []) qs s (counted t)
-goes-line hinting line qs s t no_feed none takes is part skipping count text ps h =
+goes-line hinting line qs s t no_feed none takes is part skipping count steps text ps h =
     let c = h.says in
     let w = is_short hinting c.last s.part c.more s.is_skipping takes h.kept c.awaited in
-    replied hinting text (text ++ (line ++ 10 ∷ [])) line ps qs s (counted t) h
+    replied hinting steps text (text ++ (line ++ 10 ∷ [])) line ps qs s (counted t) h
     (lines-fed text line c.done c.last c.lines_are no_feed ∙ ap (λ (l : List ℕ). with_earlier ((l ++ line) ∷ c.done) ([] ∷ [])) (sym w.1 ∙ none))
     w.2 is (part ∙ none) (skipping ∙ takes) (ap next_line count)
 
 -- the line feed came of one that was too long, and refused
 pub goes-past : (hinting : Hinting) (s t : KeptTalk) → s.is_skipping ≡ true → t.session ≡ s.session → t.part ≡ s.part → t.is_skipping ≡ false → t.lines ≡ s.lines →
     GoesOn hinting (10 ∷ []) [] s (counted t)
-goes-past hinting s t skips session part takes count text ps h =
+goes-past hinting s t skips session part takes count steps text ps h =
     let c = h.says in
     let w = is_long hinting c.last s.part c.more s.is_skipping skips h.kept c.awaited in
     let line : List ℕ = c.last in
-    subst (λ (l : List Piece). Heard hinting (text ++ 10 ∷ []) l (counted t)) (sym (append-nil ps)) (record {
+    subst (λ (l : List Piece). Heard hinting steps (text ++ 10 ∷ []) l (counted t)) (sym (append-nil ps)) (record {
       says = record {
         done = line ∷ c.done;
         last = [];
@@ -331,17 +331,17 @@ goes-past hinting s t skips session part takes count text ps h =
     })
 
 -- nothing was heard yet
-begins : (before : List Entry) → Say [] before → TellsAll (experiments before) [] nobody
-begins [] say = record { stands = []; experiments_are = refl; text_is = refl; opened_are = refl; each = tt; last = refl }
-begins (e ∷ before) say = absurd say
+begins : (steps : Option ℕ) (before : List Entry) → Say [] before → TellsAll (experiments before) [] (nobody steps)
+begins steps [] say = record { stands = []; experiments_are = refl; text_is = refl; opened_are = refl; each = tt; last = refl }
+begins steps (e ∷ before) say = absurd say
 
-pub heard-none : (hinting : Hinting) (t : KeptTalk) → t ≡ record { session = nobody; part = []; out = []; is_skipping = false; lines = 0 } → Heard hinting [] [] t
-heard-none hinting t is = subst (Heard hinting [] []) (sym is) (record {
+pub heard-none : (hinting : Hinting) (steps : Option ℕ) (t : KeptTalk) → t ≡ record { session = nobody steps; part = []; out = []; is_skipping = false; lines = 0 } → Heard hinting steps [] [] t
+heard-none hinting steps t is = subst (Heard hinting steps [] []) (sym is) (record {
   says = record {
     done = [];
     last = [];
     lines_are = refl;
-    now = nobody;
+    now = nobody steps;
     first = [];
     more = [];
     replied = (refl, refl);
@@ -351,14 +351,14 @@ heard-none hinting t is = subst (Heard hinting [] []) (sym is) (record {
   now = refl;
   counted = refl;
   kept = (omega arith, refl);
-  heard = λ mine all before say. begins before say;
+  heard = λ mine all before say. begins steps before say;
   takes = λ plain. refl;
 })
 
 -- what isn't written yet is no matter
-pub heard-free : (hinting : Hinting) (text : List ℕ) (ps : List Piece) (t u : KeptTalk) → u ≡ record t { out = [] } → Heard hinting text ps t → Heard hinting text ps u
-heard-free hinting text ps t u is h =
-    subst (Heard hinting text ps) (sym is) (record { says = h.says; now = h.now; counted = h.counted; kept = h.kept; heard = h.heard; takes = h.takes })
+pub heard-free : (hinting : Hinting) (steps : Option ℕ) (text : List ℕ) (ps : List Piece) (t u : KeptTalk) → u ≡ record t { out = [] } → Heard hinting steps text ps t → Heard hinting steps text ps u
+heard-free hinting steps text ps t u is h =
+    subst (Heard hinting steps text ps) (sym is) (record { says = h.says; now = h.now; counted = h.counted; kept = h.kept; heard = h.heard; takes = h.takes })
 
 -- ---- what the calls answer
 -- a line that isn't taken isn't plain

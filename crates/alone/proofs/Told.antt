@@ -59,10 +59,10 @@ mine_first [] ls h = (tt, h)
 mine_first (line ∷ done) ls h = let k = mine_first done (line ∷ ls) h in ((k.1.0, k.0), k.1.1)
 
 -- of a whole text the reports were told
-told-reports : (hinting : Hinting) (text : List ℕ) (ps : List Piece) (t : KeptTalk) → Heard hinting text ps t → t.part ≡ [] → t.is_skipping ≡ false →
+told-reports : (hinting : Hinting) (steps : Option ℕ) (text : List ℕ) (ps : List Piece) (t : KeptTalk) → Heard hinting steps text ps t → t.part ≡ [] → t.is_skipping ≡ false →
     All (λ (o : KeptOpen). o.is_closed ≡ true) t.session.opened →
     (es : List Script) → Spells text es → AsksForAll (lines text) → AllByRecursion IsPlain ps → flat_map told ps ≡ reports es
-told-reports hinting text ps t h none takes closed es spells mine plain =
+told-reports hinting steps text ps t h none takes closed es spells mine plain =
     let c = h.says in
     let all : lines text ≡ with_earlier c.done ([] ∷ []) = c.lines_are ∙ ap (λ (l : List ℕ). with_earlier c.done (l ∷ [])) (last_none t.is_skipping c.last t.part h.kept takes none) in
     let said = spelled c.done [] [] es (subst (λ (ls : List (List ℕ)). AreSpelled [] ls es) all spells.1) in
@@ -91,12 +91,12 @@ whole (Some xs) None text bytes is took end = absurd took
 whole (Some xs) (Some ys) text bytes is took end = sym (append-nil bytes) ∙ ap (λ (l : List ℕ). bytes ++ l) (sym end) ∙ sym took ∙ same xs text is
 
 -- all was read
-pub tells-all : {A : Type 0} (gives : A → List ℕ → A → Type 0) (hinting : Hinting) (first now : A) (unread rest left v w : Option (List ℕ)) (t : KeptTalk) (n : ℕ) (text : List ℕ) →
-    HasRead gives hinting first now unread rest v w t n → unread ≡ Some text → Consumes rest left [] → IsAtEnd left → IsEnding t (Ok tt) →
+pub tells-all : {A : Type 0} (gives : A → List ℕ → A → Type 0) (hinting : Hinting) (steps : Option ℕ) (first now : A) (unread rest left v w : Option (List ℕ)) (t : KeptTalk) (n : ℕ) (text : List ℕ) →
+    HasRead gives hinting steps first now unread rest v w t n → unread ≡ Some text → Consumes rest left [] → IsAtEnd left → IsEnding t (Ok tt) →
     (ps : List Piece) × Appends v w (flat_map written ps) × ((es : List Script) → Spells text es → AsksForAll (lines text) → AllByRecursion IsPlain ps → flat_map told ps ≡ reports es)
-tells-all gives hinting first now unread rest left v w t n text h is took end ending =
+tells-all gives hinting steps first now unread rest left v w t n text h is took end ending =
     let all : h.text ≡ text = whole unread left text h.text is (subst (Consumes unread left) (append-nil h.text) (Consumes-trans unread rest left h.text [] h.took took)) end in (
       h.ps,
-      all_written gives hinting first unread v w h.ps h.puts,
-      told-reports hinting text h.ps t (subst (λ (l : List ℕ). Heard hinting l h.ps t) all h.heard) ending.0 ending.1 ending.2,
+      all_written gives hinting steps first unread v w h.ps h.puts,
+      told-reports hinting steps text h.ps t (subst (λ (l : List ℕ). Heard hinting steps l h.ps t) all h.heard) ending.0 ending.1 ending.2,
     )

@@ -43,22 +43,22 @@ abbrev pub with_earlier : List (List ℕ) → List (List ℕ) → List (List ℕ
 with_earlier [] ls = ls
 with_earlier (line ∷ done) ls = with_earlier done (line ∷ ls)
 
--- a session without experiments
-abbrev pub nobody : KeptSession
-nobody = record { opened = []; current = 0 }
+-- a session without experiments, and the steps that they may take together, if there is a limit
+abbrev pub nobody : Option ℕ → KeptSession
+nobody steps = record { opened = []; current = 0; left = steps }
 
 -- the output for lines, which are listed from the latest, and the session after them
-abbrev pub AreReplied : Hinting → List (List ℕ) → List ℕ → KeptSession → Type 0
-AreReplied hinting [] said now = (said ≡ []) × (now ≡ nobody)
-AreReplied hinting (line ∷ done) said now =
-    (first more : List ℕ) × (before : KeptSession) × (said ≡ first ++ more) × AreReplied hinting done first before × Replies hinting line more before now
+abbrev pub AreReplied : Hinting → Option ℕ → List (List ℕ) → List ℕ → KeptSession → Type 0
+AreReplied hinting steps [] said now = (said ≡ []) × (now ≡ nobody steps)
+AreReplied hinting steps (line ∷ done) said now =
+    (first more : List ℕ) × (before : KeptSession) × (said ≡ first ++ more) × AreReplied hinting steps done first before × Replies hinting line more before now
 
 -- the output for the bytes after the last line feed: nothing, unless they are already too long for a line
 abbrev pub IsAwaited : Hinting → List ℕ → List ℕ → Type 0
 IsAwaited hinting last said = ((length last ≤ 512) × (said ≡ [])) ⊎ ((512 < length last) × IsRefusal hinting last causes.TooLong said)
 
 -- the output for a text
-pub record Conversation (hinting : Hinting) (text said : List ℕ) : Type 0 where
+pub record Conversation (hinting : Hinting) (steps : Option ℕ) (text said : List ℕ) : Type 0 where
   -- its lines, from the latest, and the bytes after the last line feed
   pub done : List (List ℕ)
   pub last : List ℕ
@@ -66,7 +66,7 @@ pub record Conversation (hinting : Hinting) (text said : List ℕ) : Type 0 wher
   -- the output for the lines, the session after them, and the output for the last bytes
   pub first : List ℕ
   pub now : KeptSession
-  pub replied : AreReplied hinting done first now
+  pub replied : AreReplied hinting steps done first now
   pub more : List ℕ
   pub awaited : IsAwaited hinting last more
   pub said_is : said ≡ first ++ more
@@ -88,27 +88,27 @@ abbrev pub EndsBy : Cause → List ℕ → KeptSession → Type 0
 EndsBy cause last s = ((cause ≡ causes.Cut) × (last ≢ [])) ⊎ ((cause ≡ causes.NoEnd) × (last ≡ []) × (¬ AreClosed s))
 
 -- the text ends without a fault, or with this one
-abbrev pub Concludes : Option Fault → {hinting : Hinting} → {text said : List ℕ} → Conversation hinting text said → Type 0
+abbrev pub Concludes : Option Fault → {hinting : Hinting} → {steps : Option ℕ} → {text said : List ℕ} → Conversation hinting steps text said → Type 0
 Concludes None c = (c.last ≡ []) × AreClosed c.now
 Concludes (Some f) c = (f.line ≡ next_line (count_of c.done)) × EndsBy f.cause c.last c.now
 
 -- the text ends in this way, and its whole conversation was written
-abbrev pub WritesWhole : Hinting → List ℕ → Option Fault → Option (List ℕ) → Option (List ℕ) → Type 0
-WritesWhole hinting text fault old new = (said : List ℕ) × (c : Conversation hinting text said) × Concludes fault c × Appends old new said
+abbrev pub WritesWhole : Hinting → Option ℕ → List ℕ → Option Fault → Option (List ℕ) → Option (List ℕ) → Type 0
+WritesWhole hinting steps text fault old new = (said : List ℕ) × (c : Conversation hinting steps text said) × Concludes fault c × Appends old new said
 
 -- a prefix was written of the conversation for a prefix of the text
-abbrev pub WritesSome : Hinting → List ℕ → Option (List ℕ) → Option (List ℕ) → Type 0
-WritesSome hinting text old new = (heard rest said : List ℕ) × (text ≡ heard ++ rest) × Conversation hinting heard said × IsCut old new said
+abbrev pub WritesSome : Hinting → Option ℕ → List ℕ → Option (List ℕ) → Option (List ℕ) → Type 0
+WritesSome hinting steps text old new = (heard rest said : List ℕ) × (text ≡ heard ++ rest) × Conversation hinting steps heard said × IsCut old new said
 
 -- what a session wrote for the text that it read, by its result: `old` was written before it and `new` is after it
-abbrev pub Converses : Hinting → List ℕ → Option (List ℕ) → Option (List ℕ) → Result (Unit {0}) RunFault → Type 0
-Converses hinting text old new (Ok _) = WritesWhole hinting text None old new
-Converses hinting text old new (Err (faults.Scenario f)) = WritesWhole hinting text (Some f) old new
-Converses hinting text old new (Err faults.Read) = (said : List ℕ) × Conversation hinting text said × Appends old new said
-Converses hinting text old new (Err faults.Write) = WritesSome hinting text old new
-Converses hinting text old new (Err faults.Memory) = WritesSome hinting text old new
-Converses hinting text old new (Err faults.Strange) = ⊥
-Converses hinting text old new (Err faults.Gate) = ⊥
+abbrev pub Converses : Hinting → Option ℕ → List ℕ → Option (List ℕ) → Option (List ℕ) → Result (Unit {0}) RunFault → Type 0
+Converses hinting steps text old new (Ok _) = WritesWhole hinting steps text None old new
+Converses hinting steps text old new (Err (faults.Scenario f)) = WritesWhole hinting steps text (Some f) old new
+Converses hinting steps text old new (Err faults.Read) = (said : List ℕ) × Conversation hinting steps text said × Appends old new said
+Converses hinting steps text old new (Err faults.Write) = WritesSome hinting steps text old new
+Converses hinting steps text old new (Err faults.Memory) = WritesSome hinting steps text old new
+Converses hinting steps text old new (Err faults.Strange) = ⊥
+Converses hinting steps text old new (Err faults.Gate) = ⊥
 
 -- the results with which a session has read to the end of the input
 abbrev pub IsEnded : Result (Unit {0}) RunFault → Type 0

@@ -49,8 +49,8 @@ IsKept true last part = (512 < length last) × (part ≡ [])
 IsKept false last part = (length last ≤ 512) × (part ≡ last)
 
 -- a text was received, and this is the output for it
-pub record Heard (hinting : Hinting) (text : List ℕ) (ps : List Piece) (t : KeptTalk) : Type 0 where
-  pub says : Conversation hinting text (flat_map written ps)
+pub record Heard (hinting : Hinting) (steps : Option ℕ) (text : List ℕ) (ps : List Piece) (t : KeptTalk) : Type 0 where
+  pub says : Conversation hinting steps text (flat_map written ps)
   pub now : t.session ≡ says.now
   pub counted : t.lines ≡ count_of says.done
   pub kept : IsKept t.is_skipping says.last t.part
@@ -60,7 +60,7 @@ pub record Heard (hinting : Hinting) (text : List ℕ) (ps : List Piece) (t : Ke
 
 -- more of a text was received, and this is the output for it
 abbrev pub GoesOn : Hinting → List ℕ → List Piece → KeptTalk → KeptTalk → Type 0
-GoesOn hinting bytes qs old new = (text : List ℕ) (ps : List Piece) → Heard hinting text ps old → Heard hinting (text ++ bytes) (ps ++ qs) new
+GoesOn hinting bytes qs old new = (steps : Option ℕ) (text : List ℕ) (ps : List Piece) → Heard hinting steps text ps old → Heard hinting steps (text ++ bytes) (ps ++ qs) new
 
 -- one more line is complete
 abbrev pub counted : KeptTalk → KeptTalk

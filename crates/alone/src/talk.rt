@@ -117,9 +117,9 @@ fn answer_line<H: Hints>(
 }
 
 impl Talk {
-    fn new(alloc: Global) -> Self
+    fn new(alloc: Global, steps: Option<u64>) -> Self
         ensures { result ≡ record {
-          session = record { opened = []; current = 0 };
+          session = record { opened = []; current = 0; left = steps };
           part = [];
           out = [];
           is_skipping = false;
@@ -128,7 +128,7 @@ impl Talk {
     {
         Talk {
             alloc,
-            session: Session::new(alloc),
+            session: Session::new(alloc, steps),
             part: Vec::new(alloc),
             out: Vec::new(alloc),
             lines: 0,
@@ -323,16 +323,19 @@ impl Talk {
 /// If the text spells a scenario (in which requests are comments), no answer is a fault, and the
 /// text contains neither `use` nor `show mine`, then the output is that of `run_alone` for the
 /// text, with lines that begin with `#` in between.
+/// The experiments may take at most `steps` steps together, if there is a limit: a line that begins
+/// one beyond it is rejected with the fault `TooMany`.
 pub fn live<R: Inlet, W: Outlet, H: Hints>(
     alloc: Global,
     reader: &mut R,
     writer: &mut W,
     hints: &H,
+    steps: Option<u64>,
 ) -> Result<(), RunFault>
     ensures own { IfErr result IsOwnFault }
     ensures converses { (text : List ℕ) × R.gives reader.old text reader.new
         × Consumes (R.remaining reader.old) (R.remaining reader.new) text
-        × Converses (H.may_say hints.now) text (W.contents writer.old) (W.contents writer.new) result
+        × Converses (H.may_say hints.now) steps text (W.contents writer.old) (W.contents writer.new) result
         × Leaves text (R.remaining reader.new) (R.failed reader.new) result }
     ensures failed { W.failed writer.old ≡ false → W.failed writer.new ≡ writer_failed false result }
     ensures tells { (text : List ℕ) → R.remaining reader.old ≡ Some text → result ≡ Ok tt →
@@ -341,7 +344,7 @@ pub fn live<R: Inlet, W: Outlet, H: Hints>(
         × ((es : List Script) → Spells text es → AsksForAll (lines text) →
         AllByRecursion IsPlain ps → flat_map told ps ≡ reports es) }
 {
-    let mut talk = Talk::new(alloc);
+    let mut talk = Talk::new(alloc, steps);
     let mut chunk = [0u8; CHUNK];
     for reads in 0..u64::MAX {
         let Ok(count) = read_some(reader, &mut chunk) else {

@@ -31,12 +31,12 @@ was_read None rest text failed r took left = tt
 was_read (Some all) None text failed r took left = absurd took
 was_read (Some all) (Some rest) text failed r took left = (rest, took, ended text rest failed r left)
 
-pub talks : (explain : Bool) (given : List ℕ → Type 0) (read rest old new : Option (List ℕ)) (failed : Bool) (r : Result (Unit {0}) RunFault) → IfErr r IsOwnFault →
-    ((text : List ℕ) × given text × Consumes read rest text × Converses (λ line cause hint. explain ≡ false → hint ≡ []) text old new r × Leaves text rest failed r) →
+pub talks : (explain : Bool) (steps : Option ℕ) (given : List ℕ → Type 0) (read rest old new : Option (List ℕ)) (failed : Bool) (r : Result (Unit {0}) RunFault) → IfErr r IsOwnFault →
+    ((text : List ℕ) × given text × Consumes read rest text × Converses (λ line cause hint. explain ≡ false → hint ≡ []) steps text old new r × Leaves text rest failed r) →
     ((all : List ℕ) → read ≡ Some all → r ≡ Ok tt → (ps : List Piece) × Appends old new (flat_map written ps)
     × ((es : List Script) → Spells all es → AsksForAll (lines all) → AllByRecursion IsPlain ps → flat_map told ps ≡ reports es)) →
-    Talks explain given read old new r
-talks explain given read rest old new failed r own (text, gave, took, converses, left) tells =
+    Talks explain steps given read old new r
+talks explain steps given read rest old new failed r own (text, gave, took, converses, left) tells =
     record { own = own; text = text; given_is = gave; read_is = was_read read rest text failed r took left; converses = converses; tells = tells }
 
 -- nothing is said

@@ -21,20 +21,20 @@ abbrev pub explains : Task → Bool
 explains (Run workers moves limits progress explain strict) = explain
 explains (Alone limits progress explain strict) = explain
 explains (Check explain strict) = explain
-explains (Live explain) = false
+explains (Live steps explain) = false
 
 -- whether a refused command and spent steps count as failures
 abbrev pub is_strict : Task → Bool
 is_strict (Run workers moves limits progress explain strict) = strict
 is_strict (Alone limits progress explain strict) = strict
 is_strict (Check explain strict) = strict
-is_strict (Live explain) = false
+is_strict (Live steps explain) = false
 
 abbrev pub limits_of : Task → Limits
 limits_of (Run workers moves limits progress explain strict) = limits
 limits_of (Alone limits progress explain strict) = limits
 limits_of (Check explain strict) = record { steps = None; output = None }
-limits_of (Live explain) = record { steps = None; output = None }
+limits_of (Live steps explain) = record { steps = steps; output = None }
 
 -- the text is a prefix of what was left to read; all of it, if the reader came to its end
 abbrev pub IsReadOf : Option (List ℕ) → List ℕ → Result (Unit {0}) RunFault → Type 0
@@ -42,12 +42,12 @@ IsReadOf None text r = Unit {0}
 IsReadOf (Some all) text r = (rest : List ℕ) × (all ≡ text ++ rest) × (IsEnded r → rest ≡ [])
 
 -- a session that read this text, with hints only if it explains
-pub record Talks (explain : Bool) (given : List ℕ → Type 0) (read old new : Option (List ℕ)) (r : Result (Unit {0}) RunFault) : Type 0 where
+pub record Talks (explain : Bool) (steps : Option ℕ) (given : List ℕ → Type 0) (read old new : Option (List ℕ)) (r : Result (Unit {0}) RunFault) : Type 0 where
   pub own : IfErr r IsOwnFault
   pub text : List ℕ
   pub given_is : given text
   pub read_is : IsReadOf read text r
-  pub converses : Converses (λ line cause hint. explain ≡ false → hint ≡ []) text old new r
+  pub converses : Converses (λ line cause hint. explain ≡ false → hint ≡ []) steps text old new r
   -- if the text spells a scenario without `show mine`, and the output is plain, the bytes of reports are the scenario's reports
   pub tells : (all : List ℕ) → read ≡ Some all → r ≡ Ok tt → (ps : List Piece) × Appends old new (flat_map written ps)
       × ((es : List Script) → Spells all es → AsksForAll (lines all) → AllByRecursion IsPlain ps → flat_map told ps ≡ reports es)
@@ -62,4 +62,4 @@ abbrev pub Does : Task → (List ℕ → Type 0) → Option (List ℕ) → Optio
 Does (Run workers moves limits progress explain strict) given read old new r = CallsWithin limits read old new r
 Does (Alone limits progress explain strict) given read old new r = CallsWithin limits read old new r × OfGiven given (λ text. CallsWithin limits text old new r)
 Does (Check explain strict) given read old new r = Calls tally read old new (leaves r) × OfGiven given (λ text. Calls tally text old new (leaves r))
-Does (Live explain) given read old new r = Talks explain given read old new (leaves r)
+Does (Live steps explain) given read old new r = Talks explain steps given read old new (leaves r)

@@ -54,7 +54,7 @@ abbrev pub check_shape : Shape
 check_shape = command (codes "check") (flag (codes "explain") ∷ flag (codes "strict") ∷ [])
 
 abbrev pub live_shape : Shape
-live_shape = command (codes "live") (flag (codes "explain") ∷ [])
+live_shape = command (codes "live") (flag (codes "explain") ∷ max_steps_rule ∷ [])
 
 -- arguments without a command are wrong
 abbrev pub program_shape : Shape
@@ -106,11 +106,14 @@ abbrev pub alone_in : List Row → Task
 alone_in rows = Alone (limits_in rows)
     (flag_in (codes "progress") rows) (flag_in (codes "explain") rows) (flag_in (codes "strict") rows)
 
+abbrev pub live_in : List Row → Task
+live_in rows = Live (number_in (2 ^ 64) (codes "max-steps") rows) (flag_in (codes "explain") rows)
+
 -- the task for the name of a command and its options; the grammar has four names
 abbrev pub task_in : Text × List Row → Task
 task_in p = if bytes_eq p.0 (codes "run") then run_in p.1
     else (if bytes_eq p.0 (codes "alone") then alone_in p.1
-    else (if bytes_eq p.0 (codes "live") then Live (flag_in (codes "explain") p.1)
+    else (if bytes_eq p.0 (codes "live") then live_in p.1
     else Check (flag_in (codes "explain") p.1) (flag_in (codes "strict") p.1)))
 
 abbrev pub plan_of : List Text → Option Task

@@ -18,7 +18,7 @@ ghost use Rattle.alone.specs.Within.{IsMade, done_of, leaves};
 ghost use Rattle.command_line.specs.Status.{EndsCall, EndsStrictly, EndsWell, EndsWords, IsStatusAfter, IsStatusOf};
 ghost use Rattle.command_line.specs.Status.{fault_after, is_clean, is_spent, line_of, status_after};
 ghost use Rattle.command_line.specs.Status.{IsMadeOf, status_of_fault, status_of_kind, status_told};
-ghost use Rattle.command_line.specs.Tasks.{Does, explains, is_strict, limits_of};
+ghost use Rattle.command_line.specs.Tasks.{Does, Talks, explains, is_strict, limits_of};
 ghost use Rattle.command_line.specs.Words.{dnlab, plan_of};
 
 use alone::{Inlet, Made, Outlet, RunFault, Stop, check_kept, live, run_alone_within, write_fault};
@@ -381,9 +381,25 @@ pub fn asked<R: Eprint + Print>(
     }
 }
 
+// Answers a session line by line, with hints for faulty lines if `explain` is true.
+fn converse<R: Inlet, W: Outlet>(
+    alloc: Global,
+    reader: &mut R,
+    writer: &mut W,
+    steps: Option<u64>,
+    explain: bool,
+) -> Result<Option<Made>, Stop>
+    ensures talks { Talks explain steps (λ text. R.gives reader.old text reader.new)
+        (R.remaining reader.old) (W.contents writer.old) (W.contents writer.new)
+        (leaves (done_of result)) }
+    ensures made { (read : Option (List ℕ)) → IfOk result (IsMadeOf read) }
+{
+    let hints = LineHints { wanted: explain };
+    unlimited_outcome(live(alloc, reader, writer, &hints, steps))
+}
+
 /// Performs a task on one thread. A run with workers is performed in the same way and writes the
 /// same bytes. A program that has workers performs it with those.
-#[tactic(auto, using(crate::proofs::TalkFacts::talks))]
 pub fn by_one_thread<H: Clock + Eprint + Sync, R: Inlet, W: Outlet>(
     rt: &H,
     alloc: Global,
@@ -411,9 +427,6 @@ pub fn by_one_thread<H: Clock + Eprint + Sync, R: Inlet, W: Outlet>(
             with_reports(run_alone_within(alloc, reader, writer, text, &limits, &meter))
         }
         Task::Check { .. } => unlimited_outcome(check_kept(alloc, reader, writer, text)),
-        Task::Live { explain } => {
-            let hints = LineHints { wanted: explain };
-            unlimited_outcome(live(alloc, reader, writer, &hints))
-        }
+        Task::Live { steps, explain } => converse(alloc, reader, writer, steps, explain),
     }
 }

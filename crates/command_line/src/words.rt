@@ -8,7 +8,7 @@ ghost use Rattle.clap.specs.declared.error.kind.ErrorKind.TheVariants.{OutOfMemo
 ghost use Rattle.clap.specs.declared.builder.command.Command.TheViews.{out-Command};
 ghost use Rattle.command_line.specs.Tasks.{explains, is_strict, limits_of};
 ghost use Rattle.command_line.specs.Words.{IsArg, IsCommand, alone_in, alone_shape, check_shape, dnlab, flag, flag_in};
-ghost use Rattle.command_line.specs.Words.{limits_in, live_shape, max_output_rule, max_steps_rule, moves_rule, number};
+ghost use Rattle.command_line.specs.Words.{limits_in, live_in, live_shape, max_output_rule, max_steps_rule, moves_rule, number};
 ghost use Rattle.command_line.specs.Words.{plan_of, program_shape, run_in, run_shape, task_in, workers_rule};
 
 use alone::Limits;
@@ -42,8 +42,9 @@ pub enum Task {
         strict: bool,
     },
     /// Answer each line of a session as it arrives, with a hint for a faulty line if `explain` is
-    /// true.
+    /// true. Its experiments may take at most `steps` steps together, if there is a limit.
     Live {
+        steps: Option<u64>,
         explain: bool,
     },
 }
@@ -82,7 +83,11 @@ impl Task {
         match self {
             Task::Run { limits, .. } => *limits,
             Task::Alone { limits, .. } => *limits,
-            Task::Check { .. } | Task::Live { .. } => Limits::none(),
+            Task::Check { .. } => Limits::none(),
+            Task::Live { steps, .. } => Limits {
+                steps: *steps,
+                output: None,
+            },
         }
     }
 }
@@ -113,6 +118,9 @@ Exit status:
   4  the workers lost an experiment (never, unless the program is wrong)
   5  `--strict` found a refused command or spent steps; of `check`, a
      command that will be refused";
+
+// The help for `--max-steps`.
+const MAX_STEPS: &str = "Runs nothing that may take more steps in all";
 
 // The default number of workers.
 const WORKERS: usize = 2;
@@ -197,10 +205,9 @@ fn strict<'a>(alloc: Global) -> Arg<'a>
     )
 }
 
-fn max_steps<'a>(alloc: Global) -> Arg<'a>
+fn max_steps<'a>(alloc: Global, help: &'a str) -> Arg<'a>
     ensures { IsArg max_steps_rule result }
 {
-    let help = "Runs nothing that may take more steps in all";
     number(alloc, "max-steps", "N", help, clap::value_parser!(u64))
 }
 
@@ -221,7 +228,7 @@ fn run_command<'a>(alloc: Global) -> Result<Command<'a>, Error>
         .arg(progress(alloc))?
         .arg(explain(alloc))?
         .arg(strict(alloc))?
-        .arg(max_steps(alloc))?
+        .arg(max_steps(alloc, MAX_STEPS))?
         .arg(max_output(alloc))?;
     Ok(run)
 }
@@ -234,7 +241,7 @@ fn alone_command<'a>(alloc: Global) -> Result<Command<'a>, Error>
         .arg(progress(alloc))?
         .arg(explain(alloc))?
         .arg(strict(alloc))?
-        .arg(max_steps(alloc))?
+        .arg(max_steps(alloc, MAX_STEPS))?
         .arg(max_output(alloc))?;
     Ok(alone)
 }
@@ -259,7 +266,11 @@ fn live_command<'a>(alloc: Global) -> Result<Command<'a>, Error>
     );
     let live = Command::new(alloc, "live")
         .about("Answers lines of a scenario as they come (`#> help`: what to ask)")
-        .arg(explain)?;
+        .arg(explain)?
+        .arg(max_steps(
+            alloc,
+            "Begins no experiment that may exceed these steps in all",
+        ))?;
     Ok(live)
 }
 
@@ -333,6 +344,15 @@ fn alone_in(given: &ArgMatches<'_>) -> Task
     }
 }
 
+fn live_in(given: &ArgMatches<'_>) -> Task
+    ensures { result ≡ live_in (rows_of (found_of given.now)) }
+{
+    Task::Live {
+        steps: limits_in(given).steps,
+        explain: flag_in(given, "explain"),
+    }
+}
+
 // Returns the task of a command. `clap` accepts four names, so the last one is `check`.
 fn task_in(name: &str, given: &ArgMatches<'_>) -> Task
     ensures { result ≡ task_in (name.now, rows_of (found_of given.now)) }
@@ -342,9 +362,7 @@ fn task_in(name: &str, given: &ArgMatches<'_>) -> Task
     } else if name == "alone" {
         alone_in(given)
     } else if name == "live" {
-        Task::Live {
-            explain: flag_in(given, "explain"),
-        }
+        live_in(given)
     } else {
         Task::Check {
             explain: flag_in(given, "explain"),

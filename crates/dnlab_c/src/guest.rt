@@ -37,7 +37,7 @@ impl Guest {
         ensures { result ≡ fresh }
     {
         Guest {
-            session: Session::new(alloc),
+            session: Session::new(alloc, None),
             out: Vec::new(alloc),
             lines: 0,
             is_lost: false,

@@ -161,7 +161,7 @@ fn in_line(line: &[u8], cause: Cause) -> Inside
         Cause::NoEnd => at_word(line, 0, NO_END, Some("@5000000000 end")),
         Cause::TooMany => inside_of_line(
             "at most 256 experiments",
-            Some("put the others into a text of their own"),
+            Some("put the others into a text of their own; if `live` has --max-steps, raise it"),
         ),
         Cause::SameName => at_word(line, 1, "a name that no experiment before it has", None),
         Cause::NoExperiment => at_word(

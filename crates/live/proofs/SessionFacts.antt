@@ -313,13 +313,13 @@ get-some xs i x within is = slice_get-get_or xs i x within ∙ ap Some is
 
 -- the experiment that lines are for became another
 pub moves : (P : Answer → KeptOpen → KeptOpen → Type 0) (a : Answer) (old new : KeptSession) (o p : KeptOpen) →
-    new.opened ≡ set old.opened old.current p → new.current ≡ old.current → old.current < length old.opened → get_or old.opened old.current o ≡ o →
+    new.opened ≡ set old.opened old.current p → new.current ≡ old.current → new.left ≡ old.left → old.current < length old.opened → get_or old.opened old.current o ≡ o →
     P a o p → Moves P a old new
-moves P a old new o p opened current within found by = record {
+moves P a old new o p opened current left within found by = record {
   before = o;
   after = p;
   current = get-some old.opened old.current o within found;
-  moved = λ i. record { opened = opened i; current = current i };
+  moved = λ i. record { opened = opened i; current = current i; left = left i };
   by = by;
 }
 
@@ -329,14 +329,14 @@ same-by (Some c) a P Q g h = (h.0, g h.1)
 
 -- a fault of the experiment that lines are for
 pub current-fault : (f : KeptOpen → Option Cause) (a : Answer) (old : KeptSession) (o p : KeptOpen) (kept : Type 0) → old.current < length old.opened → get_or old.opened old.current o ≡ o →
-    Answers (f o) a ((p ≡ o) × kept) → Answers (of_current f (current_of old)) a ((record { opened = set old.opened old.current p; current = old.current } ≡ old) × kept)
+    Answers (f o) a ((p ≡ o) × kept) → Answers (of_current f (current_of old)) a ((record { opened = set old.opened old.current p; current = old.current; left = old.left } ≡ old) × kept)
 current-fault f a old o p kept within found h =
-    let back : p ≡ o → record { opened = set old.opened old.current p; current = old.current } ≡ old = λ same.
-    ap (λ (l : List KeptOpen). record { opened = l; current = old.current })
+    let back : p ≡ o → record { opened = set old.opened old.current p; current = old.current; left = old.left } ≡ old = λ same.
+    ap (λ (l : List KeptOpen). record { opened = l; current = old.current; left = old.left })
     (ap (λ (q : KeptOpen). set old.opened old.current q) (same ∙ sym found) ∙ set-get_or old.opened old.current o) in
-    subst (λ (c : Option KeptOpen). Answers (of_current f c) a ((record { opened = set old.opened old.current p; current = old.current } ≡ old) × kept))
+    subst (λ (c : Option KeptOpen). Answers (of_current f c) a ((record { opened = set old.opened old.current p; current = old.current; left = old.left } ≡ old) × kept))
     (sym (get-some old.opened old.current o within found))
-    (same-by (f o) a ((p ≡ o) × kept) ((record { opened = set old.opened old.current p; current = old.current } ≡ old) × kept) (λ (x : (p ≡ o) × kept). (back x.0, x.1)) h)
+    (same-by (f o) a ((p ≡ o) × kept) ((record { opened = set old.opened old.current p; current = old.current; left = old.left } ≡ old) × kept) (λ (x : (p ≡ o) × kept). (back x.0, x.1)) h)
 
 -- what is said where a line is taken
 abbrev pub Says : Answer → KeptSession → List ℕ → List ℕ → Type 0

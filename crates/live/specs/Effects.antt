@@ -24,7 +24,7 @@ use Rattle.live.specs.Opens.{KeptOpen, stand_of}
 use Rattle.live.specs.Lines.{answer_with, help_lines}
 use Rattle.live.specs.Requests.{Asked, Until, UntilMine, UntilAny, Next, AddNext, Use, Show, Help, asked_of, request_of}
 use Rattle.live.specs.Sessions.{KeptSession}
-use Rattle.live.specs.Faults.{current_of, place_named}
+use Rattle.live.specs.Faults.{current_of, left_after, place_named}
 
 -- the answer to a command with this outcome
 abbrev pub answer_of : Taken → Answer
@@ -179,7 +179,7 @@ pub record IsBegun (name : List ℕ) (spec : Spec) (bytes : List ℕ) (a : Answe
   pub phase : opened.phase ≡ phases.Going
   pub told : bytes ≡ heading_of name
   pub answer : a ≡ answers.Done
-  pub is : new ≡ record { opened = old.opened ++ opened ∷ []; current = length old.opened }
+  pub is : new ≡ record { opened = old.opened ++ opened ∷ []; current = length old.opened; left = left_after old.left spec.budget.steps }
 
 abbrev pub Follows : Entry → List ℕ → Answer → KeptSession → KeptSession → Type 0
 Follows Nothing bytes a old new = ⊥

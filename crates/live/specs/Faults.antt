@@ -1,6 +1,7 @@
 -- The lines that a session rejects, and the fault of each (our choice).
-use Rattle.std.specs.Prelude.{◌≡◌, ℕ, ◌<◌, ◌≤◌, ◌⊎◌, List, length, Option, Some, None, Result, Ok, Err, nat_lt, nat_le, if◌then◌else◌, is_some, position, slice_get}
+use Rattle.std.specs.Prelude.{◌≡◌, ℕ, ◌-◌, Bool, false, ◌<◌, ◌≤◌, ◌⊎◌, List, length, Option, Some, None, Result, Ok, Err, nat_lt, nat_le, if◌then◌else◌, is_some, position, slice_get}
 use Rattle.std.specs.Str.{bytes_eq}
+use Rattle.emu_model.specs.declared.commands.Spec.{Spec}
 use Rattle.control.specs.declared.fault.Cause.{Cause}
 use Rattle.control.specs.declared.fault.Cause.TheVariants.{TooLong, BadByte, BadWord, OutOfRange, TooMany, SameName, NoExperiment, AfterEnd, Backwards}
 use Rattle.control_lines.specs.declared.line.LineFault.{LineFault}
@@ -25,9 +26,22 @@ cause_of alone.OutOfRange = OutOfRange
 abbrev pub place_named : List ℕ → List KeptOpen → Option ℕ
 place_named name os = position (λ o. bytes_eq o.name name) os
 
+-- tests whether these are more steps than are left
+abbrev pub exceeds : Option ℕ → ℕ → Bool
+exceeds None steps = false
+exceeds (Some left) steps = nat_lt left steps
+
+-- the steps that are left after these
+abbrev pub left_after : Option ℕ → ℕ → Option ℕ
+left_after None steps = None
+left_after (Some left) steps = Some (left - steps)
+
 -- the fault of a line that begins an experiment, if it has one
-abbrev pub begin_fault : List KeptOpen → List ℕ → Option Cause
-begin_fault os name = if nat_le 256 (length os) then Some TooMany else if is_some (place_named name os) then Some SameName else None
+abbrev pub begin_fault : KeptSession → List ℕ → Spec → Option Cause
+begin_fault s name spec =
+    if nat_le 256 (length s.opened) then Some TooMany
+    else if is_some (place_named name s.opened) then Some SameName
+    else if exceeds s.left spec.budget.steps then Some TooMany else None
 
 -- the fault of a command for an experiment, if it has one
 abbrev pub command_fault : KeptOpen → ℕ → Option Cause
@@ -69,7 +83,7 @@ asked_fault s (Ok a) = request_fault s a
 -- the fault of the entry of a line, if it has one
 abbrev pub entry_fault : KeptSession → Entry → Option Cause
 entry_fault s Nothing = None
-entry_fault s (Begins name spec) = begin_fault s.opened name
+entry_fault s (Begins name spec) = begin_fault s name spec
 entry_fault s (Does c) = of_current (λ o. command_fault o c.moment) (current_of s)
 
 abbrev pub IsFaultAlone : KeptSession → List ℕ → Option Cause → Type 0

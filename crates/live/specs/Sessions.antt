@@ -1,5 +1,5 @@
 -- What a session writes, line by line, and its state (our choice).
-use Rattle.std.specs.Prelude.{◌≡◌, ℕ, ◌-◌, false, Ok, List, [], ◌∷◌, ◌++◌, length, map, flat_map, codes}
+use Rattle.std.specs.Prelude.{◌≡◌, ℕ, ◌-◌, false, Ok, Option, List, [], ◌∷◌, ◌++◌, length, map, flat_map, codes}
 use Rattle.std.specs.List.{AllByRecursion}
 use Rattle.control.specs.declared.scenario.Experiment.{Experiment}
 use Rattle.control.specs.Scenario.{experiments}
@@ -9,10 +9,11 @@ use Rattle.live.specs.Lines.{answer_line, answer_both, help_lines, comment_of}
 use Rattle.live.specs.Opens.{KeptOpen, IsTold, IsFault}
 use Rattle.live.specs.Requests.{Show, request_of}
 
--- the experiments of a session, and the place of the current one
+-- the experiments of a session, the place of the current one, and the steps that further experiments may take together, if there is a limit
 pub record KeptSession : Type 0 where
   pub opened : List KeptOpen
   pub current : ℕ
+  pub left : Option ℕ
 
 -- a piece of output: bytes of reports, or lines that begin with `#`: an answer, an answer with the answer to `next`,
 -- the name of the new current experiment, the list of requests, or a hint

@@ -8,7 +8,7 @@ ghost use Rattle.live.specs.Opens.{IsFault};
 ghost use Rattle.live.specs.Requests.{IsInRange, Asked, Next, AddNext, Show, Use, request_of, view_request};
 ghost use Rattle.control_lines.specs.Entries.{Does};
 ghost use Rattle.live.specs.Effects.{PassesIn, Moves, Obeys, Follows, IsAdded, IsBegun, IsSaid, DoesBy, LineDoes};
-ghost use Rattle.live.specs.Faults.{Answers, IsFaultAlone, IsFaultOf, cause_of, place_named, current_of, of_current, begin_fault, command_fault, time_fault, request_fault, asked_fault};
+ghost use Rattle.live.specs.Faults.{Answers, IsFaultAlone, IsFaultOf, cause_of, place_named, current_of, of_current, begin_fault, command_fault, exceeds, left_after, time_fault, request_fault, asked_fault};
 ghost use Rattle.live.specs.Sessions.{Piece, IsPlain, Grows, Hears, Takes, written, told};
 
 use crate::answer::{Answer, put_answer_with};
@@ -41,6 +41,8 @@ pub struct Session {
     alloc: Global,
     open: Vec<Open>,
     current: usize,
+    // The steps that further experiments may take together, if there is a limit.
+    left: Option<u64>,
 }
 
 impl Model for Session {
@@ -48,7 +50,7 @@ impl Model for Session {
 
     ghost Value = { KeptSession };
 
-    ghost view = { λ s. record { opened = s.open.items; current = s.current } };
+    ghost view = { λ s. record { opened = s.open.items; current = s.current; left = s.left } };
 }
 
 // Returns the cause for a fault of a line.
@@ -63,15 +65,25 @@ fn cause_of(fault: LineFault) -> Cause
     }
 }
 
+// Returns the number of steps that an experiment may take.
+fn steps_of(spec: &Spec) -> u64
+    ensures { result ≡ spec.now.budget.steps }
+{
+    u64::from(spec.budget.steps.get())
+}
+
 impl Session {
-    /// Creates a session without experiments. Does not allocate.
-    pub fn new(alloc: Global) -> Self
-        ensures { result ≡ record { opened = []; current = 0 } }
+    /// Creates a session without experiments, whose experiments may take at most this many steps
+    /// together, if there is a limit. A line that begins an experiment beyond it has the fault
+    /// `TooMany`. Does not allocate.
+    pub fn new(alloc: Global, steps: Option<u64>) -> Self
+        ensures { result ≡ record { opened = []; current = 0; left = steps } }
     {
         Session {
             alloc,
             open: Vec::new(alloc),
             current: 0,
+            left: steps,
         }
     }
 
@@ -96,6 +108,26 @@ impl Session {
         self.open.get(self.current)?.added(answer)
     }
 
+    // Returns true if these are more steps than are left.
+    fn exceeds(&self, steps: u64) -> bool
+        ensures { result ≡ exceeds self.now.left steps }
+    {
+        match self.left {
+            Some(left) => left < steps,
+            None => false,
+        }
+    }
+
+    // Returns the steps that are left after these.
+    fn left_after(&self, steps: u64) -> Option<u64>
+        ensures { result ≡ left_after self.now.left steps }
+    {
+        match self.left {
+            Some(left) => Some(left.saturating_sub(steps)),
+            None => None,
+        }
+    }
+
     // Appends an answer, except a fault, which is returned.
     fn say(&self, answer: Answer, out: &mut Vec<u8>) -> Result<Option<Cause>, AllocError>
         ensures { IfOk result (λ f. (f ≡ fault_of answer)
@@ -115,7 +147,7 @@ impl Session {
     fn begin(&mut self, name: &[u8], spec: Spec, out: &mut Vec<u8>) -> Result<Answer, AllocError>
         ensures grows { IfOk result (λ a. (bytes : List ℕ) × (out.new.items ≡ out.old.items ++ bytes)
             × (¬ IsFault a → Grows (λ es. es ++ begun name.now spec ∷ []) bytes self.old self.new)) }
-        ensures fault { IfOk result (λ a. Answers (begin_fault self.old.opened name.now) a
+        ensures fault { IfOk result (λ a. Answers (begin_fault self.old name.now spec) a
             ((self.new ≡ self.old) × (out.new.items ≡ out.old.items))) }
         ensures begins { IfOk result (λ a. ¬ IsFault a → (bytes : List ℕ)
             × (out.new.items ≡ out.old.items ++ bytes)
@@ -127,7 +159,12 @@ impl Session {
         if self.place_of(name).is_some() {
             return Ok(Answer::Fault(Cause::SameName));
         }
+        let steps = steps_of(&spec);
+        if self.exceeds(steps) {
+            return Ok(Answer::Fault(Cause::TooMany));
+        }
         let begun = Open::new(self.alloc, name, spec, out)?;
+        self.left = self.left_after(steps);
         self.current = self.open.len();
         self.open.push(begun)?;
         Ok(Answer::Done)
@@ -317,7 +354,7 @@ impl Session {
             × (out.new.items ≡ out.old.items ++ flat_map written ps)
             × (AllByRecursion IsPlain ps →
             Grows (λ es. es ++ begun name.now spec ∷ []) (flat_map told ps) self.old self.new)) }
-        ensures fault { IfOk result (λ f. (f ≡ begin_fault self.old.opened name.now)
+        ensures fault { IfOk result (λ f. (f ≡ begin_fault self.old name.now spec)
             × (IsSome f → (self.new ≡ self.old) × (out.new.items ≡ out.old.items))) }
         ensures does { IfOk result (λ f. f ≡ None → (said : List ℕ)
             × (out.new.items ≡ out.old.items ++ said)

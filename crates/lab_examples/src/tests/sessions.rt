@@ -7,7 +7,7 @@ use alone::{NoHints, live, reports_of};
 fn talk(alloc: Global, lines: &str) -> (Result<(), RunFault>, Vec<u8>) {
     let mut reader = Device::new(lines.as_bytes());
     let mut writer = Device::new(Vec::new(alloc));
-    let outcome = live(alloc, &mut reader, &mut writer, &NoHints);
+    let outcome = live(alloc, &mut reader, &mut writer, &NoHints, None);
     (outcome, writer.into_inner())
 }
 

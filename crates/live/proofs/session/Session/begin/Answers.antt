@@ -1,4 +1,4 @@
-use Rattle.std.proofs.Common.{◌++◌, ◌∷◌, [], ◌∙◌, subst}
+use Rattle.std.proofs.Common.{ℕ, ◌++◌, ◌∷◌, [], ◌∙◌, ap, subst, sym}
 use Rattle.report.specs.Lines.{heading_of}
 use Rattle.control.specs.Scenario.{begun}
 use Rattle.live.specs.Sessions.{KeptSession, Grows}
@@ -7,6 +7,7 @@ use Rattle.live.proofs.SessionFacts.{grows-begun}
 use Rattle.std.proofs.Common.{refl}
 use Rattle.live.specs.declared.answer.Answer.TheVariants.{Done}
 use Rattle.live.specs.Effects.{IsBegun}
+use Rattle.live.specs.Faults.{left_after}
 use Rattle.live.proofs.session.Session.begin.Goals as goal
 
 pub returns-clause-grows : goal.returns-clause-grows
@@ -14,7 +15,7 @@ returns-clause-grows c =
     let name = c.args.name.now in
     let h = c.in_ok-begun.ensures in
     let old : KeptSession = the_view c.self.inside in
-    let new : KeptSession = record { opened = c.push.new.self.items; current = c.len-self-inside.result } in (
+    let new : KeptSession = record { opened = c.push.new.self.items; current = c.len-self-inside.result; left = c.left_after-self-inside.result } in (
       heading_of name,
       h.told.0,
       λ fine. subst (λ (s : KeptSession). Grows (λ es. es ++ begun name c.args.spec ∷ []) (heading_of name) s new) c.self.view_is
@@ -27,7 +28,7 @@ returns-clause-begins c =
     let name = c.args.name.now in
     let h = c.in_ok-begun.ensures in
     let old : KeptSession = the_view c.self.inside in
-    let new : KeptSession = record { opened = c.push.new.self.items; current = c.len-self-inside.result } in
+    let new : KeptSession = record { opened = c.push.new.self.items; current = c.len-self-inside.result; left = c.left_after-self-inside.result } in
     λ fine. (
       heading_of name,
       h.told.0,
@@ -45,6 +46,11 @@ returns-clause-begins c =
         phase = h.given.3;
         told = refl;
         answer = refl;
-        is = λ i. record { opened = c.in_ok-push.ensures.items i; current = (c.len-self-inside.ensures ∙ c.self.inside.open.ok.0) i };
+        is = λ i. record {
+          opened = c.in_ok-push.ensures.items i;
+          current = (c.len-self-inside.ensures ∙ c.self.inside.open.ok.0) i;
+          left = (c.left_after-self-inside.ensures ∙ ap (λ (n : ℕ). left_after c.args.self.now.left n) c.steps_of-steps.ensures
+              ∙ ap (λ (s : KeptSession). left_after s.left c.args.spec.budget.steps) (sym c.self.view_is)) i;
+        };
       }),
     )

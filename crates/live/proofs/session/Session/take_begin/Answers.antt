@@ -18,7 +18,7 @@ returns-clause-grows c =
 pub returns-clause-fault : goal.returns-clause-fault
 returns-clause-fault c =
     if_ok _ _ c.say.result
-    (λ f h. fault-said (begin_fault c.args.self.now.opened c.args.name.now) f c.in_ok-answer.answer c.args.self.now c.begin.new.self c.args.out.now.items c.begin.new.out.items _ c.in_ok-answer.ensures.fault h.0 h.1)
+    (λ f h. fault-said (begin_fault c.args.self.now c.args.name.now c.args.spec) f c.in_ok-answer.answer c.args.self.now c.begin.new.self c.args.out.now.items c.begin.new.out.items _ c.in_ok-answer.ensures.fault h.0 h.1)
     c.say.ensures
 
 pub returns-clause-does : goal.returns-clause-does
