@@ -9,3 +9,4 @@ pub mod Taken
 pub mod Equalities
 mod Packing
 mod WholeRecords
+pub mod Orders

@@ -3,3 +3,4 @@ pub mod Alike
 pub mod Lines
 pub mod Room
 pub mod Archive
+pub mod Orders

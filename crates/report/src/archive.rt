@@ -1,13 +1,16 @@
 //! The records of an experiment in sixteen bytes each, until its report is written (our choice).
 
-ghost use Rattle.std.specs.Prelude.{◌≡◌, ◌+◌, ◌<◌, ◌≤◌, ◌∷◌, ◌++◌, [], length, map, take, vec_len, vec_capacity, ℕ, IfSome, OnOk, OnErr};
+ghost use Rattle.std.specs.Prelude.{◌≡◌, ◌+◌, ◌-◌, ◌^◌, ◌<◌, ◌≤◌, ◌∷◌, ◌++◌, [], drop, length, map, slice_index_or, take, vec_len, vec_capacity, ℕ, List, IfSome, IsTrue, OnOk, OnErr};
 ghost use Rattle.std.specs.List.{All};
 ghost use Rattle.report.specs.Archive.{entry_of, IsEntry};
+ghost use Rattle.report.specs.Orders.{AreRuns, IsStored, in_order};
 ghost use Rattle.report.specs.Room.{spare};
+ghost use Rattle.emu_model.specs.declared.records.Record.{Record};
+ghost use Rattle.emu_model.specs.declared.records.Record.TheVariants.{StepsSpent};
 
 use crate::clock::Clock;
 use crate::events::put_parts;
-use crate::packed::{Kind, Packed, pack, parts_of, place_mark, record_of, unpack};
+use crate::packed::{Kind, Packed, Parts, pack, parts_of, place_mark, record_of, unpack};
 use crate::source::Source;
 use emu_model::Record;
 use std::alloc::{AllocError, Global};
@@ -19,8 +22,31 @@ pub struct Archive {
     words: Vec<Packed>,
     // The records that don't fit into a word, or that are rare.
     others: Vec<Record>,
+    order: Order,
     listings: Listings,
 }
+
+// The order of the records: those of the runs, `closed` in all, and then those from the word `tail`
+// on.
+#[derive(Drop)]
+struct Order {
+    runs: Vec<Run>,
+    closed: usize,
+    tail: usize,
+}
+
+/// A run of records: the number of records before it, the place of its first word, and the place
+/// after its last one.
+#[derive(Clone, Copy)]
+pub(crate) struct Run {
+    pub(crate) first: usize,
+    pub(crate) from: usize,
+    pub(crate) end: usize,
+}
+
+// The number of lines from which on a listing that equals the one before it is stored as a run. A
+// shorter one takes less memory than it saves.
+const LONG: usize = 8;
 
 // The last two listings: the places of their first words, and the end of the last one. Most lines
 // of a listing are equal to those of the listing before it, and then share their records: the
@@ -46,16 +72,21 @@ impl Listings {
 }
 
 impl Model for Archive {
-    ghost use Rattle.std.specs.Prelude.{List, map};
+    ghost use Rattle.std.specs.Prelude.{List, ◌+◌, ◌-◌, ◌<◌, ◌≤◌, ◌^◌, length, map};
     ghost use Rattle.std.specs.List.{All};
     ghost use Rattle.emu_model.specs.declared.records.Record.{Record};
     ghost use Rattle.report.specs.Archive.{entry_of, IsEntry};
+    ghost use Rattle.report.specs.Orders.{AreRuns, in_order};
 
     ghost Value = { List Record };
 
-    ghost view = { λ a. map (entry_of a.others.items) a.words.items };
+    ghost view = { λ a. in_order a.order.runs.items a.order.tail
+        (map (entry_of a.others.items) a.words.items) };
 
-    ghost invariant = { λ a. All (IsEntry a.others.items) a.words.items };
+    ghost invariant = { λ a. All (IsEntry a.others.items) a.words.items
+        × (a.order.tail ≤ length a.words.items)
+        × AreRuns a.order.tail 0 a.order.closed a.order.runs.items
+        × (a.order.closed + (length a.words.items - a.order.tail) < 2 ^ 64) };
 }
 
 // Returns true if a record is a line of a listing.
@@ -165,6 +196,109 @@ fn note_all(
     Ok(())
 }
 
+// Returns true if the words before `last` and those from it on are the same, `size` of them from
+// `before` on.
+fn same_words(words: &[Packed], before: usize, last: usize, size: usize) -> bool
+    requires { (before + size ≤ last) × (last + size ≤ length words.now) }
+    ensures { IsTrue result → take size (drop before words.now) ≡ take size (drop last words.now) }
+{
+    let mut done = 0;
+    while done < size {
+        let (first, second) = (words[before + done], words[last + done]);
+        if first.high != second.high || first.low != second.low {
+            return false;
+        }
+        done += 1;
+    }
+    true
+}
+
+// Returns the run that contains the record at a place.
+fn run_at(runs: &[Run], closed: usize, tail: usize, place: usize) -> Run
+    requires runs { AreRuns tail 0 closed runs.now }
+    requires place { place < closed }
+    ensures { (k : ℕ) × (k < length runs.now) × (result ≡ slice_index_or runs.now k result)
+        × (result.first ≤ place) × (place < result.first + (result.end - result.from)) }
+{
+    let mut low = 0;
+    let mut high = runs.len();
+    while high - low > 1 {
+        let middle = low + (high - low) / 2;
+        if runs[middle].first <= place {
+            low = middle;
+        } else {
+            high = middle;
+        }
+    }
+    runs[low]
+}
+
+// Returns the place of the word of a record. There are `stored` words.
+#[inline(always)]
+fn word_of(order: &Order, stored: usize, place: usize) -> usize
+    requires runs { AreRuns order.now.tail 0 order.now.closed order.now.runs.items }
+    requires inside { place < order.now.closed + (stored - order.now.tail) }
+    requires few { (order.now.tail ≤ stored)
+        × (order.now.closed + (stored - order.now.tail) < 2 ^ 64) }
+    ensures inside { result < stored }
+    ensures is { (es : List Record) → length es ≡ stored →
+        slice_index_or es result (StepsSpent 0)
+        ≡ slice_index_or (in_order order.now.runs.items order.now.tail es) place (StepsSpent 0) }
+{
+    if place >= order.closed {
+        return order.tail + (place - order.closed);
+    }
+    let run = run_at(order.runs.as_slice(), order.closed, order.tail, place);
+    run.from + (place - run.first)
+}
+
+// Stores the last listing as a run of the words of the listing before it, if both are equal and it
+// ends the archive. There must be room for two runs.
+fn fold(words: &mut Vec<Packed>, order: &mut Order, listings: &mut Listings)
+    requires room { vec_len order.old.runs + 2 ≤ vec_capacity order.old.runs }
+    requires runs { AreRuns order.old.tail 0 order.old.closed order.old.runs.items }
+    requires few { (order.old.tail ≤ length words.old.items)
+        × (order.old.closed + (length words.old.items - order.old.tail) < 2 ^ 64) }
+    ensures order { (entry : Packed → Record) →
+        in_order order.new.runs.items order.new.tail (map entry words.new.items)
+        ≡ in_order order.old.runs.items order.old.tail (map entry words.old.items) }
+    ensures runs { AreRuns order.new.tail 0 order.new.closed order.new.runs.items }
+    ensures few { (order.new.tail ≤ length words.new.items)
+        × (order.new.closed + (length words.new.items - order.new.tail) < 2 ^ 64) }
+    ensures words { words.new.items ≡ take (length words.new.items) words.old.items }
+{
+    let Listings { before, last, end } = *listings;
+    if end != words.len() || last < order.tail || last <= before || end <= last {
+        return;
+    }
+    let size = end - last;
+    if size < LONG || last - before < size {
+        return;
+    }
+    if !same_words(words.as_slice(), before, last, size) {
+        return;
+    }
+    let behind = order.closed + (last - order.tail);
+    order.runs.push_reserved(Run {
+        first: order.closed,
+        from: order.tail,
+        end: last,
+    });
+    order.runs.push_reserved(Run {
+        first: behind,
+        from: before,
+        end: before + size,
+    });
+    words.truncate(last);
+    order.closed = behind + size;
+    order.tail = last;
+    *listings = Listings {
+        before,
+        last: before,
+        end: usize::MAX,
+    };
+}
+
 impl Archive {
     /// Creates an empty archive. Does not allocate.
     pub fn new(alloc: Global) -> Self
@@ -173,6 +307,11 @@ impl Archive {
         Archive {
             words: Vec::new(alloc),
             others: Vec::new(alloc),
+            order: Order {
+                runs: Vec::new(alloc),
+                closed: 0,
+                tail: 0,
+            },
             listings: Listings {
                 before: 0,
                 last: 0,
@@ -181,14 +320,21 @@ impl Archive {
         }
     }
 
-    /// Appends records. After `AllocError` nothing has changed.
+    /// Appends records. After `AllocError` nothing has changed. A listing at the end that equals the
+    /// one before it takes no memory for its lines.
     #[tactic(auto, unfolding(crate::specs::Room::spare))]
     pub fn append(&mut self, records: &[Record]) -> Result<(), AllocError>
         ensures ok { OnOk result (self.new ≡ self.old ++ records.now) }
         ensures err { OnErr result (self.new ≡ self.old) }
     {
         self.words.reserve(records.len())?;
+        self.order.runs.reserve(2)?;
         let before = self.words.as_slice().len();
+        // So many records are never in memory, but no contract says so.
+        let room = usize::MAX - (before - self.order.tail);
+        if self.order.closed > room || records.len() > room - self.order.closed {
+            return Err(AllocError);
+        }
         let Ok(()) = note_all(
             &mut self.words,
             &mut self.others,
@@ -198,7 +344,30 @@ impl Archive {
             self.words.truncate(before);
             return Err(AllocError);
         };
+        fold(&mut self.words, &mut self.order, &mut self.listings);
         Ok(())
+    }
+}
+
+/// A record as it is stored: whole, or as the parts of a common one.
+pub(crate) enum Stored<'a> {
+    Whole(&'a Record),
+    Common(Parts),
+}
+
+impl Archive {
+    // Returns the record at a place.
+    #[inline(always)]
+    fn stored(&self, place: usize) -> Stored<'_>
+        requires { place < length self.now }
+        ensures { IsStored result (slice_index_or self.now place (StepsSpent 0)) }
+    {
+        let word = self.words[word_of(&self.order, self.words.len(), place)];
+        let parts = unpack(word);
+        match parts.kind {
+            Kind::Whole => Stored::Whole(&self.others[word.high as usize]),
+            _ => Stored::Common(parts),
+        }
     }
 }
 
@@ -211,25 +380,22 @@ impl Source for Archive {
 
     #[inline(always)]
     fn len(&self) -> usize {
-        self.words.len()
+        self.order.closed + (self.words.len() - self.order.tail)
     }
 
     #[inline(always)]
     fn record(&self, place: usize) -> Record {
-        let word = self.words[place];
-        let parts = unpack(word);
-        match parts.kind {
-            Kind::Whole => self.others[word.high as usize],
-            _ => record_of(parts),
+        match self.stored(place) {
+            Stored::Whole(entry) => *entry,
+            Stored::Common(parts) => record_of(parts),
         }
     }
 
     #[inline(always)]
     fn put(&self, clock: &mut Clock, text: &mut [u8], at: usize, place: usize) -> Option<usize> {
-        let parts = unpack(self.words[place]);
-        if let Kind::Whole = parts.kind {
-            return None;
+        match self.stored(place) {
+            Stored::Whole(_) => None,
+            Stored::Common(parts) => Some(put_parts(clock, text, at, parts)),
         }
-        Some(put_parts(clock, text, at, parts))
     }
 }
