@@ -14,9 +14,10 @@ _dnlab() {
   case $command:$before in
     run:--workers) words="1 2 4 8 16" ;;
     run:--moves) words="0 1 64 1000" ;;
+    run:--format | alone:--format) words="text npy" ;;
     run:--max-* | alone:--max-* | live:--max-*) ;;
-    run:*) words="--workers --moves --max-steps --max-output --progress --explain --strict --help" ;;
-    alone:*) words="--max-steps --max-output --progress --explain --strict --help" ;;
+    run:*) words="--workers --moves --format --max-steps --max-output --progress --explain --strict --help" ;;
+    alone:*) words="--format --max-steps --max-output --progress --explain --strict --help" ;;
     check:*) words="--explain --json --strict --help" ;;
     live:*) words="--explain --max-steps --help" ;;
     help:help) words="alone run check live help" ;;

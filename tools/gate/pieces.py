@@ -67,6 +67,7 @@ BY_PROGRAM = (
     tried("tools/attack/hostile", "hostile use", 8, "--quick"),
     tried("stacks/check", "real protocol stacks over sessions", 3, needs="command -v cc"),
     tried("tools/gate/check_explain", "what --explain says of faults and of refused commands", 3),
+    tried("tools/gate/check_rows", "the rows of --format npy beside those made from the text", 15, needs="python3 -c 'import numpy'"),
     tried("cookbook/check", "the cookbook", 46),
     tried("tools/gate/check_install", "the manual pages, completion and the installation", 29, needs="command -v man && command -v groff && command -v zsh"),
     tried("tools/gate/check_library", "the library from C, Python and Rust", 10, needs="command -v cc", after=(LIBRARY,)),

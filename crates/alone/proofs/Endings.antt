@@ -5,14 +5,17 @@ use Rattle.control.specs.declared.scenario.Experiment.{Experiment}
 use Rattle.alone.specs.Bytes.{IsCut, Puts, Stops, TakesFew}
 use Rattle.std.specs.Prelude.{flat_map, IfErr}
 use Rattle.alone.specs.declared.whole.Tally.{Tally}
-use Rattle.alone.specs.Reports.{report_alone, reports, tally, tally_of, tally_line, Reads, Writes, WritesCut, Ends, writer_failed}
+use Rattle.experiment.specs.Written.{KeptReport, texts_of}
+use Rattle.alone.specs.declared.limits.Format.{Format}
+use Rattle.alone.specs.declared.limits.Format.TheVariants.{Text}
+use Rattle.alone.specs.Reports.{bytes_as, made_alone, output_as, reports, tally, tally_of, tally_line, Reads, Writes, WritesCut, Ends, writer_failed}
 use Rattle.alone.specs.declared.fault.RunFault.TheVariants.{Scenario, Read, Write, Memory, Strange, Gate}
 use Rattle.alone.specs.declared.limits.Limits.{Limits}
 use Rattle.alone.specs.declared.limits.Stop.{Stop}
 use Rattle.alone.specs.declared.limits.Stop.TheVariants.{Fault, Steps, Output}
 use Rattle.alone.specs.Within.{CallsWithin, IsOwnStop, MakesWithin, WritesOut, leaves}
 use Rattle.alone.proofs.Writing.{writing_none, writing_done, appends_kept, puts_both, stops_behind}
-use Rattle.alone.proofs.Reporting.{texts_alone}
+use Rattle.alone.proofs.Reporting.{made_as}
 
 cut-all : (a b : Option (List ℕ)) (kept bytes : List ℕ) → kept ≡ [] → Stops a kept b bytes → IsCut a b bytes
 unfolding Stops
@@ -22,9 +25,12 @@ all-written : (a b : Option (List ℕ)) (kept bytes : List ℕ) → kept ≡ [] 
 unfolding Puts
 all-written a b kept bytes none f = writing_done a b bytes (subst (λ k. Puts a k b [] bytes) none f a [] (writing_none a))
 
--- texts that were made before
-pub same-texts : (es plans : List Experiment) (texts : List (List ℕ)) → plans ≡ es → texts ≡ map report_alone plans → flat_map (λ x. x) texts ≡ reports es
-same-texts es plans texts are made = ap (flat_map (λ x. x)) made ∙ texts_alone plans ∙ ap reports are
+-- reports that were made before
+pub same-output : (format : Format) (es plans : List Experiment) (rs : List KeptReport) → plans ≡ es → rs ≡ map made_alone plans → bytes_as format rs ≡ output_as format es
+same-output format es plans rs are made = ap (bytes_as format) made ∙ made_as format plans ∙ ap (output_as format) are
+
+pub same-texts : (es plans : List Experiment) (rs : List KeptReport) → plans ≡ es → rs ≡ map made_alone plans → texts_of rs ≡ reports es
+same-texts es plans rs are made = same-output Text es plans rs are made
 
 -- what is written out by way of a buffer
 pub out_cut : (a b : Option (List ℕ)) (kept bytes text : List ℕ) → kept ≡ [] → bytes ≡ text → Stops a kept b bytes → WritesOut a b text (Err (Fault Write))

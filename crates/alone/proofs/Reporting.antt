@@ -1,14 +1,18 @@
 -- The pieces of a report, put one after the other.
-use Rattle.std.proofs.Common.{◌≡◌, ℕ, map, ◌+◌, ◌<◌, List, [], ◌∷◌, ◌++◌, length, take, drop, Option, refl, sym, ap, ◌∙◌, subst, append-nil}
+use Rattle.std.proofs.Common.{◌≡◌, ℕ, zero, suc, min, arith, append_assoc, map, ◌+◌, ◌<◌, List, [], ◌∷◌, ◌++◌, length, take, drop, Option, refl, sym, ap, ◌∙◌, subst, append-nil}
 use Rattle.std.specs.Prelude.{flat_map, slice_index_or}
 use Rattle.std.proofs.lemmas.List.{take_more, take-append-drop}
 use Rattle.std.proofs.lemmas.List.Concat.{flat_map-append}
 use Rattle.control.specs.declared.scenario.Experiment.{Experiment}
 use Rattle.alone.specs.Bytes.{Puts, Stops}
-use Rattle.alone.specs.Reports.{report_alone, reports}
+use Rattle.experiment.specs.Written.{KeptReport, rows_from, text_of, texts_of}
+use Rattle.alone.specs.declared.limits.Format.{Format}
+use Rattle.alone.specs.declared.limits.Format.TheVariants.{Text, Npy}
+use Rattle.alone.specs.Reports.{bytes_as, made_alone, output_as, report_alone, reports}
 use Rattle.alone.proofs.Writing.{puts_both, stops_any, stops_before, stops_behind}
 use Rattle.emu_model.specs.declared.records.Record.{Record}
 use Rattle.report.specs.Lines.{line_of}
+use Rattle.report.specs.Rows.{record_bytes, rows_of}
 use Rattle.report.proofs.Taken.{flat_map_further}
 
 -- pieces in their turns
@@ -38,19 +42,74 @@ module _ {A : Type 0} (f : A → List ℕ) where
       )
       )
 
--- texts that were made before
-pub texts_puts : (a b c : Option (List ℕ)) (k l m : List ℕ) (ts : List (List ℕ)) (i : ℕ) (t : List ℕ) → i < length ts → t ≡ slice_index_or ts i t →
-    Puts a k b l (flat_map (λ x. x) (take i ts)) → Puts b l c m t → Puts a k c m (flat_map (λ x. x) (take (i + 1) ts))
-texts_puts = pieces_puts (λ x. x)
+-- texts in their turns
+pub texts_puts : (a b c : Option (List ℕ)) (k l m : List ℕ) (rs : List KeptReport) (i : ℕ) (r : KeptReport) → i < length rs → r ≡ slice_index_or rs i r →
+    Puts a k b l (texts_of (take i rs)) → Puts b l c m (text_of r) → Puts a k c m (texts_of (take (i + 1) rs))
+texts_puts = pieces_puts text_of
 
-pub texts_stops : (a b c : Option (List ℕ)) (k l : List ℕ) (ts : List (List ℕ)) (i : ℕ) (t : List ℕ) → i < length ts → t ≡ slice_index_or ts i t →
-    Puts a k b l (flat_map (λ x. x) (take i ts)) → Stops b l c t → Stops a k c (flat_map (λ x. x) ts)
-texts_stops = pieces_stops (λ x. x)
+pub texts_stops : (a b c : Option (List ℕ)) (k l : List ℕ) (rs : List KeptReport) (i : ℕ) (r : KeptReport) → i < length rs → r ≡ slice_index_or rs i r →
+    Puts a k b l (texts_of (take i rs)) → Stops b l c (text_of r) → Stops a k c (texts_of rs)
+texts_stops = pieces_stops text_of
 
 -- all of them
-pub texts_alone : (es : List Experiment) → flat_map (λ x. x) (map report_alone es) ≡ reports es
+pub texts_alone : (es : List Experiment) → texts_of (map made_alone es) ≡ reports es
 texts_alone [] = refl
 texts_alone (e ∷ es) = ap (λ (l : List ℕ). report_alone e ++ l) (texts_alone es)
+
+pub made_as : (format : Format) (es : List Experiment) → bytes_as format (map made_alone es) ≡ output_as format es
+made_as Text es = texts_alone es
+made_as Npy es = refl
+
+-- the rows of one report more, and of all
+rows-more : (first : ℕ) (rs : List KeptReport) (i : ℕ) (r : KeptReport) → i < length rs → r ≡ slice_index_or rs i r →
+    rows_from first (take i rs) ++ rows_of (min (first + i) 255) r.records r.counters ≡ rows_from first (take (suc i) rs)
+rows-more first [] i r below is = absurd (omega (arith, below))
+rows-more first (x ∷ rs) zero r below is =
+    let same : first + 0 ≡ first = omega arith in
+    ap (λ (n : ℕ). rows_of (min n 255) r.records r.counters) same
+    ∙ ap (λ (y : KeptReport). rows_of (min first 255) y.records y.counters) is ∙ sym (append-nil (rows_of (min first 255) x.records x.counters))
+rows-more first (x ∷ rs) (suc i) r below is =
+    let mine : List ℕ = rows_of (min first 255) x.records x.counters in
+    let next : first + suc i ≡ first + 1 + i = omega arith in
+    ap (λ (n : ℕ). rows_from first (take (suc i) (x ∷ rs)) ++ rows_of (min n 255) r.records r.counters) next
+    ∙ append_assoc mine (rows_from (first + 1) (take i rs)) (rows_of (min (first + 1 + i) 255) r.records r.counters)
+    ∙ ap (λ (l : List ℕ). mine ++ l) (rows-more (first + 1) rs i r (omega (arith, below)) is)
+
+rows-all : (first : ℕ) (rs : List KeptReport) (i : ℕ) → rows_from first (take i rs) ++ rows_from (first + i) (drop i rs) ≡ rows_from first rs
+rows-all first [] zero = refl
+rows-all first [] (suc i) = refl
+rows-all first (x ∷ rs) zero =
+    let same : first + 0 ≡ first = omega arith in
+    ap (λ (n : ℕ). rows_from n (x ∷ rs)) same
+rows-all first (x ∷ rs) (suc i) =
+    let mine : List ℕ = rows_of (min first 255) x.records x.counters in
+    let next : first + suc i ≡ first + 1 + i = omega arith in
+    append_assoc mine (rows_from (first + 1) (take i rs)) (rows_from (first + suc i) (drop i rs))
+    ∙ ap (λ (n : ℕ). mine ++ (rows_from (first + 1) (take i rs) ++ rows_from n (drop i rs))) next
+    ∙ ap (λ (l : List ℕ). mine ++ l) (rows-all (first + 1) rs i)
+
+rows-next : (rs : List KeptReport) (i : ℕ) (r : KeptReport) → i < length rs → r ≡ slice_index_or rs i r →
+    rows_from 0 (take i rs) ++ rows_of (min i 255) r.records r.counters ≡ rows_from 0 (take (i + 1) rs)
+rows-next rs i r below is =
+    let same : i ≡ 0 + i = omega arith in
+    let next : suc i ≡ i + 1 = omega arith in
+    ap (λ (n : ℕ). rows_from 0 (take i rs) ++ rows_of (min n 255) r.records r.counters) same ∙ rows-more 0 rs i r below is
+    ∙ ap (λ (n : ℕ). rows_from 0 (take n rs)) next
+
+pub rows_puts : (a b c : Option (List ℕ)) (k l m : List ℕ) (rs : List KeptReport) (i : ℕ) (r : KeptReport) → i < length rs → r ≡ slice_index_or rs i r →
+    Puts a k b l (rows_from 0 (take i rs)) → Puts b l c m (rows_of (min i 255) r.records r.counters) → Puts a k c m (rows_from 0 (take (i + 1) rs))
+rows_puts a b c k l m rs i r below is g h =
+    subst (Puts a k c m) (rows-next rs i r below is) (puts_both a b c k l m (rows_from 0 (take i rs)) (rows_of (min i 255) r.records r.counters) g h)
+
+pub rows_stops : (a b c : Option (List ℕ)) (k l : List ℕ) (rs : List KeptReport) (i : ℕ) (r : KeptReport) → i < length rs → r ≡ slice_index_or rs i r →
+    Puts a k b l (rows_from 0 (take i rs)) → Stops b l c (rows_of (min i 255) r.records r.counters) → Stops a k c (rows_from 0 rs)
+rows_stops a b c k l rs i r below is g h =
+    subst (Stops a k c) (rows-all 0 rs (i + 1)) (
+    stops_before a c k (rows_from 0 (take (i + 1) rs)) (rows_from (0 + (i + 1)) (drop (i + 1) rs)) (
+    subst (Stops a k c) (rows-next rs i r below is)
+    (stops_behind a b c k l (rows_from 0 (take i rs)) (rows_of (min i 255) r.records r.counters) g h)
+    )
+    )
 
 -- the lines of some records more
 module _ {A : Type 0} (f : A → List ℕ) where
@@ -62,11 +121,30 @@ module _ {A : Type 0} (f : A → List ℕ) where
   pieces_further a b c k l m rs i n g h =
       subst (Puts a k c m) (more-lines rs i n) (puts_both a b c k l m (flat_map f (take i rs)) (flat_map f (take n (drop i rs))) g h)
 
+  pub pieces_amid : (a b c : Option (List ℕ)) (k l : List ℕ) (rs : List A) (i n : ℕ) →
+      Puts a k b l (flat_map f (take i rs)) → Stops b l c (flat_map f (take n (drop i rs))) → Stops a k c (flat_map f rs)
+  pieces_amid a b c k l rs i n g h =
+      subst (Stops a k c) (all-pieces f rs (i + n)) (
+      stops_before a c k (flat_map f (take (i + n) rs)) (flat_map f (drop (i + n) rs)) (
+      subst (Stops a k c) (more-lines rs i n)
+      (stops_behind a b c k l (flat_map f (take i rs)) (flat_map f (take n (drop i rs))) g h)
+      )
+      )
+
   pub pieces_cut : (a b c : Option (List ℕ)) (k l : List ℕ) (rs : List A) (i : ℕ) →
       Puts a k b l (flat_map f (take i rs)) → Stops b l c [] → Stops a k c (flat_map f rs)
   pieces_cut a b c k l rs i g h =
       subst (Stops a k c) (all-pieces f rs i)
       (stops_behind a b c k l (flat_map f (take i rs)) (flat_map f (drop i rs)) g (stops_any b c l (flat_map f (drop i rs)) h))
+
+-- the rows of some records more
+pub some_rows_puts : (n : ℕ) (a b c : Option (List ℕ)) (k l m bytes : List ℕ) (rs : List Record) (i some : ℕ) → bytes ≡ flat_map (record_bytes n) (take some (drop i rs)) →
+    Puts a k b l (flat_map (record_bytes n) (take i rs)) → Puts b l c m bytes → Puts a k c m (flat_map (record_bytes n) (take (i + some) rs))
+some_rows_puts n a b c k l m bytes rs i some is g h = pieces_further (record_bytes n) a b c k l m rs i some g (subst (Puts b l c m) is h)
+
+pub some_rows_stops : (n : ℕ) (a b c : Option (List ℕ)) (k l bytes : List ℕ) (rs : List Record) (i some : ℕ) → bytes ≡ flat_map (record_bytes n) (take some (drop i rs)) →
+    Puts a k b l (flat_map (record_bytes n) (take i rs)) → Stops b l c bytes → Stops a k c (flat_map (record_bytes n) rs)
+some_rows_stops n a b c k l bytes rs i some is g h = pieces_amid (record_bytes n) a b c k l rs i some g (subst (Stops b l c) is h)
 
 pub lines_puts : (a b c : Option (List ℕ)) (k l m : List ℕ) (rs : List Record) (i n : ℕ) →
     Puts a k b l (flat_map line_of (take i rs)) → Puts b l c m (flat_map line_of (take n (drop i rs))) → Puts a k c m (flat_map line_of (take (i + n) rs))
@@ -75,6 +153,17 @@ lines_puts = pieces_further line_of
 pub lines_stops : (a b c : Option (List ℕ)) (k l : List ℕ) (rs : List Record) (i : ℕ) →
     Puts a k b l (flat_map line_of (take i rs)) → Stops b l c [] → Stops a k c (flat_map line_of rs)
 lines_stops = pieces_cut line_of
+
+-- two pieces of one
+module _ (first second whole : List ℕ) (is : first ++ second ≡ whole) where
+  pub two_put : (a b c : Option (List ℕ)) (k l m : List ℕ) → Puts a k b l first → Puts b l c m second → Puts a k c m whole
+  two_put a b c k l m f g = subst (Puts a k c m) is (puts_both a b c k l m first second f g)
+
+  pub first_of_two_stops : (a b : Option (List ℕ)) (k : List ℕ) → Stops a k b first → Stops a k b whole
+  first_of_two_stops a b k f = subst (Stops a k b) is (stops_before a b k first second f)
+
+  pub second_of_two_stops : (a b c : Option (List ℕ)) (k l : List ℕ) → Puts a k b l first → Stops b l c second → Stops a k c whole
+  second_of_two_stops a b c k l f g = subst (Stops a k c) is (stops_behind a b c k l first second f g)
 
 -- three pieces of one
 module _ (first second third whole : List ℕ) (is : first ++ (second ++ third) ≡ whole) where

@@ -2,11 +2,14 @@
 use Rattle.std.specs.Prelude.{◌≡◌, ◌≢◌, IfErr, ℕ, List, ◌++◌, length, map, sum, flat_map, codes, decimal, Option, IfSome, Result, Ok, Err, Bool, true, false}
 use Rattle.std.specs.Io.KnownBytes.{Appends, Keeps}
 use Rattle.emu_model.specs.Alone.{Trace, alone, trace_of}
-use Rattle.report.specs.Lines.{report_of}
+use Rattle.report.specs.Lines.{report_of, heading_of}
+use Rattle.experiment.specs.Written.{KeptReport, kept_report, npy_of, texts_of}
 use Rattle.control.specs.declared.scenario.Experiment.{Experiment}
 use Rattle.control.specs.Scenario.{Spells, HasFault}
 use Rattle.alone.specs.declared.fault.RunFault.{RunFault}
 use Rattle.alone.specs.declared.fault.RunFault.TheVariants as faults
+use Rattle.alone.specs.declared.limits.Format.{Format}
+use Rattle.alone.specs.declared.limits.Format.TheVariants.{Text, Npy}
 use Rattle.alone.specs.declared.whole.Tally.{Tally}
 use Rattle.alone.specs.Bytes.{IsCut, TakesFew}
 
@@ -23,6 +26,19 @@ report_alone e = report_with e (trace_alone e)
 
 abbrev pub reports : List Experiment → List ℕ
 reports es = flat_map report_alone es
+
+-- the report of an experiment that runs alone, before it is written
+abbrev pub made_alone : Experiment → KeptReport
+made_alone e = kept_report (heading_of e.name) (trace_alone e)
+
+-- the output for reports in a format, and for experiments
+abbrev pub bytes_as : Format → List KeptReport → List ℕ
+bytes_as Text rs = texts_of rs
+bytes_as Npy rs = npy_of rs
+
+abbrev pub output_as : Format → List Experiment → List ℕ
+output_as Text es = reports es
+output_as Npy es = npy_of (map made_alone es)
 
 -- the numbers of experiments and commands, and the line that `check` writes for them
 abbrev pub tally_of : List Experiment → Tally

@@ -1,4 +1,5 @@
 -- The effect of a call with limits: it stops if its experiments exceed a limit, and otherwise acts as a call without limits.
+-- `says` is the output for experiments.
 use Rattle.std.specs.Prelude.{◌≡◌, ℕ, ◌+◌, ◌<◌, ◌≤◌, List, length, map, sum, take, Option, Some, None, IfSome, Result, Ok, Err}
 use Rattle.std.specs.Io.KnownBytes.{Appends, Keeps}
 use Rattle.control.specs.declared.scenario.Experiment.{Experiment}
@@ -10,7 +11,7 @@ use Rattle.alone.specs.declared.limits.Stop.{Stop}
 use Rattle.alone.specs.declared.limits.Stop.TheVariants as stops
 use Rattle.alone.specs.declared.within.Made.{Made}
 use Rattle.alone.specs.Bytes.{IsCut}
-use Rattle.alone.specs.Reports.{report_alone, reports, IsOwnFault, Reads}
+use Rattle.alone.specs.Reports.{made_alone, IsOwnFault, Reads}
 
 -- the sum of the steps that experiments may take
 abbrev pub steps_of : List Experiment → ℕ
@@ -31,16 +32,16 @@ pub record PassesSteps (limits : Limits) (es : List Experiment) (number total : 
   pub past : IsPast limits.steps (steps_of (take (number + 1) es))
   pub summed : total ≡ steps_of es
 
--- the steps are within their limit, and the reports have this many bytes, which exceed theirs
-pub record PassesOutput (limits : Limits) (es : List Experiment) (bytes : ℕ) : Type 0 where
+-- the steps are within their limit, and the output has this many bytes, which exceed its limit
+pub record PassesOutput (limits : Limits) (says : List Experiment → List ℕ) (es : List Experiment) (bytes : ℕ) : Type 0 where
   pub steps : IsWithin limits.steps (steps_of es)
   pub output : IsPast limits.output bytes
-  pub counted : bytes ≡ length (reports es)
+  pub counted : bytes ≡ length (says es)
 
--- the steps and the reports are within their limits
-pub record Fits (limits : Limits) (es : List Experiment) : Type 0 where
+-- the steps and the output are within their limits
+pub record Fits (limits : Limits) (says : List Experiment → List ℕ) (es : List Experiment) : Type 0 where
   pub steps : IsWithin limits.steps (steps_of es)
-  pub output : IsWithin limits.output (length (reports es))
+  pub output : IsWithin limits.output (length (says es))
 
 -- a stop because the steps of experiments exceed the limit
 abbrev pub IsStepsStop : Limits → List Experiment → Stop → Type 0
@@ -54,14 +55,14 @@ IsOutputStop limit n (stops.Fault e) = e ≡ faults.Memory
 IsOutputStop limit n (stops.Steps number total) = ⊥
 IsOutputStop limit n (stops.Output bytes) = IsPast limit n × (bytes ≡ n)
 
--- the text that was read spells experiments that fit, and these are their reports
-abbrev pub MakesWithin : Limits → Option (List ℕ) → List ℕ → Type 0
-MakesWithin limits read text = (es : List Experiment) × Reads read es × Fits limits es × (text ≡ reports es)
+-- the text that was read spells experiments that fit, and this is what `says` returns for them
+abbrev pub MakesWithin : Limits → (List Experiment → List ℕ) → Option (List ℕ) → List ℕ → Type 0
+MakesWithin limits says read text = (es : List Experiment) × Reads read es × Fits limits says es × (text ≡ says es)
 
 -- the text that was read spells this scenario, and these are the reports of its experiments
 pub record IsMade (read : Option (List ℕ)) (m : Made) : Type 0 where
   pub spelled : Reads read m.scenario
-  pub each : m.reports.items ≡ map report_alone m.scenario
+  pub each : m.reports.items ≡ map made_alone m.scenario
 
 -- the faults of a call that wrote nothing
 abbrev pub FailsUnwritten : Option (List ℕ) → RunFault → Type 0
@@ -70,21 +71,21 @@ FailsUnwritten read faults.Write = ⊥
 FailsUnwritten read _ = Unit {0}
 
 -- why a call stops before it writes: such a fault, or experiments that exceed a limit
-abbrev pub StopsUnwritten : Limits → Option (List ℕ) → Stop → Type 0
-StopsUnwritten limits read (stops.Fault e) = FailsUnwritten read e
-StopsUnwritten limits read (stops.Steps number total) = (es : List Experiment) × Reads read es × PassesSteps limits es number total
-StopsUnwritten limits read (stops.Output bytes) = (es : List Experiment) × Reads read es × PassesOutput limits es bytes
+abbrev pub StopsUnwritten : Limits → (List Experiment → List ℕ) → Option (List ℕ) → Stop → Type 0
+StopsUnwritten limits says read (stops.Fault e) = FailsUnwritten read e
+StopsUnwritten limits says read (stops.Steps number total) = (es : List Experiment) × Reads read es × PassesSteps limits es number total
+StopsUnwritten limits says read (stops.Output bytes) = (es : List Experiment) × Reads read es × PassesOutput limits says es bytes
 
--- a call that stops: it has written only if the writer failed, and then a prefix of reports that fit
-abbrev pub StopsWithin : Limits → Option (List ℕ) → Option (List ℕ) → Option (List ℕ) → Stop → Type 0
-StopsWithin limits read old new (stops.Fault faults.Write) = (es : List Experiment) × Reads read es × Fits limits es × IsCut old new (reports es)
-StopsWithin limits read old new s = StopsUnwritten limits read s × Keeps old new
+-- a call that stops: it has written only if the writer failed, and then a prefix of an output that fits
+abbrev pub StopsWithin : Limits → (List Experiment → List ℕ) → Option (List ℕ) → Option (List ℕ) → Option (List ℕ) → Stop → Type 0
+StopsWithin limits says read old new (stops.Fault faults.Write) = (es : List Experiment) × Reads read es × Fits limits says es × IsCut old new (says es)
+StopsWithin limits says read old new s = StopsUnwritten limits says read s × Keeps old new
 
--- a call that reads a scenario and writes its reports if they are within the limits: `read` was left to read, `old` was
+-- a call that reads a scenario and writes what `says` returns for it, if it is within the limits: `read` was left to read, `old` was
 -- written before it and `new` is after it
-abbrev pub CallsWithin : Limits → Option (List ℕ) → Option (List ℕ) → Option (List ℕ) → Result (Unit {0}) Stop → Type 0
-CallsWithin limits read old new (Ok _) = (es : List Experiment) × Reads read es × Fits limits es × Appends old new (reports es)
-CallsWithin limits read old new (Err s) = StopsWithin limits read old new s
+abbrev pub CallsWithin : Limits → (List Experiment → List ℕ) → Option (List ℕ) → Option (List ℕ) → Option (List ℕ) → Result (Unit {0}) Stop → Type 0
+CallsWithin limits says read old new (Ok _) = (es : List Experiment) × Reads read es × Fits limits says es × Appends old new (says es)
+CallsWithin limits says read old new (Err s) = StopsWithin limits says read old new s
 
 -- a text was written; a prefix of it if the writer failed, and nothing if memory ran out
 abbrev pub WritesOut : Option (List ℕ) → Option (List ℕ) → List ℕ → Result (Unit {0}) Stop → Type 0

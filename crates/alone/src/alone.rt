@@ -1,14 +1,14 @@
 //! An experiment that runs by itself: it applies each command in turn and processes events until
 //! the next command is due. The records are kept packed, and become lines when they are written.
 
-ghost use Rattle.std.specs.Prelude.{◌≡◌, ◌≤◌, ℕ, List, IfOk, OnOk, All, map};
+ghost use Rattle.std.specs.Prelude.{◌≡◌, ◌≤◌, IfOk, OnOk, All, map};
 ghost use Rattle.packet_store.specs.Own.{own_pocket};
 ghost use Rattle.packet_store.specs.Pocket.{Pocket};
 ghost use Rattle.experiment.specs.Kept.{IsHousedIn};
 ghost use Rattle.control.specs.Order.{AreInOrder};
 ghost use Rattle.alone.specs.Runs.{Advances, IsNew, Plays};
-ghost use Rattle.experiment.specs.Written.{CanWrite, IsWritten};
-ghost use Rattle.alone.specs.Reports.{report_alone};
+ghost use Rattle.experiment.specs.Written.{CanCount, IsArchived, archived_counts};
+ghost use Rattle.alone.specs.Reports.{made_alone};
 
 use crate::lone::LoneShelf;
 use crate::progress::Progress;
@@ -33,9 +33,10 @@ fn tell<P: Progress>(experiment: &Experiment, progress: &P)
 // Packs the records once there is a batch of them.
 #[inline(always)]
 fn keep_batch(experiment: &mut Experiment, report: &mut ReportKeeper) -> Result<(), AllocError>
-    requires { CanWrite report.old experiment.old }
-    ensures written { OnOk result ((head : List ℕ) (p : Pocket) →
-        IsWritten head report.old p experiment.old → IsWritten head report.new p experiment.new) }
+    requires { CanCount (archived_counts report.old) experiment.old }
+    ensures heading { OnOk result (report.new.heading ≡ report.old.heading) }
+    ensures archived { OnOk result ((p : Pocket) →
+        IsArchived report.old p experiment.old → IsArchived report.new p experiment.new) }
     ensures rest { OnOk result (experiment.new ≡ record experiment.old {
       net = record experiment.old.net { log = experiment.new.net.log };
     }) }
@@ -58,8 +59,7 @@ fn advance<P: Progress>(
     progress: &P,
 ) -> Result<(), AllocError>
     requires housed { IsHousedIn (own_pocket shelf.old) experiment.old }
-    requires written { (head : List ℕ)
-        × IsWritten head report.old (own_pocket shelf.old) experiment.old }
+    requires archived { IsArchived report.old (own_pocket shelf.old) experiment.old }
     ensures { OnOk result
         (Advances report.old (own_pocket shelf.old) experiment.old
         report.new (own_pocket shelf.new) experiment.new) }
@@ -85,7 +85,7 @@ fn play<P: Progress>(
 ) -> Result<(), AllocError>
     requires housed { IsHousedIn (own_pocket shelf.old) experiment.old }
     requires new { IsNew experiment.old }
-    requires written { (head : List ℕ) × IsWritten head report.old (own_pocket shelf.old) experiment.old }
+    requires archived { IsArchived report.old (own_pocket shelf.old) experiment.old }
     requires in_order { AreInOrder 0 commands.now }
     ensures { OnOk result
         (Plays commands.now report.old (own_pocket shelf.old) experiment.old
@@ -115,7 +115,7 @@ fn report_by_itself<P: Progress>(
     progress: &P,
 ) -> Result<Report, AllocError>
     requires { AreInOrder 0 script.now.commands }
-    ensures { IfOk result (λ report. report ≡ report_alone script.now) }
+    ensures { IfOk result (λ report. report ≡ made_alone script.now) }
 {
     later_commands_wait();
     packets_add_up();
@@ -136,7 +136,7 @@ pub fn run_all<P: Progress>(
     progress: &P,
 ) -> Result<Vec<Report>, AllocError>
     requires { All (λ e. AreInOrder 0 e.commands) scripts.now }
-    ensures { IfOk result (λ reports. reports.items ≡ map report_alone scripts.now) }
+    ensures { IfOk result (λ reports. reports.items ≡ map made_alone scripts.now) }
 {
     let mut reports = Vec::with_capacity(alloc, scripts.len())?;
     for script in scripts {

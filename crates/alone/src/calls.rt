@@ -9,7 +9,7 @@ ghost use Rattle.alone.specs.Within.{IsUnlimited, done_of, leaves};
 use crate::ends::{Inlet, Outlet, flush_all, write_all};
 use crate::fault::RunFault;
 use crate::input::read_text;
-use crate::limits::{Limits, Stop};
+use crate::limits::{Format, Limits, Stop};
 use crate::progress::{Progress, Silent};
 use crate::whole::check_of;
 use crate::within::{Made, run_alone_within};
@@ -83,7 +83,15 @@ pub fn run_alone_with_progress<R: Inlet, W: Outlet, P: Progress>(
 {
     let limits = Limits::none();
     let mut text = Vec::new(alloc);
-    let outcome = run_alone_within(alloc, reader, writer, &mut text, &limits, progress);
+    let outcome = run_alone_within(
+        alloc,
+        reader,
+        writer,
+        &mut text,
+        Format::Text,
+        &limits,
+        progress,
+    );
     unlimited_outcome(outcome)
 }
 

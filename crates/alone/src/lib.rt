@@ -27,7 +27,7 @@ pub use fault_line::write_fault;
 pub use hints::{Hints, NoHints};
 pub use input::read_text;
 pub use joining_law::reports_join;
-pub use limits::{Limits, Stop};
+pub use limits::{Format, Limits, Stop};
 pub use progress::{Progress, Silent};
 pub use talk::live;
 pub use whole::{Reports, Tally, check_of, reports_of, scenario_of};

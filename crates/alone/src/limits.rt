@@ -1,19 +1,43 @@
 //! Limits for all experiments of a scenario together.
 
-ghost use Rattle.std.specs.Prelude.{◌≡◌, ◌+◌, ◌≤◌, ◌<◌, None, length, take, flat_map, IfErr, IfSome, IfNone, OnOk};
+ghost use Rattle.std.specs.Prelude.{◌≡◌, ◌+◌, ◌≤◌, ◌<◌, None, length, take, IfErr, IfOk, IfSome, IfNone, OnOk};
+ghost use Rattle.alone.specs.Reports.{bytes_as};
 ghost use Rattle.alone.specs.Within.{steps_of, IsWithin, IsStepsStop, IsOutputStop};
 
 use crate::fault::RunFault;
 use control::Experiment;
-use experiment::{Report, put_reports};
-use std::alloc::Global;
+use experiment::{Report, npy_length, put_reports};
+use std::alloc::{AllocError, Global};
+
+/// The format of the output: the lines of the reports, or their rows as a file that NumPy loads.
+#[derive(Clone, Copy, Debug, PartialEq)]
+pub enum Format {
+    Text,
+    Npy,
+}
+
+impl Format {
+    // Returns the length of the output for reports, in bytes. Fails with `AllocError` if memory
+    // runs out.
+    fn length(self, alloc: Global, reports: &[Report]) -> Result<usize, AllocError>
+        ensures { IfOk result (λ n. n ≡ length (bytes_as self reports.now)) }
+    {
+        match self {
+            Format::Text => {
+                let mut room = [];
+                put_reports(alloc, reports, &mut room)
+            }
+            Format::Npy => npy_length(alloc, reports),
+        }
+    }
+}
 
 /// The limits for all experiments of a scenario together; `None` is no limit. Our choice.
 #[derive(Clone, Copy, Debug, PartialEq)]
 pub struct Limits {
     /// The maximum sum of the experiments' `steps`.
     pub steps: Option<u64>,
-    /// The maximum length of all reports together, in bytes.
+    /// The maximum length of the output, in bytes.
     pub output: Option<u64>,
 }
 
@@ -25,7 +49,7 @@ pub enum Stop {
     /// The experiments may take more steps than the limit, `total` in all. `number`, from 0, is the
     /// first experiment that exceeds the limit.
     Steps { number: u64, total: u64 },
-    /// The reports have this many bytes, more than the limit.
+    /// The output has this many bytes, more than the limit.
     Output(u64),
 }
 
@@ -100,20 +124,24 @@ impl Limits {
         }
     }
 
-    /// Returns `Output` if the reports have more bytes than the limit. If there is a limit, it
-    /// formats all lines to count their bytes, and returns the fault `Memory` if an allocation
-    /// fails.
-    pub fn check_reports(&self, alloc: Global, reports: &[Report]) -> Result<(), Stop>
+    /// Returns `Output` if the output for reports has more bytes than the limit. If there is a
+    /// limit, it formats all lines to count their bytes, and returns the fault `Memory` if an
+    /// allocation fails.
+    pub fn check_reports(
+        &self,
+        alloc: Global,
+        format: Format,
+        reports: &[Report],
+    ) -> Result<(), Stop>
         ensures ok { OnOk result
-            (IsWithin self.now.output (length (flat_map (λ r. r) reports.now))) }
+            (IsWithin self.now.output (length (bytes_as format reports.now))) }
         ensures stop { IfErr result
-            (IsOutputStop self.now.output (length (flat_map (λ r. r) reports.now))) }
+            (IsOutputStop self.now.output (length (bytes_as format reports.now))) }
     {
         if self.output.is_none() {
             return Ok(());
         }
-        let mut room = [];
-        let Ok(bytes) = put_reports(alloc, reports, &mut room) else {
+        let Ok(bytes) = format.length(alloc, reports) else {
             return Err(Stop::Fault(RunFault::Memory));
         };
         self.check_length(bytes)

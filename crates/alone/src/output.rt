@@ -1,12 +1,14 @@
 //! Writes the reports through a buffer that is allocated before the first byte is written.
 
-ghost use Rattle.std.specs.Prelude.{◌≡◌, ◌+◌, ◌<◌, ◌≤◌, [], true, is_err, drop, flat_map, length, take, IfOk, OnOk, OnErr};
+ghost use Rattle.std.specs.Prelude.{◌≡◌, ◌+◌, ◌<◌, ◌≤◌, ◌++◌, [], true, is_err, drop, flat_map, length, take, IfOk, OnOk, OnErr};
 ghost use Rattle.report.specs.Lines.{line_of};
+ghost use Rattle.report.specs.Rows.{npy_header, record_bytes, rows_of};
+ghost use Rattle.experiment.specs.Written.{row_count, rows_from, text_of, texts_of};
 ghost use Rattle.alone.specs.Bytes.{Puts, Stops};
 
 use crate::ends::{Failed, Outlet, flush_all, write_all};
-use experiment::Report;
-use report::{Archive, Moments, Source, write_some};
+use experiment::{Report, count_rows};
+use report::{Archive, Moments, ROW, Source, npy_header, put_counters, put_rows, write_some};
 use std::alloc::{AllocError, Global};
 use std::marker::Model;
 
@@ -19,6 +21,9 @@ const LONG: usize = 16_384;
 
 /// The number of bytes that suffices for the lines that one call formats.
 const PAGE: usize = 4_624;
+
+/// The number of bytes of the page on which rows are built: so many that they bypass the buffer.
+const ROWS_PAGE: usize = 65_520;
 
 /// The bytes that haven't been passed to the writer yet, at most 65536.
 #[derive(Drop)]
@@ -91,10 +96,10 @@ impl Buffer {
     ) -> Result<(), Failed>
         ensures ok { OnOk result
             (Puts (W.contents writer.old) self.old (W.contents writer.new) self.new
-            (flat_map (λ t. t) reports.now)) }
+            (texts_of reports.now)) }
         ensures cut { OnErr result
             (Stops (W.contents writer.old) self.old (W.contents writer.new)
-            (flat_map (λ t. t) reports.now)) }
+            (texts_of reports.now)) }
         ensures failed { OnErr result (W.failed writer.new ≡ true) }
     {
         let mut moments = Moments::new();
@@ -113,9 +118,10 @@ impl Buffer {
         report: &Report,
     ) -> Result<(), Failed>
         ensures ok { OnOk result
-            (Puts (W.contents writer.old) self.old (W.contents writer.new) self.new report.now) }
+            (Puts (W.contents writer.old) self.old (W.contents writer.new) self.new
+            (text_of report.now)) }
         ensures cut { OnErr result
-            (Stops (W.contents writer.old) self.old (W.contents writer.new) report.now) }
+            (Stops (W.contents writer.old) self.old (W.contents writer.new) (text_of report.now)) }
         ensures failed { OnErr result (W.failed writer.new ≡ true) }
     {
         let (heading, records, last) = report.parts();
@@ -174,6 +180,104 @@ impl Buffer {
         Ok(count)
     }
 
+    /// Appends the rows of reports, after the header that names their columns. Rows are built on a
+    /// page.
+    #[tactic(auto, using(crate::proofs::Writing::puts_both, crate::proofs::Writing::stops_before, crate::proofs::Writing::stops_behind))]
+    pub fn put_npy<W: Outlet>(
+        &mut self,
+        writer: &mut W,
+        header: &[u8],
+        page: &mut [u8],
+        reports: &[Report],
+    ) -> Result<(), Failed>
+        requires { 40 ≤ length page.old }
+        ensures ok { OnOk result
+            (Puts (W.contents writer.old) self.old (W.contents writer.new) self.new
+            (header.now ++ rows_from 0 reports.now)) }
+        ensures cut { OnErr result
+            (Stops (W.contents writer.old) self.old (W.contents writer.new)
+            (header.now ++ rows_from 0 reports.now)) }
+        ensures failed { OnErr result (W.failed writer.new ≡ true) }
+    {
+        self.put(writer, header)?;
+        self.put_all_rows(writer, page, reports)
+    }
+
+    // Appends the rows of reports.
+    #[tactic(auto, using(crate::proofs::Writing::puts_none, crate::proofs::Reporting::rows_puts, crate::proofs::Reporting::rows_stops))]
+    fn put_all_rows<W: Outlet>(
+        &mut self,
+        writer: &mut W,
+        page: &mut [u8],
+        reports: &[Report],
+    ) -> Result<(), Failed>
+        requires { 40 ≤ length page.old }
+        ensures ok { OnOk result
+            (Puts (W.contents writer.old) self.old (W.contents writer.new) self.new
+            (rows_from 0 reports.now)) }
+        ensures cut { OnErr result
+            (Stops (W.contents writer.old) self.old (W.contents writer.new)
+            (rows_from 0 reports.now)) }
+        ensures failed { OnErr result (W.failed writer.new ≡ true) }
+    {
+        for number in 0..reports.len() {
+            self.put_report_rows(writer, page, &reports[number], number.min(255) as u8)?;
+        }
+        Ok(())
+    }
+
+    // Appends the rows of a report, which is that of the experiment with this number.
+    #[tactic(auto, using(crate::proofs::Reporting::two_put, crate::proofs::Reporting::first_of_two_stops, crate::proofs::Reporting::second_of_two_stops))]
+    fn put_report_rows<W: Outlet>(
+        &mut self,
+        writer: &mut W,
+        page: &mut [u8],
+        report: &Report,
+        number: u8,
+    ) -> Result<(), Failed>
+        requires { 40 ≤ length page.old }
+        ensures page { length page.new ≡ length page.old }
+        ensures ok { OnOk result
+            (Puts (W.contents writer.old) self.old (W.contents writer.new) self.new
+            (rows_of number report.now.records report.now.counters)) }
+        ensures cut { OnErr result
+            (Stops (W.contents writer.old) self.old (W.contents writer.new)
+            (rows_of number report.now.records report.now.counters)) }
+        ensures failed { OnErr result (W.failed writer.new ≡ true) }
+    {
+        self.put_rows(writer, page, report.records(), number)?;
+        put_counters(page, report.counters(), number);
+        self.put(writer, &page[..row_size()])
+    }
+
+    // Appends the rows of records.
+    #[tactic(auto, using(crate::proofs::Writing::puts_none, crate::proofs::Reporting::some_rows_puts, crate::proofs::Reporting::some_rows_stops))]
+    fn put_rows<W: Outlet>(
+        &mut self,
+        writer: &mut W,
+        page: &mut [u8],
+        records: &Archive,
+        number: u8,
+    ) -> Result<(), Failed>
+        requires { 40 ≤ length page.old }
+        ensures page { length page.new ≡ length page.old }
+        ensures ok { OnOk result
+            (Puts (W.contents writer.old) self.old (W.contents writer.new) self.new
+            (flat_map (record_bytes number) records.now)) }
+        ensures cut { OnErr result
+            (Stops (W.contents writer.old) self.old (W.contents writer.new)
+            (flat_map (record_bytes number) records.now)) }
+        ensures failed { OnErr result (W.failed writer.new ≡ true) }
+    {
+        let mut done = 0;
+        while done < records.len() {
+            let count = put_rows(page, records, done, number);
+            self.put(writer, &page[..count * ROW])?;
+            done += count;
+        }
+        Ok(())
+    }
+
     /// Writes all bytes of the buffer, and flushes the writer.
     #[tactic(auto, using(crate::proofs::Writing::puts_flushed_as, crate::proofs::Writing::stops_flushed_as))]
     pub fn finish<W: Outlet>(self, writer: &mut W) -> Result<(), Failed>
@@ -185,4 +289,38 @@ impl Buffer {
         buffer.hand_on(writer)?;
         flush_all(writer)
     }
+}
+
+// Returns the size of a row, as a number that the prover doesn't unroll.
+#[inline(always)]
+fn row_size() -> usize
+    ensures { result ≡ 40 }
+{
+    ROW
+}
+
+// Returns a page of zeros.
+fn blank_page(alloc: Global) -> Result<Vec<u8>, AllocError>
+    ensures { IfOk result (λ p. length p.items ≡ 65520) }
+{
+    let mut page = Vec::with_capacity(alloc, ROWS_PAGE)?;
+    page.resize(ROWS_PAGE, 0)?;
+    Ok(page)
+}
+
+/// Returns what `Buffer::put_npy` needs for reports: the buffer, the header, and the page on which
+/// rows are built. Fails with `AllocError` if memory runs out.
+pub fn npy_rooms(
+    alloc: Global,
+    reports: &[Report],
+) -> Result<(Buffer, Vec<u8>, Vec<u8>), AllocError>
+    ensures buffer { IfOk result (λ r. r.0 ≡ []) }
+    ensures header { IfOk result (λ r. r.1.items ≡ npy_header (row_count reports.now)) }
+    ensures page { IfOk result (λ r. 40 ≤ length r.2.items) }
+{
+    let rows = count_rows(reports)?;
+    let header = npy_header(alloc, rows as u64)?;
+    let buffer = Buffer::new(alloc)?;
+    let page = blank_page(alloc)?;
+    Ok((buffer, header, page))
 }

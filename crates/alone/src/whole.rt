@@ -1,7 +1,8 @@
 //! The pure core without limits: it turns a text into the bytes of its reports, or into the numbers
 //! of its experiments and commands.
 
-ghost use Rattle.std.specs.Prelude.{◌≡◌, ◌≤◌, length, map, sum, flat_map, List, IfOk, IfErr};
+ghost use Rattle.std.specs.Prelude.{◌≡◌, ◌≤◌, length, map, sum, List, IfOk, IfErr};
+ghost use Rattle.experiment.specs.Written.{texts_of};
 ghost use Rattle.control.specs.declared.scenario.Experiment.{Experiment as Script};
 ghost use Rattle.control.specs.Scenario.{Spells};
 ghost use Rattle.alone.specs.Reports.{reports, tally_of, tally_line, IsTextFault};
@@ -23,17 +24,18 @@ pub struct Reports {
 }
 
 impl Model for Reports {
-    ghost use Rattle.std.specs.Prelude.{ℕ, List, flat_map};
+    ghost use Rattle.std.specs.Prelude.{ℕ, List};
+    ghost use Rattle.experiment.specs.Written.{texts_of};
 
     ghost Value = { List ℕ };
 
-    ghost view = { λ r. flat_map (λ t. t) r.reports.items };
+    ghost view = { λ r. texts_of r.reports.items };
 }
 
 impl Reports {
     /// Returns the report of each experiment.
     pub fn each(&self) -> &[Report]
-        ensures { flat_map (λ t. t) result.now ≡ self.now }
+        ensures { texts_of result.now ≡ self.now }
     {
         self.reports.as_slice()
     }

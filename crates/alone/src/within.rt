@@ -2,18 +2,19 @@
 //! writes anything, and stops before the steps or before the output if a scenario exceeds the
 //! limit.
 
-ghost use Rattle.std.specs.Prelude.{◌≡◌, ◌≢◌, ℕ, List, flat_map, Some, false, IfOk, IfErr, OnOk};
+ghost use Rattle.std.specs.Prelude.{◌≡◌, ◌≢◌, ℕ, List, Some, false, IfOk, IfErr, OnOk};
 ghost use Rattle.alone.specs.declared.limits.Stop.TheVariants as stops;
+ghost use Rattle.experiment.specs.Written.{npy_of, texts_of};
 ghost use Rattle.alone.specs.Bytes.{IsRead};
-ghost use Rattle.alone.specs.Reports.{Ends, reader_failed, writer_failed};
+ghost use Rattle.alone.specs.Reports.{Ends, bytes_as, output_as, reader_failed, writer_failed};
 ghost use Rattle.alone.specs.Within.{CallsWithin, IsMade, IsOwnStop, MakesWithin, StopsUnwritten, WritesOut, done_of, leaves};
 
 use crate::alone::run_all;
 use crate::ends::{Inlet, Outlet};
 use crate::fault::RunFault;
 use crate::input::read_text;
-use crate::limits::{Limits, Stop};
-use crate::output::Buffer;
+use crate::limits::{Format, Limits, Stop};
+use crate::output::{Buffer, npy_rooms};
 use crate::progress::Progress;
 use crate::whole::scenario_of;
 use control::Scenario;
@@ -29,19 +30,21 @@ pub struct Made {
 }
 
 /// Runs each experiment of a text by itself and returns the scenario and the reports. Returns
-/// `Steps` before the first step if the steps exceed their limit, and `Output` if the reports do.
+/// `Steps` before the first step if the steps exceed their limit, and `Output` if the output in the
+/// given format does.
 /// If the text spells no scenario, the fault is `Scenario` with the first fault of the text.
 #[tactic(auto, using(crate::proofs::Stopping::text_stop, crate::proofs::Stopping::text_own, crate::proofs::Stopping::text_unread, crate::proofs::Stopping::steps_stop, crate::proofs::Stopping::steps_own, crate::proofs::Stopping::steps_unread, crate::proofs::Stopping::output_stop, crate::proofs::Stopping::output_own, crate::proofs::Stopping::output_unread, crate::proofs::Stopping::made_within))]
 pub fn made_of<P: Progress>(
     alloc: Global,
     text: &[u8],
+    format: Format,
     limits: &Limits,
     progress: &P,
 ) -> Result<Made, Stop>
-    ensures within { IfOk result (λ m. MakesWithin limits.now (Some text.now)
-        (flat_map (λ r. r) m.reports.items)) }
+    ensures within { IfOk result (λ m. MakesWithin limits.now (output_as format) (Some text.now)
+        (bytes_as format m.reports.items)) }
     ensures made { IfOk result (IsMade (Some text.now)) }
-    ensures stop { IfErr result (StopsUnwritten limits.now (Some text.now)) }
+    ensures stop { IfErr result (StopsUnwritten limits.now (output_as format) (Some text.now)) }
     ensures own { IfErr result IsOwnStop }
     ensures unread { reader_failed (leaves result) ≡ false }
 {
@@ -54,20 +57,14 @@ pub fn made_of<P: Progress>(
     let Ok(reports) = run_all(alloc, scripts, progress) else {
         return Err(Stop::Fault(RunFault::Memory));
     };
-    limits.check_reports(alloc, reports.as_slice())?;
+    limits.check_reports(alloc, format, reports.as_slice())?;
     Ok(Made { scenario, reports })
 }
 
-/// Writes reports, one after the other, through a buffer that is allocated before the first byte is
-/// written. The fault is `Write` if the writer failed, after a prefix of the reports was written,
-/// and `Memory` if an allocation failed before anything was written.
-pub fn write_reports<W: Outlet>(
-    alloc: Global,
-    writer: &mut W,
-    reports: &[Report],
-) -> Result<(), Stop>
+// Writes the lines of reports, one report after the other.
+fn write_text<W: Outlet>(alloc: Global, writer: &mut W, reports: &[Report]) -> Result<(), Stop>
     ensures written { WritesOut (W.contents writer.old) (W.contents writer.new)
-        (flat_map (λ r. r) reports.now) result }
+        (texts_of reports.now) result }
     ensures failed { W.failed writer.new ≡ writer_failed (W.failed writer.old) (leaves result) }
     ensures untouched { IfErr result (λ s. s ≢ stops.Fault RunFault.Write →
         writer.new ≡ writer.old) }
@@ -84,7 +81,48 @@ pub fn write_reports<W: Outlet>(
     Ok(())
 }
 
-/// Runs like `run_alone_with_progress`, with limits. Returns `Steps` before the first step, or `Output`
+// Writes the rows of reports, after the header that names their columns.
+fn write_npy<W: Outlet>(alloc: Global, writer: &mut W, reports: &[Report]) -> Result<(), Stop>
+    ensures written { WritesOut (W.contents writer.old) (W.contents writer.new)
+        (npy_of reports.now) result }
+    ensures failed { W.failed writer.new ≡ writer_failed (W.failed writer.old) (leaves result) }
+    ensures untouched { IfErr result (λ s. s ≢ stops.Fault RunFault.Write →
+        writer.new ≡ writer.old) }
+{
+    let Ok((mut buffer, header, mut page)) = npy_rooms(alloc, reports) else {
+        return Err(Stop::Fault(RunFault::Memory));
+    };
+    let Ok(()) = buffer.put_npy(writer, header.as_slice(), &mut page, reports) else {
+        return Err(Stop::Fault(RunFault::Write));
+    };
+    let Ok(()) = buffer.finish(writer) else {
+        return Err(Stop::Fault(RunFault::Write));
+    };
+    Ok(())
+}
+
+/// Writes the output for reports through a buffer that is allocated before the first byte is
+/// written. The fault is `Write` if the writer failed, after a prefix of the output was written,
+/// and `Memory` if an allocation failed before anything was written.
+pub fn write_reports<W: Outlet>(
+    alloc: Global,
+    writer: &mut W,
+    format: Format,
+    reports: &[Report],
+) -> Result<(), Stop>
+    ensures written { WritesOut (W.contents writer.old) (W.contents writer.new)
+        (bytes_as format reports.now) result }
+    ensures failed { W.failed writer.new ≡ writer_failed (W.failed writer.old) (leaves result) }
+    ensures untouched { IfErr result (λ s. s ≢ stops.Fault RunFault.Write →
+        writer.new ≡ writer.old) }
+{
+    match format {
+        Format::Text => write_text(alloc, writer, reports),
+        Format::Npy => write_npy(alloc, writer, reports),
+    }
+}
+
+/// Runs like `run_alone_with_progress`, with limits, and writes in the given format. Returns `Steps` before the first step, or `Output`
 /// before the first byte, exactly if the scenario exceeds that limit. The faults are those of
 /// `run_alone`. `text` becomes the text that was read, unless the reader failed or memory ran out.
 /// `on_text` and `made` are about this text. `given` is about the bytes that the calls of the
@@ -96,16 +134,17 @@ pub fn run_alone_within<R: Inlet, W: Outlet, P: Progress>(
     reader: &mut R,
     writer: &mut W,
     text: &mut Vec<u8>,
+    format: Format,
     limits: &Limits,
     progress: &P,
 ) -> Result<Made, Stop>
-    ensures calls { CallsWithin limits.now (R.remaining reader.old) (W.contents writer.old)
-        (W.contents writer.new) (done_of result) }
-    ensures on_text { CallsWithin limits.now (Some text.new.items) (W.contents writer.old)
-        (W.contents writer.new) (done_of result) }
+    ensures calls { CallsWithin limits.now (output_as format) (R.remaining reader.old)
+        (W.contents writer.old) (W.contents writer.new) (done_of result) }
+    ensures on_text { CallsWithin limits.now (output_as format) (Some text.new.items)
+        (W.contents writer.old) (W.contents writer.new) (done_of result) }
     ensures given { (bytes : List ℕ) × R.gives reader.old bytes reader.new
-        × CallsWithin limits.now (Some bytes) (W.contents writer.old) (W.contents writer.new)
-        (done_of result) }
+        × CallsWithin limits.now (output_as format) (Some bytes) (W.contents writer.old)
+        (W.contents writer.new) (done_of result) }
     ensures ends { Ends (leaves (done_of result)) (R.remaining reader.old) (R.remaining reader.new)
         (R.failed reader.new) (W.failed writer.old) (W.failed writer.new) writer.old writer.new }
     ensures own { IfErr result IsOwnStop }
@@ -120,7 +159,7 @@ pub fn run_alone_within<R: Inlet, W: Outlet, P: Progress>(
         Ok(text) => text,
         Err(fault) => return Err(Stop::Fault(fault)),
     };
-    let made = made_of(alloc, text.as_slice(), limits, progress)?;
-    write_reports(alloc, writer, made.reports.as_slice())?;
+    let made = made_of(alloc, text.as_slice(), format, limits, progress)?;
+    write_reports(alloc, writer, format, made.reports.as_slice())?;
     Ok(made)
 }

@@ -56,9 +56,15 @@ status_of_kind _ = 2
 abbrev pub IsStatusOf : ErrorKind → ℕ → Type 0
 IsStatusOf kind n = (n ≡ status_of_kind kind) ⊎ (n ≡ 3)
 
--- the status for arguments that request no task: that of a fault that they have, or 3 if memory ran out or a write failed
+-- the grammar accepts the arguments, but they name a format that is unknown
+abbrev pub LacksFormat : List Text → Type 0
+LacksFormat words = (fault_of dnlab words ≡ []) × (plan_of words ≡ None)
+
+-- the status for arguments that request no task: that of a fault that they have, 2 for an unknown format, or 3 if memory ran
+-- out or a write failed
 abbrev pub EndsWords : List Text → ℕ → Type 0
-EndsWords words n = ((kind : ErrorKind) × IsAmong kind (fault_of dnlab words) × (n ≡ status_of_kind kind)) ⊎ (n ≡ 3)
+EndsWords words n = ((kind : ErrorKind) × IsAmong kind (fault_of dnlab words) × (n ≡ status_of_kind kind))
+    ⊎ ((LacksFormat words × (n ≡ 2)) ⊎ (n ≡ 3))
 
 -- the status after a call; or 3 if memory ran out for the message about it
 abbrev pub IsStatusAfter : Result (Unit {0}) Stop → ℕ → Type 0

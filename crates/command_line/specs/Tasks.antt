@@ -9,7 +9,7 @@ use Rattle.live.specs.Sessions.{Piece, IsPlain, told, written}
 use Rattle.alone.specs.declared.fault.RunFault.{RunFault}
 use Rattle.alone.specs.declared.limits.Limits.{Limits}
 use Rattle.alone.specs.declared.limits.Stop.{Stop}
-use Rattle.alone.specs.Reports.{Calls, IsOwnFault, reports, tally}
+use Rattle.alone.specs.Reports.{Calls, IsOwnFault, output_as, reports, tally}
 use Rattle.alone.specs.Conversations.{Converses, IsEnded}
 use Rattle.alone.specs.Talks.{AsksForAll}
 use Rattle.alone.specs.Within.{CallsWithin, leaves}
@@ -18,21 +18,21 @@ use Rattle.command_line.specs.declared.words.Task.TheVariants.{Run, Alone, Check
 
 -- whether the task explains what is at fault, once the text has ended
 abbrev pub explains : Task → Bool
-explains (Run workers moves limits progress explain strict) = explain
-explains (Alone limits progress explain strict) = explain
+explains (Run workers moves format limits progress explain strict) = explain
+explains (Alone format limits progress explain strict) = explain
 explains (Check explain strict) = explain
 explains (Live steps explain) = false
 
 -- whether a refused command and spent steps count as failures
 abbrev pub is_strict : Task → Bool
-is_strict (Run workers moves limits progress explain strict) = strict
-is_strict (Alone limits progress explain strict) = strict
+is_strict (Run workers moves format limits progress explain strict) = strict
+is_strict (Alone format limits progress explain strict) = strict
 is_strict (Check explain strict) = strict
 is_strict (Live steps explain) = false
 
 abbrev pub limits_of : Task → Limits
-limits_of (Run workers moves limits progress explain strict) = limits
-limits_of (Alone limits progress explain strict) = limits
+limits_of (Run workers moves format limits progress explain strict) = limits
+limits_of (Alone format limits progress explain strict) = limits
 limits_of (Check explain strict) = record { steps = None; output = None }
 limits_of (Live steps explain) = record { steps = steps; output = None }
 
@@ -59,7 +59,7 @@ OfGiven given P = (text : List ℕ) × given text × P (Some text)
 -- the effect of a task: the reader's calls returned these bytes, `read` was left to read, `old` was written before it and
 -- `new` is after it
 abbrev pub Does : Task → (List ℕ → Type 0) → Option (List ℕ) → Option (List ℕ) → Option (List ℕ) → Result (Unit {0}) Stop → Type 0
-Does (Run workers moves limits progress explain strict) given read old new r = CallsWithin limits read old new r
-Does (Alone limits progress explain strict) given read old new r = CallsWithin limits read old new r × OfGiven given (λ text. CallsWithin limits text old new r)
+Does (Run workers moves format limits progress explain strict) given read old new r = CallsWithin limits (output_as format) read old new r
+Does (Alone format limits progress explain strict) given read old new r = CallsWithin limits (output_as format) read old new r × OfGiven given (λ text. CallsWithin limits (output_as format) text old new r)
 Does (Check explain strict) given read old new r = Calls tally read old new (leaves r) × OfGiven given (λ text. Calls tally text old new (leaves r))
 Does (Live steps explain) given read old new r = Talks explain steps given read old new (leaves r)

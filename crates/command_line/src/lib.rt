@@ -342,6 +342,14 @@ fn say<R: Print + Eprint>(rt: &R, error: &Error, words: &[String]) -> ExitCode
     end_words(rt, kind, is_printed)
 }
 
+// Prints which formats there are, and returns the exit code for a format that is unknown.
+fn say_formats(rt: &impl Eprint) -> ExitCode
+    ensures { exit_status result ≡ 2 }
+{
+    let _ = eprintln!(rt; "error: --format takes `text` or `npy`");
+    ExitCode::from(2)
+}
+
 /// Returns the program's arguments, its name first. If it can't, it prints the reason and returns
 /// the exit code.
 pub fn words_given<H: Alloc<A = Global> + Env + Eprint>(rt: &H) -> Result<Vec<String>, ExitCode>
@@ -376,7 +384,8 @@ pub fn asked<R: Eprint + Print>(
     ensures ends { IfErr result (λ code. EndsWords (map string_bytes words.now) (exit_status code)) }
 {
     match task_of(alloc, version, words) {
-        Ok(task) => Ok(task),
+        Ok(Some(task)) => Ok(task),
+        Ok(None) => Err(say_formats(rt)),
         Err(error) => Err(say(rt, &error, words)),
     }
 }
@@ -414,17 +423,19 @@ pub fn by_one_thread<H: Clock + Eprint + Sync, R: Inlet, W: Outlet>(
 {
     match *task {
         Task::Run {
+            format,
             limits,
             progress,
             ..
         }
         | Task::Alone {
+            format,
             limits,
             progress,
             ..
         } => {
             let meter = Meter::new(rt, progress);
-            with_reports(run_alone_within(alloc, reader, writer, text, &limits, &meter))
+            with_reports(run_alone_within(alloc, reader, writer, text, format, &limits, &meter))
         }
         Task::Check { .. } => unlimited_outcome(check_kept(alloc, reader, writer, text)),
         Task::Live { steps, explain } => converse(alloc, reader, writer, steps, explain),

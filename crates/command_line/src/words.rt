@@ -1,17 +1,17 @@
 //! The arguments of the command line.
 
-ghost use Rattle.std.specs.Prelude.{◌≡◌, [], Some, IfOk, IfErr, MatchResult, true, false, codes, map, option_map};
+ghost use Rattle.std.specs.Prelude.{◌≡◌, [], Some, IfOk, IfErr, MatchResult, true, false, codes, map, option_and_then, option_map};
 ghost use Rattle.std.specs.String.{string_bytes};
 ghost use Rattle.clap.specs.Words.{FailsBy, app_of, fault_of, found_of, has_subcommand};
 ghost use Rattle.clap.specs.Words.{kind_of, rows_of, subcommand_rows_of, takes};
 ghost use Rattle.clap.specs.declared.error.kind.ErrorKind.TheVariants.{OutOfMemory};
 ghost use Rattle.clap.specs.declared.builder.command.Command.TheViews.{out-Command};
 ghost use Rattle.command_line.specs.Tasks.{explains, is_strict, limits_of};
-ghost use Rattle.command_line.specs.Words.{IsArg, IsCommand, alone_in, alone_shape, check_shape, dnlab, flag, flag_in};
+ghost use Rattle.command_line.specs.Words.{IsArg, IsCommand, alone_in, alone_shape, check_shape, dnlab, flag, flag_in, format_in, format_of, format_rule};
 ghost use Rattle.command_line.specs.Words.{limits_in, live_in, live_shape, max_output_rule, max_steps_rule, moves_rule, number};
 ghost use Rattle.command_line.specs.Words.{plan_of, program_shape, run_in, run_shape, task_in, workers_rule};
 
-use alone::Limits;
+use alone::{Format, Limits};
 use clap::builder::ValueParser;
 use clap::{Arg, ArgAction, ArgMatches, Command, Error};
 use std::alloc::Global;
@@ -24,6 +24,7 @@ pub enum Task {
     Run {
         workers: usize,
         moves: u32,
+        format: Format,
         limits: Limits,
         progress: bool,
         explain: bool,
@@ -31,6 +32,7 @@ pub enum Task {
     },
     /// Run each experiment by itself, and report the progress if `progress` is true.
     Alone {
+        format: Format,
         limits: Limits,
         progress: bool,
         explain: bool,
@@ -218,6 +220,13 @@ fn max_output<'a>(alloc: Global) -> Arg<'a>
     number(alloc, "max-output", "BYTES", help, clap::value_parser!(u64))
 }
 
+fn format<'a>(alloc: Global) -> Arg<'a>
+    ensures { IsArg format_rule result }
+{
+    let help = "Writes lines (text) or rows for NumPy (npy) [default: text]";
+    number(alloc, "format", "FORMAT", help, ValueParser::String)
+}
+
 fn run_command<'a>(alloc: Global) -> Result<Command<'a>, Error>
     ensures { MatchResult result (IsCommand run_shape) (λ error. kind_of error ≡ OutOfMemory) }
 {
@@ -225,6 +234,7 @@ fn run_command<'a>(alloc: Global) -> Result<Command<'a>, Error>
         .about("Runs the experiments by many threads: the same bytes as `alone`")
         .arg(workers(alloc))?
         .arg(moves(alloc))?
+        .arg(format(alloc))?
         .arg(progress(alloc))?
         .arg(explain(alloc))?
         .arg(strict(alloc))?
@@ -238,6 +248,7 @@ fn alone_command<'a>(alloc: Global) -> Result<Command<'a>, Error>
 {
     let alone = Command::new(alloc, "alone")
         .about("Reads a scenario on standard input and prints its reports")
+        .arg(format(alloc))?
         .arg(progress(alloc))?
         .arg(explain(alloc))?
         .arg(strict(alloc))?
@@ -311,6 +322,29 @@ fn flag_in(given: &ArgMatches<'_>, name: &str) -> bool
     given.get_one::<bool>(name).unwrap_or(false)
 }
 
+// Returns the format that a text names.
+fn format_of(text: &str) -> Option<Format>
+    ensures { result ≡ format_of text.now }
+{
+    if text == "text" {
+        Some(Format::Text)
+    } else if text == "npy" {
+        Some(Format::Npy)
+    } else {
+        None
+    }
+}
+
+// Returns the format that is requested, or `None` if the option has a value that is no format.
+fn format_in(given: &ArgMatches<'_>) -> Option<Format>
+    ensures { result ≡ format_in (rows_of (found_of given.now)) }
+{
+    match given.get_str("format") {
+        Some(text) => format_of(text),
+        None => Some(Format::Text),
+    }
+}
+
 fn limits_in(given: &ArgMatches<'_>) -> Limits
     ensures { result ≡ limits_in (rows_of (found_of given.now)) }
 {
@@ -320,12 +354,13 @@ fn limits_in(given: &ArgMatches<'_>) -> Limits
     }
 }
 
-fn run_in(given: &ArgMatches<'_>) -> Task
-    ensures { result ≡ run_in (rows_of (found_of given.now)) }
+fn run_in(format: Format, given: &ArgMatches<'_>) -> Task
+    ensures { result ≡ run_in format (rows_of (found_of given.now)) }
 {
     Task::Run {
         workers: given.get_one::<usize>("workers").unwrap_or(WORKERS),
         moves: given.get_one::<u32>("moves").unwrap_or(MOVES),
+        format,
         limits: limits_in(given),
         progress: flag_in(given, "progress"),
         explain: flag_in(given, "explain"),
@@ -333,10 +368,11 @@ fn run_in(given: &ArgMatches<'_>) -> Task
     }
 }
 
-fn alone_in(given: &ArgMatches<'_>) -> Task
-    ensures { result ≡ alone_in (rows_of (found_of given.now)) }
+fn alone_in(format: Format, given: &ArgMatches<'_>) -> Task
+    ensures { result ≡ alone_in format (rows_of (found_of given.now)) }
 {
     Task::Alone {
+        format,
         limits: limits_in(given),
         progress: flag_in(given, "progress"),
         explain: flag_in(given, "explain"),
@@ -353,42 +389,39 @@ fn live_in(given: &ArgMatches<'_>) -> Task
     }
 }
 
-// Returns the task of a command. `clap` accepts four names, so the last one is `check`.
-fn task_in(name: &str, given: &ArgMatches<'_>) -> Task
+// Returns the task of a command, or `None` if its format is unknown. `clap` accepts four names, so
+// the last one is `check`.
+fn task_in(name: &str, given: &ArgMatches<'_>) -> Option<Task>
     ensures { result ≡ task_in (name.now, rows_of (found_of given.now)) }
 {
     if name == "run" {
-        run_in(given)
+        Some(run_in(format_in(given)?, given))
     } else if name == "alone" {
-        alone_in(given)
+        Some(alone_in(format_in(given)?, given))
     } else if name == "live" {
-        live_in(given)
+        Some(live_in(given))
     } else {
-        Task::Check {
+        Some(Task::Check {
             explain: flag_in(given, "explain"),
             strict: flag_in(given, "strict"),
-        }
+        })
     }
 }
 
-// Returns the task that the arguments accepted by `clap` request.
-fn task_met(matches: &ArgMatches<'_>) -> Task
+// Returns the task that the arguments accepted by `clap` request, or `None` if its format is
+// unknown.
+fn task_met(matches: &ArgMatches<'_>) -> Option<Task>
     requires { has_subcommand matches.now ≡ true }
-    ensures { option_map task_in (subcommand_rows_of matches.now) ≡ Some result }
+    ensures { option_and_then task_in (subcommand_rows_of matches.now) ≡ result }
 {
-    match matches.subcommand() {
-        Some((name, given)) => task_in(name, given),
-        None => Task::Check {
-            explain: false,
-            strict: false,
-        },
-    }
+    let (name, given) = matches.subcommand()?;
+    task_in(name, given)
 }
 
-/// Returns the task that the arguments (the program's name first) request, or the message for them:
-/// a mistake, help, the version, or out of memory.
-pub fn task_of(alloc: Global, version: &str, words: &[String]) -> Result<Task, Error>
-    ensures plan { IfOk result (λ task. plan_of (map string_bytes words.now) ≡ Some task) }
+/// Returns the task that the arguments (the program's name first) request, `None` if they name an
+/// unknown format, or the message for them: a mistake, help, the version, or out of memory.
+pub fn task_of(alloc: Global, version: &str, words: &[String]) -> Result<Option<Task>, Error>
+    ensures plan { IfOk result (λ task. plan_of (map string_bytes words.now) ≡ task) }
     ensures taken { IfErr result (λ error. takes dnlab (map string_bytes words.now) ≡ true
         → kind_of error ≡ OutOfMemory) }
     ensures kinds { FailsBy (fault_of dnlab (map string_bytes words.now)) result }
@@ -401,7 +434,11 @@ pub fn task_of(alloc: Global, version: &str, words: &[String]) -> Result<Task, E
 }
 
 fn has_value(word: &str) -> bool {
-    word == "--workers" || word == "--moves" || word == "--max-steps" || word == "--max-output"
+    word == "--workers"
+        || word == "--moves"
+        || word == "--format"
+        || word == "--max-steps"
+        || word == "--max-output"
 }
 
 /// Returns the first argument after a command that is neither an option nor its value, which is

@@ -58,6 +58,7 @@ where
     if let Task::Run {
         workers,
         moves,
+        format,
         limits,
         progress,
         ..
@@ -67,7 +68,7 @@ where
         if let Some(plan) = Plan::new(workers, moves) {
             let meter = Meter::new(rt, progress);
             return with_reports(run_within(
-                rt, alloc, reader, writer, text, &limits, plan, &OpenGate, &meter,
+                rt, alloc, reader, writer, text, format, &limits, plan, &OpenGate, &meter,
             ));
         }
     }

@@ -58,17 +58,17 @@ limited most = record { steps = Some most; output = None }
 pub within_memory : (most : ℕ) (text before room : List ℕ) (a : Answer) → a ≡ no_memory → AnswersWithin most text before room a
 within_memory most text before room a is = inl is
 
-pub within_put_all : (most : ℕ) (text before room all : List ℕ) (a : Answer) → MakesWithin (limited most) (Some text) all →
+pub within_put_all : (most : ℕ) (text before room all : List ℕ) (a : Answer) → MakesWithin (limited most) reports (Some text) all →
     ((a ≡ no_memory) ⊎ IsPut all before room a) → AnswersWithin most text before room a
 within_put_all most text before room all a made (inl refused) = inl refused
 within_put_all most text before room all a (es, spells, fits, is) (inr put) =
     inr (inl (es, spells, fits.steps, subst (λ (l : List ℕ). IsPut l before room a) is put))
 
-pub within_fault : (most : ℕ) (text before : List ℕ) (a : Answer) (f : Fault) → StopsUnwritten (limited most) (Some text) (Failed (Scenario f)) → a ≡ faulty f →
+pub within_fault : (most : ℕ) (text before : List ℕ) (a : Answer) (f : Fault) → StopsUnwritten (limited most) reports (Some text) (Failed (Scenario f)) → a ≡ faulty f →
     AnswersWithin most text before before a
 within_fault most text before a f fault is = inr (inr (inl (f, fault, is, refl)))
 
-pub within_steps : (most : ℕ) (text before : List ℕ) (a : Answer) (number total : ℕ) → StopsUnwritten (limited most) (Some text) (Steps number total) →
+pub within_steps : (most : ℕ) (text before : List ℕ) (a : Answer) (number total : ℕ) → StopsUnwritten (limited most) reports (Some text) (Steps number total) →
     a ≡ too_many_steps number total → AnswersWithin most text before before a
 within_steps most text before a number total (es, spells, passes) is = inr (inr (inr (es, number, total, spells, passes, is, refl)))
 

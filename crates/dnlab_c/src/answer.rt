@@ -1,6 +1,7 @@
 //! The answer of a call to a caller that is not Rattle.
 
-ghost use Rattle.std.specs.Prelude.{◌≡◌, ◌<◌, ◌⊎◌, flat_map, length};
+ghost use Rattle.std.specs.Prelude.{◌≡◌, ◌<◌, ◌⊎◌, length};
+ghost use Rattle.experiment.specs.Written.{texts_of};
 ghost use Rattle.control.specs.declared.fault.Cause.TheVariants.{NoEnd};
 ghost use Rattle.dnlab_c.specs.Answers as specs;
 ghost use Rattle.dnlab_c.specs.Answers.{cause_number, faulty, plain, IsPut};
@@ -137,7 +138,7 @@ pub fn put(text: &[u8], room: &mut [u8]) -> Answer
 #[tactic(auto, using(crate::proofs::Answering::put_whole))]
 pub fn put_all(alloc: Global, reports: &[Report], room: &mut [u8]) -> Answer
     ensures { (result ≡ specs.no_memory)
-        ⊎ IsPut (flat_map (λ r. r) reports.now) room.old room.new result }
+        ⊎ IsPut (texts_of reports.now) room.old room.new result }
 {
     let Ok(length) = put_reports(alloc, reports, room) else {
         return no_memory();

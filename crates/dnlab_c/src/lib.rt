@@ -16,7 +16,7 @@ ghost use Rattle.alone.specs.Reports.{reports, tally, IsTextFault};
 ghost use Rattle.dnlab_c.specs.Answers.{Answers, AnswersWithin, IsPut, PutsSome};
 ghost use Rattle.dnlab_c.specs.Guests.{Opens, TakesAt, ClosesAt};
 
-use alone::{Limits, RunFault, Silent, Stop, check_of, made_of, reports_of};
+use alone::{Format, Limits, RunFault, Silent, Stop, check_of, made_of, reports_of};
 pub use answer::Answer;
 use answer::{all_well, fault_answer, no_memory, no_session, put, put_all, too_many_steps};
 use explain_text::{explanation, faults_text};
@@ -60,7 +60,7 @@ pub extern "C" fn dnlab_alone_within(
         steps: Some(most_steps),
         output: None,
     };
-    *answer = match made_of(alloc, text, &limits, &Silent) {
+    *answer = match made_of(alloc, text, Format::Text, &limits, &Silent) {
         Ok(made) => put_all(alloc, made.reports.as_slice(), room),
         Err(Stop::Fault(RunFault::Scenario(fault))) => fault_answer(&fault),
         Err(Stop::Steps { number, total }) => too_many_steps(number, total),

@@ -17,7 +17,7 @@ use Rattle.report.specs.Lines.{line_of, heading_of, report_of}
 use Rattle.report.specs.Lines as lines
 use Rattle.experiment.specs.Kept.{KeptExperiment, view, IsAlone, IsAloneAfter, IsWaiting, IsHousedIn}
 use Rattle.experiment.specs.declared.counts.RecordCounts.{RecordCounts}
-use Rattle.experiment.specs.Written.{Written, AreCountsOf, Counts, HasWritten, IsWritten, CanCount, CanWrite, IsCountable, delivered_of, all_drops_of}
+use Rattle.experiment.specs.Written.{Written, AreCountsOf, Counts, CanCount, Archived, IsArchived, archived_counts, kept_report, CanWrite, IsCountable, delivered_of, all_drops_of}
 
 -- the counts of two parts of a run add up
 count-both : (p : Record → Bool) (rs qs : List Record) → count_by p (rs ++ qs) ≡ count_by p rs + count_by p qs
@@ -34,31 +34,6 @@ counts-more rs qs c d h delivered drops = record {
   drops = drops (sym h.drops);
 }
 
-pub writes_more : (head : List ℕ) (rs qs : List Record) (t u : Written) → HasWritten head rs t → u.text ≡ t.text ++ flat_map line_of qs →
-    Counts (rs ++ qs) u → HasWritten head (rs ++ qs) u
-writes_more head rs qs t u h text counts = record {
-  text = text ∙ ap (λ (l : List ℕ). l ++ flat_map line_of qs) h.text ∙ append_assoc head (flat_map line_of rs) (flat_map line_of qs)
-      ∙ ap (λ (l : List ℕ). head ++ l) (sym (flat_map-append line_of rs qs));
-  counts = counts;
-}
-
-pub written-more : (head : List ℕ) (t u : Written) (p : Pocket) (e f : KeptExperiment) → IsWritten head t p e →
-    ((rs : List Record) → HasWritten head rs t → HasWritten head (rs ++ e.net.log.records) u) →
-    ((earlier : List Record) → IsAloneAfter earlier p e → IsAloneAfter (earlier ++ e.net.log.records) p f) → IsWritten head u p f
-written-more head t u p e f h writes after = record {
-  earlier = h.earlier ++ e.net.log.records;
-  writes = writes h.earlier h.writes;
-  after = after h.earlier h.after;
-}
-
--- nothing was written yet
-pub written-new : (head : List ℕ) (t : Written) (p : Pocket) (e : KeptExperiment) → HasWritten head [] t → IsAlone p e → IsWritten head t p e
-written-new head t p e writes is = record { earlier = []; writes = writes; after = is }
-
-pub written-step : (head : List ℕ) (t : Written) (p q : Pocket) (e f : KeptExperiment) → IsWritten head t p e →
-    ((earlier : List Record) → IsAloneAfter earlier p e → IsAloneAfter earlier q f) → IsWritten head t q f
-written-step head t p q e f h after = record { earlier = h.earlier; writes = h.writes; after = after h.earlier h.after }
-
 -- no count is more than the packets that were made
 pub adds_alone : PacketsAddUp → (rs : List Record) (p : Pocket) (e : KeptExperiment) → IsAloneAfter rs p e → AddsUp (counters_of (with_earlier rs (view p e)).net)
 adds_alone law rs p e is = subst (λ (s : State). AddsUp (counters_of s.net)) (sym is) (law e.spec e.consumed e.steps)
@@ -68,14 +43,14 @@ adds_waiting law t rs p e w =
     let c : Timed = record { moment = t; command = End } in
     subst (λ (s : State). AddsUp (counters_of s.net)) (sym (w.alone c [] (omega arith))) (law e.spec (e.consumed ++ c ∷ []) e.steps)
 
--- what was written of an experiment by itself can be followed by what it has recorded since
-pub can_write : PacketsAddUp → (head : List ℕ) (t : Written) (p : Pocket) (e : KeptExperiment) → IsHousedIn p e → IsWritten head t p e → CanWrite t e
-can_write law head t p e housed h = record {
+-- what was archived of an experiment by itself can be followed by what it has recorded since
+pub can_archive : PacketsAddUp → (a : Archived) (p : Pocket) (e : KeptExperiment) → IsHousedIn p e → IsArchived a p e → CanCount (archived_counts a) e
+can_archive law a p e housed h = record {
   pocket = p;
   housed = housed;
-  earlier = h.earlier;
-  counts = h.writes.counts;
-  adds = adds_alone law h.earlier p e h.after;
+  earlier = a.records;
+  counts = h.counts;
+  adds = adds_alone law a.records p e h.after;
 }
 
 module _ (rs qs : List Record) (made kept : ℕ) (few : made < 2 ^ 64)
@@ -154,11 +129,23 @@ counted-report name earlier t p e h none k counted whole left =
     let traced : Counters → Trace = λ (x : Counters). record { records = earlier; counters = record x { delivered = t.delivered; drops = t.drops } } in
     ap (λ (x : Trace). report_of name x.records x.counters) (ap traced counted ∙ sym (counted-all earlier t p e h none) ∙ left)
 
--- what was written is the report, once the line of the counters stands behind it
-pub written-report : (name head : List ℕ) (t : Written) (p : Pocket) (e : KeptExperiment) (h : IsWritten head t p e) → e.net.log.records ≡ [] → head ≡ heading_of name →
-    (k : Counters) → k ≡ counters_of (view p e).net → (whole : Trace) → trace_of (with_earlier h.earlier (view p e)) ≡ whole →
-    t.text ++ lines.counters_of (record k { delivered = t.delivered; drops = t.drops }) ≡ report_of name whole.records whole.counters
-written-report name head t p e h none is k counted whole left =
-    ap (λ (l : List ℕ). l ++ lines.counters_of (record k { delivered = t.delivered; drops = t.drops }))
-    (h.writes.text ∙ ap (λ (l : List ℕ). l ++ flat_map line_of h.earlier) is)
-    ∙ counted-report name h.earlier t p e h.writes.counts none k counted whole left
+-- nothing was archived yet
+pub archived-new : (a : Archived) (p : Pocket) (e : KeptExperiment) → a.records ≡ [] → AreCountsOf [] (archived_counts a) → IsAlone p e → IsArchived a p e
+archived-new a p e none counts is = record {
+  counts = subst (λ (l : List Record). AreCountsOf l (archived_counts a)) (sym none) counts;
+  after = subst (λ (l : List Record). IsAloneAfter l p e) (sym none) is;
+}
+
+pub archived-step : (a : Archived) (p q : Pocket) (e f : KeptExperiment) → IsArchived a p e →
+    ((earlier : List Record) → IsAloneAfter earlier p e → IsAloneAfter earlier q f) → IsArchived a q f
+archived-step a p q e f h after = record { counts = h.counts; after = after a.records h.after }
+
+-- what was archived is the report, with the counters of the experiment as it stands
+pub archived-report : (a : Archived) (p : Pocket) (e : KeptExperiment) → IsArchived a p e → e.net.log.records ≡ [] →
+    (k : Counters) → k ≡ counters_of (view p e).net → (whole : Trace) → trace_of (with_earlier a.records (view p e)) ≡ whole →
+    record { heading = a.heading; records = a.records; counters = record k { delivered = a.delivered; drops = a.drops } }
+    ≡ kept_report a.heading whole
+archived-report a p e h none k counted whole left =
+    let t : Written = record { text = []; delivered = a.delivered; drops = a.drops } in
+    let traced : Counters → Trace = λ (x : Counters). record { records = a.records; counters = record x { delivered = a.delivered; drops = a.drops } } in
+    ap (kept_report a.heading) (ap traced counted ∙ sym (counted-all a.records t p e (record { delivered = h.counts.delivered; drops = h.counts.drops }) none) ∙ left)

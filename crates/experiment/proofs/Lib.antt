@@ -9,4 +9,5 @@ mod WaitLaws
 mod Going
 mod Settling
 pub mod CallerLemmas
-mod Rooms
+pub mod Rooms
+mod RowLengths

@@ -49,17 +49,17 @@ module _ {A : Type 0} (f : A → List ℕ) where
   put_further rs i n at middle end a b c g h =
       put_both (flat_map f (take i rs)) (flat_map f (take n (drop i rs))) (flat_map f (take (i + n) rs)) (further rs i n) at middle end a b c g h
 
-one-piece : (rs : List (List ℕ)) (i : ℕ) (r : List ℕ) → i < length rs → r ≡ slice_index_or rs i r →
-    flat_map (λ x. x) (take i rs) ++ r ≡ flat_map (λ x. x) (take (i + 1) rs)
-one-piece rs i r below is =
-    ap (λ (l : List ℕ). flat_map (λ x. x) (take i rs) ++ l) (sym (append-nil r))
-    ∙ sym (flat_map-append (λ x. x) (take i rs) (r ∷ []))
-    ∙ ap (λ (t : List ℕ). flat_map (λ x. x) (take i rs ++ t ∷ [])) is
-    ∙ ap (flat_map (λ x. x)) (sym (take_more rs i r below))
+one-piece : {A : Type 0} (f : A → List ℕ) (rs : List A) (i : ℕ) (r : A) → i < length rs → r ≡ slice_index_or rs i r →
+    flat_map f (take i rs) ++ f r ≡ flat_map f (take (i + 1) rs)
+one-piece {A} f rs i r below is =
+    ap (λ (l : List ℕ). flat_map f (take i rs) ++ l) (sym (append-nil (f r)))
+    ∙ sym (flat_map-append f (take i rs) (r ∷ []))
+    ∙ ap (λ (t : A). flat_map f (take i rs ++ t ∷ [])) is
+    ∙ ap (flat_map f) (sym (take_more rs i r below))
 
-pub put_piece : (rs : List (List ℕ)) (i : ℕ) (r : List ℕ) → i < length rs → r ≡ slice_index_or rs i r →
+pub put_piece : {A : Type 0} (f : A → List ℕ) (rs : List A) (i : ℕ) (r : A) → i < length rs → r ≡ slice_index_or rs i r →
     (at middle end : ℕ) (a b c : List ℕ) →
-    IsPutAt (flat_map (λ x. x) (take i rs)) at a b middle → IsPutAt r middle b c end →
-    IsPutAt (flat_map (λ x. x) (take (i + 1) rs)) at a c end
-put_piece rs i r below is at middle end a b c g h =
-    put_both (flat_map (λ x. x) (take i rs)) r (flat_map (λ x. x) (take (i + 1) rs)) (one-piece rs i r below is) at middle end a b c g h
+    IsPutAt (flat_map f (take i rs)) at a b middle → IsPutAt (f r) middle b c end →
+    IsPutAt (flat_map f (take (i + 1) rs)) at a c end
+put_piece f rs i r below is at middle end a b c g h =
+    put_both (flat_map f (take i rs)) (f r) (flat_map f (take (i + 1) rs)) (one-piece f rs i r below is) at middle end a b c g h

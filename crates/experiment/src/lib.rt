@@ -8,6 +8,7 @@ mod experiment;
 mod keeper;
 mod rehousing;
 mod room;
+mod rows;
 mod sessions;
 mod told;
 mod touched;
@@ -19,6 +20,7 @@ pub use counts::RecordCounts;
 pub use experiment::{ApplyError, Event, Experiment};
 pub use keeper::{BATCH, Report, ReportKeeper};
 pub use room::put_reports;
+pub use rows::{count_rows, npy_length};
 pub use sessions::{
     ended_sessions_are_whole, ended_states_are_whole, sessions_are_alone, transcripts_are_whole,
 };

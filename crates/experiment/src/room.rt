@@ -3,6 +3,7 @@
 ghost use Rattle.std.specs.Prelude.{◌≡◌, ◌+◌, ◌<◌, ◌≤◌, flat_map, length, take, drop, IfOk};
 ghost use Rattle.report.specs.Lines.{line_of};
 ghost use Rattle.experiment.specs.Rooms.{IsPutAt};
+ghost use Rattle.experiment.specs.Written.{text_of, texts_of};
 
 use crate::keeper::Report;
 use report::{Archive, Moments, Source, write_some};
@@ -76,7 +77,7 @@ fn put_report(
     moments: &mut Moments,
     report: &Report,
 ) -> Result<usize, AllocError>
-    ensures put { IfOk result (IsPutAt report.now at room.old room.new) }
+    ensures put { IfOk result (IsPutAt (text_of report.now) at room.old room.new) }
     ensures room { length room.new ≡ length room.old }
 {
     let (heading, records, last) = report.parts();
@@ -90,7 +91,7 @@ fn put_report(
 /// the sheet on which lines are built.
 #[tactic(auto, using(crate::proofs::Rooms::put_none, crate::proofs::Rooms::put_piece))]
 pub fn put_reports(alloc: Global, reports: &[Report], room: &mut [u8]) -> Result<usize, AllocError>
-    ensures put { IfOk result (IsPutAt (flat_map (λ r. r) reports.now) 0 room.old room.new) }
+    ensures put { IfOk result (IsPutAt (texts_of reports.now) 0 room.old room.new) }
     ensures room { length room.new ≡ length room.old }
 {
     let mut sheet = Vec::new(alloc);

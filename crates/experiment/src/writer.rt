@@ -58,9 +58,6 @@ impl ReportWriter {
             (self.new.text ≡ self.old.text ++ flat_map line_of experiment.old.net.log.records) }
         ensures counts { OnOk result ((rs : List Record) → Counts rs self.old →
             Counts (rs ++ experiment.old.net.log.records) self.new) }
-        ensures writes { OnOk result ((head : List ℕ) (rs : List Record) →
-            HasWritten head rs self.old →
-            HasWritten head (rs ++ experiment.old.net.log.records) self.new) }
         ensures rest { OnOk result (experiment.new ≡ record experiment.old {
           net = record experiment.old.net { log = experiment.new.net.log };
         }) }

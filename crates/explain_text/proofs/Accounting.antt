@@ -3,9 +3,10 @@ use Rattle.std.proofs.Common.{◌≡◌, ℕ, List, [], ◌∷◌, ◌++◌, len
 use Rattle.std.proofs.lemmas.List.{append-nil}
 use Rattle.explain.specs.declared.account.RefusedCommand.{RefusedCommand}
 use Rattle.explain.specs.declared.notes.Note.{Note}
+use Rattle.experiment.specs.Written.{KeptReport}
 use Rattle.explain_text.specs.Accounts.{IsAccountFrom}
 
-pub account_ends : (e : ℕ) (ts rest : List (List ℕ)) (refusals : List RefusedCommand) (notes : List Note) → length rest ≡ 0 →
+pub account_ends : (e : ℕ) (ts rest : List KeptReport) (refusals : List RefusedCommand) (notes : List Note) → length rest ≡ 0 →
     ((more : List RefusedCommand) (others : List Note) → IsAccountFrom e rest more others → IsAccountFrom 1 ts (refusals ++ more) (notes ++ others)) →
     IsAccountFrom 1 ts refusals notes
 account_ends e ts [] refusals notes none all =

@@ -124,8 +124,7 @@ fn doubts_of_run(
     let Some(report) = run.reports.get(place) else {
         return Ok(Vec::new(alloc));
     };
-    let (_, records, _) = report.parts();
-    let watches = watch_flows(alloc, commands, records)?;
+    let watches = watch_flows(alloc, commands, report.records())?;
     of_flows(alloc, watches.as_slice(), is_spent(run, number))
 }
 

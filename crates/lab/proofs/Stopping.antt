@@ -39,13 +39,13 @@ output_not_gate limit n (Steps number total) stop is = cc
 output_not_gate limit n (Output bytes) stop is = cc
 
 -- a fault of the workers
-pub together_stop : (may_refuse : Bool) (limits : Limits) (text : List ℕ) (e : RunFault) → IsTogetherFault may_refuse e → StopsUnwritten limits (Some text) (Fault e)
-together_stop may_refuse limits text (Scenario f) fault = absurd (cc)
-together_stop may_refuse limits text Read fault = tt
-together_stop may_refuse limits text Write fault = absurd (cc)
-together_stop may_refuse limits text Memory fault = tt
-together_stop may_refuse limits text Strange fault = tt
-together_stop may_refuse limits text Gate fault = tt
+pub together_stop : (may_refuse : Bool) (limits : Limits) (says : List Experiment → List ℕ) (text : List ℕ) (e : RunFault) → IsTogetherFault may_refuse e → StopsUnwritten limits says (Some text) (Fault e)
+together_stop may_refuse limits says text (Scenario f) fault = absurd (cc)
+together_stop may_refuse limits says text Read fault = tt
+together_stop may_refuse limits says text Write fault = absurd (cc)
+together_stop may_refuse limits says text Memory fault = tt
+together_stop may_refuse limits says text Strange fault = tt
+together_stop may_refuse limits says text Gate fault = tt
 
 pub together_unread : (T : Type 0) (may_refuse : Bool) (e : RunFault) → IsTogetherFault may_refuse e → reader_failed (leaves {T = T} (Err (Fault e))) ≡ false
 together_unread T may_refuse (Scenario f) fault = refl

@@ -6,7 +6,7 @@ ghost use Rattle.alone.specs.Reports.{reports, Calls, Ends};
 
 use crate::plan::{Gate, Plan};
 use crate::within::run_within;
-use alone::{Inlet, Limits, Outlet, Progress, RunFault, Silent, unlimited_outcome};
+use alone::{Format, Inlet, Limits, Outlet, Progress, RunFault, Silent, unlimited_outcome};
 use std::alloc::Global;
 use std::sync::Wait;
 use std::thread::Threads;
@@ -59,7 +59,16 @@ pub fn run_with_progress<
     let limits = Limits::none();
     let mut text = Vec::new(alloc);
     let outcome = run_within(
-        rt, alloc, reader, writer, &mut text, &limits, plan, gate, progress,
+        rt,
+        alloc,
+        reader,
+        writer,
+        &mut text,
+        Format::Text,
+        &limits,
+        plan,
+        gate,
+        progress,
     );
     unlimited_outcome(outcome)
 }

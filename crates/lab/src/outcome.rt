@@ -1,7 +1,8 @@
 //! The outcome of an experiment that was run.
 
 ghost use Rattle.std.specs.Prelude.{◌≡◌, ◌++◌, IfOk};
-ghost use Rattle.report.specs.Lines.{report_of};
+ghost use Rattle.report.specs.Lines.{heading_of};
+ghost use Rattle.experiment.specs.Written.{kept_report};
 
 use emu_model::{Counters, Record};
 use experiment::Report;
@@ -41,7 +42,7 @@ impl Outcome {
     /// Returns the report of an experiment with this name and outcome. Fails with `AllocError` if
     /// memory runs out.
     pub(crate) fn into_report(self, alloc: Global, name: &[u8]) -> Result<Report, AllocError>
-        ensures { IfOk result (λ r. r ≡ report_of name.now self.records self.counters) }
+        ensures { IfOk result (λ r. r ≡ kept_report (heading_of name.now) self) }
     {
         let Outcome {
             mut archive,

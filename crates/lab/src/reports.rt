@@ -2,7 +2,7 @@
 
 ghost use Rattle.std.specs.Prelude.{◌≡◌, map, IfOk, IfErr};
 ghost use Rattle.lab.specs.Plans.{IsMemory};
-ghost use Rattle.alone.specs.Reports.{trace_alone, report_alone};
+ghost use Rattle.alone.specs.Reports.{trace_alone, made_alone};
 
 use crate::outcome::Outcome;
 use alone::RunFault;
@@ -13,7 +13,7 @@ use std::alloc::Global;
 // Returns the report of an experiment, given its outcome.
 fn report_of_one(alloc: Global, script: &Experiment, outcome: Outcome) -> Result<Report, RunFault>
     requires { outcome ≡ trace_alone script.now }
-    ensures ok { IfOk result (λ report. report ≡ report_alone script.now) }
+    ensures ok { IfOk result (λ report. report ≡ made_alone script.now) }
     ensures err { IfErr result IsMemory }
 {
     let Ok(report) = outcome.into_report(alloc, script.name.as_bytes()) else {
@@ -30,7 +30,7 @@ pub(crate) fn reports_in_turn(
     outcomes: Vec<Outcome>,
 ) -> Result<Vec<Report>, RunFault>
     requires { outcomes.items ≡ map trace_alone scripts.now }
-    ensures ok { IfOk result (λ reports. reports.items ≡ map report_alone scripts.now) }
+    ensures ok { IfOk result (λ reports. reports.items ≡ map made_alone scripts.now) }
     ensures err { IfErr result IsMemory }
 {
     let mut reports = Vec::new(alloc);

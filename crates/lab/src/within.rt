@@ -1,17 +1,18 @@
 //! `run` within limits: it reads all of its input before the first step, and makes all steps before
 //! it writes anything; an exceeded limit stops it before either.
 
-ghost use Rattle.std.specs.Prelude.{◌≡◌, ◌≢◌, Some, flat_map, IfOk, IfErr, OnOk, Err, true, false};
+ghost use Rattle.std.specs.Prelude.{◌≡◌, ◌≢◌, Some, IfOk, IfErr, OnOk, Err, true, false};
 ghost use Rattle.alone.specs.declared.limits.Stop.TheVariants as stops;
 ghost use Rattle.alone.specs.Bytes.{IsRead};
-ghost use Rattle.alone.specs.Reports.{Ends, reader_failed};
+ghost use Rattle.alone.specs.Reports.{Ends, bytes_as, output_as, reader_failed};
 ghost use Rattle.alone.specs.Within.{CallsWithin, IsMade, MakesWithin, StopsUnwritten, done_of, leaves};
 
 use crate::plan::{Gate, Plan};
 use crate::reports::reports_in_turn;
 use crate::together::run_together;
 use alone::{
-    Inlet, Limits, Made, Outlet, Progress, RunFault, Stop, read_text, scenario_of, write_reports,
+    Format, Inlet, Limits, Made, Outlet, Progress, RunFault, Stop, read_text, scenario_of,
+    write_reports,
 };
 use std::alloc::Global;
 use std::sync::Wait;
@@ -23,15 +24,16 @@ fn made_together<H: Threads + Wait + Sync, G: Gate, P: Progress + Sync>(
     rt: &H,
     alloc: Global,
     text: &[u8],
+    format: Format,
     limits: &Limits,
     plan: Plan,
     gate: &G,
     progress: &P,
 ) -> Result<Made, Stop>
-    ensures within { IfOk result (λ m. MakesWithin limits.now (Some text.now)
-        (flat_map (λ r. r) m.reports.items)) }
+    ensures within { IfOk result (λ m. MakesWithin limits.now (output_as format) (Some text.now)
+        (bytes_as format m.reports.items)) }
     ensures made { IfOk result (IsMade (Some text.now)) }
-    ensures stop { IfErr result (StopsUnwritten limits.now (Some text.now)) }
+    ensures stop { IfErr result (StopsUnwritten limits.now (output_as format) (Some text.now)) }
     ensures gate { result ≡ Err (stops.Fault RunFault.Gate) → G.may_refuse ≡ true }
     ensures unread { reader_failed (leaves result) ≡ false }
 {
@@ -49,7 +51,7 @@ fn made_together<H: Threads + Wait + Sync, G: Gate, P: Progress + Sync>(
         Ok(reports) => reports,
         Err(fault) => return Err(Stop::Fault(fault)),
     };
-    limits.check_reports(alloc, reports.as_slice())?;
+    limits.check_reports(alloc, format, reports.as_slice())?;
     Ok(Made { scenario, reports })
 }
 
@@ -63,15 +65,16 @@ pub fn run_within<H: Threads + Wait + Sync, R: Inlet, W: Outlet, G: Gate, P: Pro
     reader: &mut R,
     writer: &mut W,
     text: &mut Vec<u8>,
+    format: Format,
     limits: &Limits,
     plan: Plan,
     gate: &G,
     progress: &P,
 ) -> Result<Made, Stop>
-    ensures calls { CallsWithin limits.now (R.remaining reader.old) (W.contents writer.old)
-        (W.contents writer.new) (done_of result) }
-    ensures on_text { CallsWithin limits.now (Some text.new.items) (W.contents writer.old)
-        (W.contents writer.new) (done_of result) }
+    ensures calls { CallsWithin limits.now (output_as format) (R.remaining reader.old)
+        (W.contents writer.old) (W.contents writer.new) (done_of result) }
+    ensures on_text { CallsWithin limits.now (output_as format) (Some text.new.items)
+        (W.contents writer.old) (W.contents writer.new) (done_of result) }
     ensures ends { Ends (leaves (done_of result)) (R.remaining reader.old) (R.remaining reader.new)
         (R.failed reader.new) (W.failed writer.old) (W.failed writer.new) writer.old writer.new }
     ensures gate { result ≡ Err (stops.Fault RunFault.Gate) → G.may_refuse ≡ true }
@@ -86,7 +89,16 @@ pub fn run_within<H: Threads + Wait + Sync, R: Inlet, W: Outlet, G: Gate, P: Pro
         Ok(text) => text,
         Err(fault) => return Err(Stop::Fault(fault)),
     };
-    let made = made_together(rt, alloc, text.as_slice(), limits, plan, gate, progress)?;
-    write_reports(alloc, writer, made.reports.as_slice())?;
+    let made = made_together(
+        rt,
+        alloc,
+        text.as_slice(),
+        format,
+        limits,
+        plan,
+        gate,
+        progress,
+    )?;
+    write_reports(alloc, writer, format, made.reports.as_slice())?;
     Ok(made)
 }

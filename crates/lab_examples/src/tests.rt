@@ -1,7 +1,7 @@
 //! Worked examples over memory: the output, and the fault of each text that is not a scenario.
 
 use alone::{
-    Device, Inlet, Limits, Outlet, RunFault, Silent, Stop, Trouble, check, run_alone,
+    Device, Format, Inlet, Limits, Outlet, RunFault, Silent, Stop, Trouble, check, run_alone,
     run_alone_within,
 };
 use control::{Cause, Fault};

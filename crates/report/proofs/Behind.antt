@@ -1,5 +1,5 @@
 -- Bytes up to a place, after some were written there.
-use Rattle.std.proofs.Common.{◌≡◌, ℕ, ◌+◌, ◌<◌, ◌≤◌, List, [], ◌∷◌, length, get_or, take, set, ◌++◌, arith, sym, ap, ◌∙◌, append_assoc, length-set, refl}
+use Rattle.std.proofs.Common.{◌≡◌, ℕ, ◌+◌, ◌<◌, ◌≤◌, List, [], ◌∷◌, length, get_or, take, set, ◌++◌, arith, sym, ap, ◌∙◌, append_assoc, append-nil, length-set, refl, subst}
 use Rattle.std.proofs.lemmas.List.{take_more_set, take-take, length-take-le}
 use lib.Seq.{take-append-add}
 
@@ -88,3 +88,23 @@ first_put old new word at most count inside few put =
     ∙ ap (take (at + count)) put
     ∙ ap (λ n. take (n + count) (take at old ++ word)) (sym front)
     ∙ take-append-add (take at old) word count
+
+-- five words of eight bytes, one behind the other
+pub five_put :
+    (x0 x1 x2 x3 x4 x5 a b c d e : List ℕ) (at : ℕ)
+    → take (at + 8) x1 ≡ take at x0 ++ a
+    → take (at + 8 + 8) x2 ≡ take (at + 8) x1 ++ b
+    → take (at + 16 + 8) x3 ≡ take (at + 16) x2 ++ c
+    → take (at + 24 + 8) x4 ≡ take (at + 24) x3 ++ d
+    → take (at + 32 + 8) x5 ≡ take (at + 32) x4 ++ e
+    → take (at + 40) x5 ≡ take at x0 ++ (a ++ (b ++ (c ++ (d ++ (e ++ [])))))
+five_put x0 x1 x2 x3 x4 x5 a b c d e at p q r s t =
+    let e2 : at + 8 + 8 ≡ at + 16 = omega arith in
+    let e3 : at + 16 + 8 ≡ at + 24 = omega arith in
+    let e4 : at + 24 + 8 ≡ at + 32 = omega arith in
+    let e5 : at + 32 + 8 ≡ at + 40 = omega arith in
+    let q2 : take (at + 16) x2 ≡ take (at + 8) x1 ++ b = subst (λ n. take n x2 ≡ take (at + 8) x1 ++ b) e2 q in
+    let q3 : take (at + 24) x3 ≡ take (at + 16) x2 ++ c = subst (λ n. take n x3 ≡ take (at + 16) x2 ++ c) e3 r in
+    let q4 : take (at + 32) x4 ≡ take (at + 24) x3 ++ d = subst (λ n. take n x4 ≡ take (at + 24) x3 ++ d) e4 s in
+    let q5 : take (at + 40) x5 ≡ take (at + 32) x4 ++ e = subst (λ n. take n x5 ≡ take (at + 32) x4 ++ e) e5 t in
+    q5 ∙ rw (q4, q3, q2, p, append-nil) (simp append_assoc)

@@ -9,4 +9,5 @@ pub mod Taken
 pub mod Equalities
 mod Packing
 mod WholeRecords
+pub mod RowLengths
 pub mod Orders

@@ -5,12 +5,14 @@ ghost use Rattle.std.specs.List.{All};
 ghost use Rattle.report.specs.Archive.{entry_of, IsEntry};
 ghost use Rattle.report.specs.Orders.{AreRuns, IsStored, in_order};
 ghost use Rattle.report.specs.Room.{spare};
+ghost use Rattle.report.specs.Rows.{record_bytes};
 ghost use Rattle.emu_model.specs.declared.records.Record.{Record};
 ghost use Rattle.emu_model.specs.declared.records.Record.TheVariants.{StepsSpent};
 
 use crate::clock::Clock;
 use crate::events::put_parts;
 use crate::packed::{Kind, Packed, Parts, pack, parts_of, place_mark, record_of, unpack};
+use crate::rows::{self, put_whole};
 use crate::source::Source;
 use emu_model::Record;
 use std::alloc::{AllocError, Global};
@@ -367,6 +369,20 @@ impl Archive {
         match parts.kind {
             Kind::Whole => Stored::Whole(&self.others[word.high as usize]),
             _ => Stored::Common(parts),
+        }
+    }
+
+    /// Writes the row of the record at a place.
+    #[inline(always)]
+    pub(crate) fn put_row(&self, page: &mut [u8], at: usize, experiment: u8, place: usize)
+        requires room { at + 40 ≤ length page.old }
+        requires inside { place < length self.now }
+        ensures { let entry = slice_index_or self.now place (StepsSpent 0) in
+            take (at + 40) page.new ≡ take at page.old ++ record_bytes experiment entry }
+    {
+        match self.stored(place) {
+            Stored::Whole(entry) => put_whole(page, at, experiment, entry),
+            Stored::Common(parts) => rows::put_parts(page, at, experiment, parts),
         }
     }
 }

@@ -20,7 +20,7 @@ from dnlab.errors import ProgramError  # noqa: E402
 from dnlab.io.scenario import findings  # noqa: E402
 
 # The commands that read a text, and the options that have a value.
-READS, VALUED = ("alone", "run", "check"), ("--workers", "--moves", "--max-steps", "--max-output")
+READS, VALUED = ("alone", "run", "check"), ("--workers", "--moves", "--format", "--max-steps", "--max-output")
 _HELP = ("--help", "-h")
 LINUX = " (it needs Linux on x86-64)"
 _OF_FILES = """

@@ -19,9 +19,20 @@ fn within<H: Abort + Threads + Wait + Sync + AllocGlobal>(
     let plan = Plan::new(2, 1).ok_or("a plan")?;
     let (from, to, text) = (&mut reader, &mut writer, &mut Vec::new(alloc));
     let outcome = if is_alone {
-        run_alone_within(alloc, from, to, text, limits, &Silent)
+        run_alone_within(alloc, from, to, text, Format::Text, limits, &Silent)
     } else {
-        run_within(rt, alloc, from, to, text, limits, plan, &OpenGate, &Silent)
+        run_within(
+            rt,
+            alloc,
+            from,
+            to,
+            text,
+            Format::Text,
+            limits,
+            plan,
+            &OpenGate,
+            &Silent,
+        )
     };
     assert!(rt; text.as_slice() == texts::FOUR_EXPERIMENTS.as_bytes());
     match outcome {

@@ -1,15 +1,22 @@
-use Rattle.std.proofs.Common.{refl, ap, ◌∙◌, arith}
+use Rattle.std.proofs.Common.{rules, refl, ap, ◌∙◌, arith}
 use Rattle.packet_store.specs.Own.{own_pocket}
-use Rattle.experiment.proofs.CallerLemmas.{written-step, can_write}
+use Rattle.experiment.proofs.CallerLemmas.{archived-step, can_archive}
 use Rattle.alone.proofs.alone.advance.Goals as goal
 
 pub loop-experiment-init : goal.loop-experiment-init
-loop-experiment-init g c = record { housed = c.requires.housed; written = λ head h. h; spec = refl; consumed = refl; going = λ g. g }
+loop-experiment-init g c = record {
+  housed = c.requires.housed;
+  heading = refl;
+  archived = λ h. h;
+  spec = refl;
+  consumed = refl;
+  going = λ g. g;
+}
 
 pub keep_batch-requires : goal.keep_batch-requires
 keep_batch-requires g c =
-    can_write c.packets_add_up.ensures c.requires.written.0 c.loop-experiment.report (own_pocket c.loop-experiment.shelf) c.loop-experiment.experiment
-    c.loop-experiment.invariant.housed (c.loop-experiment.invariant.written c.requires.written.0 c.requires.written.1)
+    can_archive c.packets_add_up.ensures c.loop-experiment.report (own_pocket c.loop-experiment.shelf) c.loop-experiment.experiment
+    c.loop-experiment.invariant.housed (c.loop-experiment.invariant.archived c.requires.archived)
 
 pub event-requires : goal.event-requires
 event-requires g c = c.in_ok-keep_batch.ensures.housed _ c.loop-experiment.invariant.housed
@@ -26,9 +33,25 @@ loop-experiment-preserved g c =
     let batch = c.in_ok-keep_batch.ensures in
     record {
       housed = c.event.ensures.housed;
-      written = λ head h. written-step head c.keep_batch.new.report (own_pocket c.loop-experiment.shelf) (own_pocket c.event.new.shelf) c.keep_batch.new.experiment c.event.new.self
-          (batch.written head (own_pocket c.loop-experiment.shelf) (inv.written head h)) c.event.ensures.after;
+      heading = batch.heading ∙ inv.heading;
+      archived = λ h. archived-step c.keep_batch.new.report (own_pocket c.loop-experiment.shelf) (own_pocket c.event.new.shelf) c.keep_batch.new.experiment c.event.new.self
+          (batch.archived (own_pocket c.loop-experiment.shelf) (inv.archived h)) c.event.ensures.after;
       spec = c.event.ensures.spec ∙ ap (λ e. e.spec) batch.rest ∙ inv.spec;
       consumed = c.event.ensures.consumed ∙ ap (λ e. e.consumed) batch.rest ∙ inv.consumed;
       going = λ g. c.in-Ran.ensures.makes.1;
+    }
+
+pub returns-in-Ended : goal.returns-in-Ended
+returns-in-Ended g c =
+    let inv = c.loop-experiment.invariant in
+    let batch = c.in_ok-keep_batch.ensures in
+    record {
+      at_rest = search rules;
+      housed = c.event.ensures.housed;
+      heading = batch.heading ∙ inv.heading;
+      archived = λ h. archived-step c.keep_batch.new.report (own_pocket c.loop-experiment.shelf) (own_pocket c.event.new.shelf) c.keep_batch.new.experiment c.event.new.self
+          (batch.archived (own_pocket c.loop-experiment.shelf) (inv.archived h)) c.event.ensures.after;
+      spec = c.event.ensures.spec ∙ ap (λ e. e.spec) batch.rest ∙ inv.spec;
+      consumed = c.event.ensures.consumed ∙ ap (λ e. e.consumed) batch.rest ∙ inv.consumed;
+      few = search rules;
     }

@@ -1,14 +1,15 @@
 use Rattle.std.proofs.Common.{refl, ap, ◌∙◌, ◌+◌, arith, drop, inl, inr, Err}
 use Rattle.std.specs.Prelude.{is_some}
 use Rattle.packet_store.specs.Own.{own_pocket}
-use Rattle.experiment.proofs.CallerLemmas.{written-step}
+use Rattle.experiment.proofs.CallerLemmas.{archived-step}
 use Rattle.alone.proofs.Turns.{early, not-before, one-more, goes-on, has-ended, played-all, is-none, is-some, drop-end}
 use Rattle.alone.proofs.alone.play.Goals as goal
 
 pub loop-command-init : goal.loop-command-init
 loop-command-init g c = record {
   housed = c.requires.housed;
-  written = λ head h. h;
+  heading = refl;
+  archived = λ h. h;
   spec = refl;
   consumed = c.requires.new.consumed;
   ending = c.requires.new.ending;
@@ -22,11 +23,10 @@ apply-requires g c = early c.args.commands.now c.loop-command.command-index c.co
 pub advance-requires-clause-housed : goal.advance-requires-clause-housed
 advance-requires-clause-housed g c = c.apply.ensures.housed _ c.loop-command.invariant.housed
 
-pub advance-requires-clause-written : goal.advance-requires-clause-written
-advance-requires-clause-written g c =
+pub advance-requires-clause-archived : goal.advance-requires-clause-archived
+advance-requires-clause-archived g c =
     let p = own_pocket c.loop-command.shelf in
-    let head = c.requires.written.0 in
-    (head, written-step head c.loop-command.report p p c.loop-command.experiment c.apply.new.self (c.loop-command.invariant.written head c.requires.written.1) (λ earlier. c.apply.ensures.after earlier p))
+    archived-step c.loop-command.report p p c.loop-command.experiment c.apply.new.self (c.loop-command.invariant.archived c.requires.archived) (λ earlier. c.apply.ensures.after earlier p)
 
 pub loop-command-preserved : goal.loop-command-preserved
 loop-command-preserved g c =
@@ -36,7 +36,8 @@ loop-command-preserved g c =
     let ending = ap (λ o. o) (is-none c.advance.new.experiment.ending c.is_some.result c.if-is_some.false (c.is_some.ensures ∙ ap is_some c.ending.ensures)) in
     record {
       housed = moved.housed;
-      written = λ head h. moved.written head (written-step head c.loop-command.report (own_pocket c.loop-command.shelf) (own_pocket c.loop-command.shelf) c.loop-command.experiment c.apply.new.self (inv.written head h)
+      heading = moved.heading ∙ inv.heading;
+      archived = λ h. moved.archived (archived-step c.loop-command.report (own_pocket c.loop-command.shelf) (own_pocket c.loop-command.shelf) c.loop-command.experiment c.apply.new.self (inv.archived h)
           (λ earlier. c.apply.ensures.after earlier (own_pocket c.loop-command.shelf)));
       spec = moved.spec ∙ ap (λ e. e.spec) put ∙ inv.spec;
       consumed = moved.consumed ∙ ap (λ e. e.consumed) put ∙ one-more c.args.commands.now c.loop-command.experiment.consumed c.loop-command.command-index c.command-item.result c.loop-command-test.true c.command-item.is inv.consumed;
@@ -50,7 +51,8 @@ returns-after-loop-command g c =
     let inv = c.loop-command.invariant in
     record {
       housed = inv.housed;
-      written = inv.written;
+      heading = inv.heading;
+      archived = inv.archived;
       spec = inv.spec;
       rest = drop c.loop-command.command-index c.args.commands.now;
       all = played-all c.args.commands.now c.loop-command.experiment.consumed c.loop-command.command-index inv.consumed;
@@ -66,7 +68,8 @@ returns-then-is_some g c =
     let ended = is-some c.advance.new.experiment.ending c.is_some.result c.if-is_some.true (c.is_some.ensures ∙ ap is_some c.ending.ensures) in
     record {
       housed = moved.housed;
-      written = λ head h. moved.written head (written-step head c.loop-command.report (own_pocket c.loop-command.shelf) (own_pocket c.loop-command.shelf) c.loop-command.experiment c.apply.new.self (inv.written head h)
+      heading = moved.heading ∙ inv.heading;
+      archived = λ h. moved.archived (archived-step c.loop-command.report (own_pocket c.loop-command.shelf) (own_pocket c.loop-command.shelf) c.loop-command.experiment c.apply.new.self (inv.archived h)
           (λ earlier. c.apply.ensures.after earlier (own_pocket c.loop-command.shelf)));
       spec = moved.spec ∙ ap (λ e. e.spec) put ∙ inv.spec;
       rest = drop (c.loop-command.command-index + 1) c.args.commands.now;

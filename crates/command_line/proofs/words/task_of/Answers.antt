@@ -1,4 +1,5 @@
-use Rattle.std.proofs.Common.{Global, ◌≡◌, ◌∙◌, ap, sym, subst, map, [], option_map}
+use Rattle.std.proofs.Common.{Global, ◌≡◌, ◌∙◌, ap, sym, subst, map, []}
+use Rattle.std.specs.Prelude.{option_and_then}
 use Rattle.std.specs.String.{string_bytes}
 use Rattle.clap.specs.Words.{App, HasKind, Kinds, app_of, fault_of, is_simple, subcommand_of}
 use Rattle.clap.specs.Faults.{is_simple_and_free}
@@ -18,7 +19,7 @@ returns-in-Ok-clause-plan c =
     let words = map (string_bytes {Z = Global}) c.args.words.now in
     let is : app_of c.in_ok-command.command ≡ dnlab = c.in_ok-command.ensures.0 in
     let met = c.in-Ok.ensures.matches (ap is_simple is ∙ is_simple_dnlab) in
-    ap (option_map task_in) (sym (met.1 ∙ ap (λ (a : App). subcommand_of a words) is)) ∙ c.task_met.ensures
+    ap (option_and_then task_in) (sym (met.1 ∙ ap (λ (a : App). subcommand_of a words) is)) ∙ c.task_met.ensures
 
 pub returns-in-Ok-clause-kinds : goal.returns-in-Ok-clause-kinds
 returns-in-Ok-clause-kinds c =
