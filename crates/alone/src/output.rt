@@ -22,7 +22,8 @@ const LONG: usize = 16_384;
 /// The number of bytes that suffices for the lines that one call formats.
 const PAGE: usize = 4_624;
 
-/// The number of bytes of the page on which rows are built: so many that they bypass the buffer.
+/// The number of bytes of the page on which rows are built. It exceeds `LONG`, so a full page
+/// bypasses the buffer.
 const ROWS_PAGE: usize = 65_520;
 
 /// The bytes that haven't been passed to the writer yet, at most 65536.

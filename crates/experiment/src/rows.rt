@@ -7,9 +7,9 @@ use crate::keeper::Report;
 use report::{ROW, Source, npy_header};
 use std::alloc::{AllocError, Global};
 
-/// Returns the number of rows of reports: one for each record, and one for the counters of each. A
-/// number that doesn't fit into 64 bits is an `AllocError`: so many can't be in memory, but no
-/// contract says so.
+/// Returns the number of rows of reports: one for each record, and one for the counters of each.
+/// Fails with `AllocError` if the number doesn't fit into 64 bits. No experiment makes that many
+/// records, but no contract says so.
 pub fn count_rows(reports: &[Report]) -> Result<usize, AllocError>
     ensures { IfOk result (λ n. n ≡ row_count reports.now) }
 {

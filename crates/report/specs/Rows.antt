@@ -15,7 +15,7 @@ use Rattle.emu_model.specs.declared.records.Counters.{Counters}
 use Rattle.report.specs.Words.{code_of}
 use Rattle.report.specs.declared.rows.Row.{Row}
 
--- a number in a column of so many bits: the largest of them if it doesn't fit
+-- a number in a column of `bits` bits: the largest of them if it doesn't fit
 abbrev pub fitted : ℕ → ℕ → ℕ
 fitted bits n = min n (2 ^ bits - 1)
 
@@ -152,10 +152,10 @@ npy_start = 147 ∷ codes "NUMPY" ++ 1 ∷ 0 ∷ 246 ∷ 1 ∷ []
 unfoldable pub columns : List ℕ
 columns = codes "{'descr': [('moment','<i8'),('packet','<u4'),('source','<u4'),('number','<u4'),('more','<u4'),('src','<u4'),('dst','<u4'),('size','<u2'),('pipe','<u2'),('kind','u1'),('instance','u1'),('code','u1'),('experiment','u1')], 'fortran_order': False, 'shape': ("
 
--- a text in so many bytes, with spaces after it
+-- a text in `n` bytes, with spaces at its end
 abbrev pub padded : ℕ → List ℕ → List ℕ
 padded n text = take n text ++ replicate (n - length text) 32
 
--- the header of so many rows
+-- the header for this number of rows
 abbrev pub npy_header : ℕ → List ℕ
 npy_header rows = padded 511 (npy_start ++ columns ++ decimal rows ++ codes ",), }") ++ codes "\n"

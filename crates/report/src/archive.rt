@@ -332,7 +332,7 @@ impl Archive {
         self.words.reserve(records.len())?;
         self.order.runs.reserve(2)?;
         let before = self.words.as_slice().len();
-        // So many records are never in memory, but no contract says so.
+        // No experiment makes 2^64 records, but no contract says so.
         let room = usize::MAX - (before - self.order.tail);
         if self.order.closed > room || records.len() > room - self.order.closed {
             return Err(AllocError);

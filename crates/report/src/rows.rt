@@ -481,7 +481,7 @@ fn append_columns(header: &mut Vec<u8>) -> Result<(), AllocError>
     header.extend_from_slice(COLUMNS)
 }
 
-/// Returns the header of so many rows, in NumPy's format .npy 1.0: 512 bytes. Fails with
+/// Returns the header for `count` rows, in NumPy's format .npy 1.0: 512 bytes. Fails with
 /// `AllocError` if memory runs out.
 pub fn npy_header(alloc: Global, count: u64) -> Result<Vec<u8>, AllocError>
     ensures { IfOk result (λ h. h.items ≡ rows.npy_header count) }
