@@ -15,7 +15,6 @@ mod rules;
 mod run_laws;
 mod sources;
 mod trace_laws;
-mod unchecked;
 
 pub use codel_laws::{dropping_begins_with_one, drops_are_on_time, reentry_goes_on};
 pub use commands::{Budget, Command, EventContext, LATEST_MOMENT, Spec, Timed, command_in_range};
@@ -46,7 +45,6 @@ pub use sources::{Class, Due, FlowSpec, SendSpec, Source, Timing, TrainSpec};
 pub use trace_laws::{
     each_make_once, each_packet_once, exits_keep_order, finishes_keep_order, make_comes_first,
 };
-pub use unchecked::no_places;
 
 // Lists hold many of these.
 const _: () = prove!(size_of::<Record>() <= 72);

@@ -11,8 +11,9 @@ ghost use Rattle.emu_rules.specs.RuleCache.{AreTrueOf, IsHeldAt, IsSearchOf, emp
 
 use crate::counted::{Amount, CountedRule};
 use crate::search::{Found, NO_RULE, walk_and_count};
-use emu_model::{Load, Packet, Place, Protocol, RuleNumber, Size, unreachable_unchecked};
+use emu_model::{Load, Packet, Place, Protocol, RuleNumber, Size};
 use std::alloc::{AllocError, Global};
+use unchecked::unreachable_unchecked;
 
 /// The result of a search from a place on for the packets of one flow, and the counts that the
 /// rules don't have yet.

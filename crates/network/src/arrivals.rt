@@ -18,13 +18,14 @@ use crate::flow_cache::{Lookup, Route};
 use crate::state::Network;
 use emu_model::{
     Delay, DropCause, EventContext, Load, Packet, PipeNumber, Place, Record, RuleNumber, SendSpec,
-    Verdict, unreachable_unchecked,
+    Verdict,
 };
 use emu_rules::{Match, NO_RULE};
 use packet_store::{Owner, Shelf};
 use pipe_core::{NO_INSTANCE, keys_say_all};
 use std::alloc::AllocError;
 use traffic::Sending;
+use unchecked::unreachable_unchecked;
 
 // Returns a packet with this header.
 #[inline(always)]

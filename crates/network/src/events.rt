@@ -20,15 +20,13 @@ ghost use Rattle.traffic.specs.Sends.{IsEmitting};
 
 use crate::flow_cache::{Lookup, Route, line_of};
 use crate::state::Network;
-use emu_model::{
-    Class, DropCause, Due, EventContext, FlowNumber, Packet, PipeNumber, Record,
-    unreachable_unchecked,
-};
+use emu_model::{Class, DropCause, Due, EventContext, FlowNumber, Packet, PipeNumber, Record};
 use packet_store::{Owner, Shelf};
 use pipe_core::keys_say_all;
 use pipe_table::RecordLog;
 use std::alloc::AllocError;
 use traffic::Sending;
+use unchecked::unreachable_unchecked;
 
 /// The maximum number of records of an event, apart from one for each thing that is listed or
 /// dropped with others, and from the one for the last step.

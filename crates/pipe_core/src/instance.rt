@@ -18,13 +18,14 @@ ghost use Rattle.pipe_core.specs.Turns.{configured, IsAccept, IsFinish};
 
 use crate::leftovers::Leftovers;
 use crate::service::Service;
-use emu_model::{Delay, LossRate, PipeConfig, PipeNumber, Size, unreachable_unchecked};
+use emu_model::{Delay, LossRate, PipeConfig, PipeNumber, Size};
 use link_core::DelayLine;
 use loss_stream::LossStream;
 use packet_store::Key;
 use queue_disc::{Queue, Queued};
 use std::alloc::{AllocError, Global};
 use std::marker::Model;
+use unchecked::unreachable_unchecked;
 
 /// An instance of a pipe. Packets wait only while another one is in service.
 #[derive(Drop)]

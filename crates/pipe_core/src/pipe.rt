@@ -23,14 +23,13 @@ use crate::slot::Slot;
 use crate::takes::take_all;
 use crate::{Instance, InstanceDues, Shown};
 use due_index::{DueIndex, DueNumber};
-use emu_model::{
-    DropCause, Mask, Packet, PipeConfig, PipeNumber, Refusal, Size, unreachable_unchecked,
-};
+use emu_model::{DropCause, Mask, Packet, PipeConfig, PipeNumber, Refusal, Size};
 use flow_mask::{ApplyMask, FlowId, InstanceError, Instances};
 use packet_store::{Owner, Shelf};
 use std::alloc::{AllocError, Global};
 use std::marker::Model;
 use std::mem;
+use unchecked::unreachable_unchecked;
 
 /// The result of a packet's arrival.
 #[derive(Clone, Copy)]

@@ -13,10 +13,11 @@ ghost use Rattle.pipe_core.specs.Moves.{packet_at, AreNamed};
 use crate::Instance;
 use crate::takes::{clear_for, take_dropped};
 use due_index::DueNumber;
-use emu_model::{DropCause, Packet, PipeConfig, PipeNumber, Source, unreachable_unchecked};
+use emu_model::{DropCause, Packet, PipeConfig, PipeNumber, Source};
 use flow_mask::FlowId;
 use packet_store::{Owner, Shelf};
 use std::alloc::AllocError;
+use unchecked::unreachable_unchecked;
 
 #[derive(Drop)]
 pub(crate) struct Slot {

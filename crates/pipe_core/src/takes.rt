@@ -7,10 +7,11 @@ ghost use Rattle.pipe_core.specs.Keyed.{keys_of};
 
 use crate::Leftovers;
 use crate::slot::Slot;
-use emu_model::{Packet, unreachable_unchecked};
+use emu_model::Packet;
 use packet_store::{Key, Owner, Shelf};
 use queue_disc::Queued;
 use std::alloc::AllocError;
+use unchecked::unreachable_unchecked;
 
 /// Clears a list, and reserves room for `most` packets in it.
 #[inline(always)]

@@ -6,9 +6,9 @@ ghost use Rattle.report.specs.Alike.{AreAlike};
 
 use crate::digits::{EIGHT_DIGITS, put_eight};
 use crate::forward::put_bytes;
-use emu_model::unreachable_unchecked;
 use itoa::write_digits;
 use std::marker::Model;
+use unchecked::unreachable_unchecked;
 
 /// The number of bytes that are copied for a time, which has at most 20 digits.
 const WIDTH: usize = 24;

@@ -9,7 +9,8 @@ use crate::clock::Clock;
 use crate::digits::{put_number, put_small};
 use crate::forward::{put_byte, put_cause, put_instance, put_load, put_next, put_word};
 use crate::packed::{Kind, Parts, cause_at, flow_of, pipe_of};
-use emu_model::{DropCause, Load, PipeNumber, Record, unreachable_unchecked};
+use emu_model::{DropCause, Load, PipeNumber, Record};
+use unchecked::unreachable_unchecked;
 
 /// Writes a time, an event and a number, and returns the end of the number.
 #[inline(always)]

@@ -18,10 +18,9 @@ use crate::words::{
     append_action, append_discipline, append_end, append_header, append_instance, append_mask,
     append_protocol, append_queue, refusal_code,
 };
-use emu_model::{
-    Counters, Load, Mask, PipeConfig, PipeNumber, Record, Rule, SendSpec, unreachable_unchecked,
-};
+use emu_model::{Counters, Load, Mask, PipeConfig, PipeNumber, Record, Rule, SendSpec};
 use std::alloc::AllocError;
+use unchecked::unreachable_unchecked;
 
 // The maximum length of a line, and of a heading without its name.
 const LONGEST_LINE: usize = 400;

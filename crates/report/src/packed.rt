@@ -5,7 +5,8 @@ ghost use Rattle.emu_model.specs.declared.records.Record.TheVariants.{PacketDeli
 ghost use Rattle.report.specs.Archive.{Names, cause_at, kind_at, parts_in, rank, record_of};
 ghost use Rattle.report.specs.declared.packed.Kind.TheVariants.{Whole};
 
-use emu_model::{DropCause, FlowNumber, Load, PipeNumber, Record, unreachable_unchecked};
+use emu_model::{DropCause, FlowNumber, Load, PipeNumber, Record};
+use unchecked::unreachable_unchecked;
 
 /// The kind of a record that fits into sixteen bytes; a `Whole` record is stored elsewhere.
 #[derive(Clone, Copy)]

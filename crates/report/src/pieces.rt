@@ -4,8 +4,8 @@ ghost use Rattle.std.specs.Prelude.{◌+◌, ◌≤◌, ◌++◌, length, decima
 ghost use Rattle.report.specs.Room.{spare, Appends};
 ghost use Rattle.report.specs.Words.{places};
 
-use emu_model::unreachable_unchecked;
 use itoa::Buffer;
+use unchecked::unreachable_unchecked;
 
 /// Appends bytes.
 #[tactic(auto, unfolding(crate::specs::Room::spare))]

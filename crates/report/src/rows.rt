@@ -9,11 +9,10 @@ use crate::archive::Archive;
 use crate::forward::put_bytes;
 use crate::packed::{Kind, Parts, cause_at, flow_of, pipe_of};
 use crate::source::Source;
-use emu_model::{
-    Counters, DropCause, FlowNumber, Load, PipeNumber, Protocol, Record, unreachable_unchecked,
-};
+use emu_model::{Counters, DropCause, FlowNumber, Load, PipeNumber, Protocol, Record};
 use itoa::Buffer;
 use std::alloc::{AllocError, Global};
+use unchecked::unreachable_unchecked;
 
 /// The size of a row, in bytes.
 pub const ROW: usize = 40;

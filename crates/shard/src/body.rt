@@ -13,12 +13,13 @@ use crate::list_mail::ListMail;
 use crate::mail::Mail;
 use emu_model::{
     Counters, Due, Ending, Record, Spec, Timed, dues_stay_ahead, packets_add_up,
-    records_are_not_read, records_grow, unreachable_unchecked,
+    records_are_not_read, records_grow,
 };
 use experiment::{ApplyError, BATCH, Event, Experiment, RecordCounts};
 use packet_store::{Owner, ReservedShelf, Shelf};
 use std::alloc::AllocError;
 use std::marker::Model;
+use unchecked::unreachable_unchecked;
 
 /// An experiment and its mail. Contracts see the experiment with all its records.
 #[derive(Drop)]

@@ -9,11 +9,12 @@ use crate::mail::Mail;
 use crate::parcel::Parcel;
 use crate::shard::Polled;
 use crate::watch::Watch;
-use emu_model::{Class, Due, Source, Spec, Timed, unreachable_unchecked};
+use emu_model::{Class, Due, Source, Spec, Timed};
 use experiment::{ApplyError, Event};
 use packet_store::{OwnShelf, Owner, ReservedShelf, Shelf, Store};
 use std::marker::Model;
 use timer_wheel::Agenda;
+use unchecked::unreachable_unchecked;
 
 /// The source of a resident's entry: it has one entry, whatever it does next.
 const TURN: Source = Source {

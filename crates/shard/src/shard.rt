@@ -13,13 +13,14 @@ use crate::parcel::Parcel;
 use crate::posts::Vacant;
 use crate::resident::Resident;
 use crate::watch::{Unwatched, Watch};
-use emu_model::{PacketBudget, Timed, unreachable_unchecked};
+use emu_model::{PacketBudget, Timed};
 use experiment::Event;
 use packet_store::{OwnShelf, Shelf, Store};
 use std::alloc::{AllocError, Global};
 use std::marker::Model;
 use std::mem;
 use timer_wheel::Agenda;
+use unchecked::unreachable_unchecked;
 
 /// The maximum number of residents of a shard.
 pub const MAX_RESIDENTS: usize = 256;

@@ -8,11 +8,12 @@ ghost use Rattle.emu_model.specs.RunLaws.{same_source};
 ghost use Rattle.timer_wheel.specs.Index.{key_in, whose_of};
 
 use crate::Owner;
-use emu_model::{Source, unreachable_unchecked};
+use emu_model::Source;
 use indexmap::IndexMap;
 use std::alloc::{AllocError, Global};
 use std::hash::{Hash, Hasher};
 use std::marker::Model;
+use unchecked::unreachable_unchecked;
 
 /// A source of an owner, as numbers that are hashed.
 #[derive(Clone, Copy, PartialEq, Eq)]

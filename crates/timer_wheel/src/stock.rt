@@ -9,9 +9,10 @@ use crate::index::Index;
 use crate::ring::Ring;
 use crate::slots::{FREE, LOOSE, SLOTS, Slots};
 use crate::{Entry, Owner};
-use emu_model::{Source, unreachable_unchecked};
+use emu_model::Source;
 use std::alloc::{AllocError, Global};
 use std::marker::Model;
+use unchecked::unreachable_unchecked;
 
 /// Entries, each with a key. The key is in one of the slots, and in a list of its owner's.
 #[derive(Drop)]

@@ -14,9 +14,10 @@ use crate::slots::{FREE, LOOSE, TIES};
 use crate::stock::Stock;
 use crate::ties::{Tie, Ties};
 use crate::{Agenda, Entry, Owner};
-use emu_model::{Source, unreachable_unchecked};
+use emu_model::Source;
 use std::alloc::{AllocError, Global};
 use std::marker::Model;
+use unchecked::unreachable_unchecked;
 
 /// An agenda of 8 levels of 256 slots. All times are in ns.
 ///

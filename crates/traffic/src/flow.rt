@@ -12,12 +12,11 @@ ghost use Rattle.traffic.specs.Sends.{may_send};
 
 use crate::sends::{Sending, Window};
 use due_index::DueNumber;
-use emu_model::{
-    FlowNumber, FlowSpec, Load, Protocol, SendSpec, Size, Source, unreachable_unchecked,
-};
+use emu_model::{FlowNumber, FlowSpec, Load, Protocol, SendSpec, Size, Source};
 use reno_core::{Receiver, Sender};
 use std::alloc::{AllocError, Global};
 use std::marker::Model;
+use unchecked::unreachable_unchecked;
 
 /// The size (bytes) of a header, and of an acknowledgement (our choice).
 const HEADER: u16 = 40;

@@ -1,4 +1,5 @@
 //! Arms that are never reached, without a run-time test (our choice).
+#![tactic(auto)]
 
 ghost use Rattle.std.specs.Prelude.{◌≡◌, []};
 
