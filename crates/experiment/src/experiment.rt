@@ -26,6 +26,9 @@ use std::marker::Model;
 
 /// The reason why a command was not accepted: the next command is still pending, the time is before
 /// that of the last command, the experiment has ended, or memory ran out.
+///
+/// The numbers are those of the specification, which numbers all refusals in one sequence: `Refusal`
+/// has those that a report shows, and 99 is a refused allocation wherever one is numbered.
 #[derive(Clone, Copy, Debug, PartialEq)]
 pub enum ApplyError {
     Busy = 27,

@@ -12,9 +12,11 @@ use std::alloc::AllocError;
 use std::mem;
 
 impl Experiment {
-    /// Notes the current dues, and replaces the contents of `sources` with each source whose dues
-    /// differ from those noted before; a new experiment has noted none. It may also list other
-    /// sources that have dues, and list a source twice. If allocation fails, nothing changes.
+    /// Notes the current dues, and lists the sources whose dues changed since; no program calls it.
+    ///
+    /// The contents of `sources` are replaced with each source whose dues differ from those noted
+    /// before; a new experiment has noted none. The list may also hold other sources that have dues,
+    /// and a source twice. If allocation fails, nothing changes.
     pub fn touched(&mut self, sources: &mut Vec<Source>) -> Result<(), AllocError>
         ensures covers { OnOk result (Covers self.old.noted self.new.noted sources.new.items) }
         ensures no_other { OnOk result
@@ -31,7 +33,7 @@ impl Experiment {
         Ok(())
     }
 
-    /// Returns the dues when they were last noted.
+    /// Returns the dues when they were last noted by `touched`; no program calls it.
     pub fn noted_dues(&self) -> &[Due]
         ensures { result.now ≡ self.now.noted }
     {

@@ -25,7 +25,7 @@ impl Plan {
     }
 }
 
-/// An observer of the turns of a run, which can end the run.
+/// An observer of the turns of a run, which can end the run; programs use only `OpenGate`.
 pub trait Gate: Send + Sync {
     /// True if a gate of this type may return false.
     ghost may_refuse: { Bool };

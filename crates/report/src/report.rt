@@ -13,7 +13,9 @@ use std::alloc::{AllocError, Global};
 // The bytes to reserve per line, including its line feed; most lines have fewer.
 const LINE: usize = 32;
 
-/// Returns the report of an experiment: its name, a line for each record, and its counters.
+/// Returns a whole report, for tests and probes: the programs that users run write it in parts.
+///
+/// A report is the experiment's name, a line for each record, and the counters.
 pub fn report_text(
     alloc: Global,
     name: &[u8],
@@ -33,7 +35,7 @@ pub fn report_text(
     Ok(text)
 }
 
-/// Returns the lines of the rules that were listed.
+/// Returns the lines of the rules that were listed; no program calls it.
 pub fn rule_listing(alloc: Global, records: &[Record]) -> Result<Vec<u8>, AllocError>
     ensures { IfOk result (λ text. text.items ≡ rules_of records.now) }
 {
@@ -47,7 +49,7 @@ pub fn rule_listing(alloc: Global, records: &[Record]) -> Result<Vec<u8>, AllocE
     Ok(text)
 }
 
-/// Returns the lines of the pipes and instances that were listed.
+/// Returns the lines of the pipes and instances that were listed; no program calls it.
 pub fn pipe_listing(alloc: Global, records: &[Record]) -> Result<Vec<u8>, AllocError>
     ensures { IfOk result (λ text. text.items ≡ pipes_of records.now) }
 {

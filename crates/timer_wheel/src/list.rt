@@ -8,7 +8,8 @@ use emu_model::Source;
 use std::alloc::{AllocError, Global};
 use std::marker::Model;
 
-/// All entries in one list, in no order. Each call except `clock` visits all of them.
+/// All entries in one list, in no order; no program uses it. Each call except `clock` visits all
+/// entries, so it is simple enough to compare `Wheel` with.
 #[derive(Drop)]
 pub struct ListAgenda {
     items: Vec<Entry>,
