@@ -102,7 +102,8 @@ class ProcessPool(Generic[T]):
 
     def _raise_lost(self) -> None:
         """Raises the error for a worker that ended. The other workers are ended by SIGKILL."""
-        _kill_all(self._started, os.getpid())
+        # The executor's thread waits for the workers too, and knows their exit codes only when it has ended.
+        self._left()
         ends = [process.exitcode for process in self._started if process.exitcode is not None]
         status = next((it for it in ends if it != -signal.SIGKILL), -signal.SIGKILL)
         ended_by = signal_of(status)
