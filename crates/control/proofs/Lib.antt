@@ -21,3 +21,4 @@ pub mod Lines
 pub mod Faults
 pub mod Refused
 pub mod Taken
+pub mod Tracing

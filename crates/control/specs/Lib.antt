@@ -5,6 +5,7 @@ pub mod Names
 pub mod Order
 pub mod Ranges
 pub mod Scenario
+pub mod Traced
 pub mod Steps
 pub mod Forms
 pub mod Values

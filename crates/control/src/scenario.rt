@@ -1,10 +1,11 @@
 //! The types of a scenario.
 
-ghost use Rattle.std.specs.Prelude.{◌≡◌, [], ◌∷◌, ◌++◌, OnErr, OnOk};
+ghost use Rattle.std.specs.Prelude.{◌≡◌, [], ◌∷◌, ◌++◌, map, OnErr, OnOk};
 ghost use Rattle.control.specs.Ranges.{IsScenario};
+ghost use Rattle.control.specs.Traced.{traced, traced_command};
 
 use crate::names::ExperimentName;
-use emu_model::{Spec, Timed};
+use emu_model::{Command, Spec, Timed};
 use std::alloc::{AllocError, Global};
 use std::marker::Model;
 use std::slice;
@@ -49,6 +50,13 @@ impl CommandList {
         ensures { result.now ≡ self.now }
     {
         self.items.as_slice()
+    }
+
+    // Makes each `trace` command `trace 1`.
+    fn trace(&mut self)
+        ensures { self.new ≡ map traced_command self.old }
+    {
+        trace_commands(self.items.as_mut_slice());
     }
 
     /// Returns the commands as a `Vec`. Does not allocate.
@@ -104,6 +112,16 @@ impl Scenario {
         self.experiments.as_slice()
     }
 
+    /// Returns the experiments with tracing on from their first event, and never off. Does not
+    /// allocate.
+    pub fn traced(self) -> Scenario
+        ensures { result ≡ map traced self }
+    {
+        let Scenario { mut experiments } = self;
+        trace_list(&mut experiments);
+        Scenario::new(experiments)
+    }
+
     /// Returns the experiments as a `Vec`. Does not allocate.
     pub fn into_vec(self) -> Vec<Experiment>
         ensures value { result.items ≡ self }
@@ -112,4 +130,39 @@ impl Scenario {
         let Scenario { experiments } = self;
         experiments
     }
+}
+
+// Makes each `trace` command `trace 1`.
+fn trace_commands(commands: &mut [Timed])
+    ensures { commands.new ≡ map traced_command commands.old }
+{
+    for command in commands.iter_mut() {
+        trace_command(command);
+    }
+}
+
+// Makes a `trace` command `trace 1`.
+fn trace_command(command: &mut Timed)
+    ensures { command.new ≡ traced_command command.old }
+{
+    if let Command::Trace(_) = command.command {
+        command.command = Command::Trace(true);
+    }
+}
+
+// Turns tracing on in each experiment.
+fn trace_experiments(experiments: &mut [Experiment])
+    ensures { experiments.new ≡ map traced experiments.old }
+{
+    for experiment in experiments.iter_mut() {
+        experiment.spec.traced = true;
+        experiment.commands.trace();
+    }
+}
+
+// Turns tracing on in each experiment of a list.
+fn trace_list(experiments: &mut Vec<Experiment>)
+    ensures { experiments.new.items ≡ map traced experiments.old.items }
+{
+    trace_experiments(experiments.as_mut_slice());
 }

@@ -1,5 +1,5 @@
 -- The value of a line, if each number is in its range.
-use Rattle.std.specs.Prelude.{ℕ, ◌+◌, ◌*◌, ◌&&◌, Option, Some, None, nat_le, ◌==◌, if◌then◌else◌, unwrap_or}
+use Rattle.std.specs.Prelude.{ℕ, ◌+◌, ◌*◌, ◌&&◌, Option, Some, None, nat_le, false, ◌==◌, if◌then◌else◌, unwrap_or}
 use Rattle.emu_model.specs.Spans.{AddressSpan, PortSpan, address_span}
 use Rattle.emu_model.specs.declared.rules.Action.{Action}
 use Rattle.emu_model.specs.declared.rules.Action.TheVariants as actions
@@ -238,4 +238,8 @@ spec_within h = do
   seed ← within h.seed 0 18446744073709551615
   packets ← within h.budget 1 65535
   steps ← within (unwrap_or h.steps 1000000) 1 10000000
-  Some (record { seed = seed; budget = record { packets = packets; steps = steps } })
+  Some (record {
+    seed = seed;
+    budget = record { packets = packets; steps = steps };
+    traced = false;
+  })

@@ -382,5 +382,9 @@ pub fn spec(raw: RawHeader) -> Option<Spec>
     let packets = in_u16::<1, 65535>(raw.budget)?;
     let steps = in_u32::<1, 10000000>(raw.steps.unwrap_or(1_000_000))?;
     let budget = Budget { packets, steps };
-    Some(Spec { seed, budget })
+    Some(Spec {
+        seed,
+        budget,
+        traced: false,
+    })
 }

@@ -2,9 +2,9 @@
 use Rattle.std.proofs.Common.{◌≡◌, ℕ, ◌+◌, List, [], ◌∷◌, ◌++◌, refl, sym, subst, Option, Some, None}
 use Rattle.std.specs.Prelude.{if◌then◌else◌, map}
 use Rattle.std.specs.List.{AllByRecursion}
-use Rattle.emu_laws.proofs.Types.{SendSpec, Packet, Load, Plain, Seg, Ack, Record, PacketMade, PacketDelivered, Denied, NoPipe, Budget, Deleted}
+use Rattle.emu_laws.proofs.Types.{SendSpec, Packet, Load, Plain, Seg, Ack, Record, PacketMade, PacketDelivered, Denied, NoPipe, Budget, Deleted, ByReceiver, Origin, ByCommand, ByTrain, BySender}
 use Rattle.emu_model.specs.Pipes.{Drop, PipeState, After, pipe_packets, pipe_arrive, pipe_finish, pipe_exit, pipe_configure}
-use Rattle.emu_model.specs.Net.{Net, note, note_all, note_drops, to_direct, put_pipe, note_traced, make_record, drop_record, packet_of}
+use Rattle.emu_model.specs.Net.{Net, note, note_all, note_drops, to_direct, put_pipe, note_traced, make_record, drop_record, packet_of, load_by}
 use Rattle.emu_model.specs.Rules.{start_behind}
 use Rattle.emu_model.specs.Delay.{first_item, leave}
 use Rattle.emu_model.specs.Commands.{new_pipe, without_pipe}
@@ -32,11 +32,11 @@ joined before (r ∷ rs) ss h g = (h.0, joined (Some r) rs ss h.1 g)
 
 -- no making of an acknowledgement
 abbrev IsNoAck : Record → Type 0
-IsNoAck (PacketMade moment number (Ack j upto) proto src sport dst dport size) = ⊥
+IsNoAck (PacketMade moment number (ByReceiver j upto) proto src sport dst dport size) = ⊥
 IsNoAck r = Unit {0}
 
 answers-any : (before : Option Record) (r : Record) → IsNoAck r → Answers before r
-answers-any before (PacketMade moment packet (Ack k upto) proto src sport dst dport size) h = absurd h
+answers-any before (PacketMade moment packet (ByReceiver k upto) proto src sport dst dport size) h = absurd h
 answers-any before (PacketMade moment packet _ proto src sport dst dport size) h = tt
 answers-any before _ h = tt
 
@@ -45,7 +45,7 @@ all-answer before [] h = tt
 all-answer before (r ∷ rs) h = (answers-any before r h.0, all-answer (Some r) rs h.1)
 
 silent-no-ack : (r : Record) → IsSilent r → IsNoAck r
-silent-no-ack (PacketMade moment packet load proto src sport dst dport size) e = absurd (cc e)
+silent-no-ack (PacketMade moment packet origin proto src sport dst dport size) e = absurd (cc e)
 silent-no-ack _ e = tt
 
 drops-no-ack : (now : ℕ) (ds : List Drop) → AllByRecursion IsNoAck (map (drop_record now) ds)
@@ -77,11 +77,12 @@ sent-last now Plain send n rs h = tt
 sent-last now (Seg k first) send n rs h = tt
 sent-last now (Ack k upto) send n rs h = absurd h
 
-made-answers : (now number : ℕ) (l : Load) (send : SendSpec) (rs : List Record) → Last (owed now l send) rs →
-    Answers (last_of None rs) (make_record now (packet_of l send number))
-made-answers now number Plain send rs h = tt
-made-answers now number (Seg k first) send rs h = tt
-made-answers now number (Ack k upto) send rs h = h
+made-answers : (now number : ℕ) (l : Origin) (send : SendSpec) (rs : List Record) → Last (owed now (load_by l) send) rs →
+    Answers (last_of None rs) (make_record now l (packet_of (load_by l) send number))
+made-answers now number (ByCommand k) send rs h = tt
+made-answers now number (ByTrain k) send rs h = tt
+made-answers now number (BySender k first) send rs h = tt
+made-answers now number (ByReceiver k upto) send rs h = h
 
 record Answering (o : Phase) (n : Net) : Type 0 where
   each : EachAnswers None n.records
@@ -104,10 +105,10 @@ dropped-answers : (now : ℕ) (ds : List Drop) (o : Phase) (n : Net) → Answeri
 dropped-answers now ds o n h =
     noted (map (drop_record now) ds) o ended n (note_drops now ds n) refl (drops-no-ack now ds) tt h
 
-made-each : (now : ℕ) (l : Load) (send : SendSpec) (n : Net) → Answering (owed now l send) n →
-    EachAnswers None (n.records ++ (if n.trace then make_record now (packet_of l send n.made) ∷ [] else []))
+made-each : (now : ℕ) (l : Origin) (send : SendSpec) (n : Net) → Answering (owed now (load_by l) send) n →
+    EachAnswers None (n.records ++ (if n.trace then make_record now l (packet_of (load_by l) send n.made) ∷ [] else []))
 made-each now l send n h =
-    let told : List Record = make_record now (packet_of l send n.made) ∷ [] in
+    let told : List Record = make_record now l (packet_of (load_by l) send n.made) ∷ [] in
     joined None n.records (if n.trace then told else []) h.each
     (either (EachAnswers (last_of None n.records)) n.trace told [] (made-answers now n.made l send n.records h.last, tt) tt)
 
@@ -128,8 +129,8 @@ answering-tells seed b = record {
       ) h;
   made = λ now l send n few h. record { each = made-each now l send n h; last = tt };
   refused = λ now l send n many h.
-      let p : Packet = packet_of l send n.made in
-      let m : Net = note_traced (make_record now p ∷ []) (record n { made = n.made + 1 }) in
+      let p : Packet = packet_of (load_by l) send n.made in
+      let m : Net = note_traced (make_record now l p ∷ []) (record n { made = n.made + 1 }) in
       dropped-answers now (record { packet = p; cause = Budget } ∷ []) (moving 0 p) m
       (record { each = made-each now l send n h; last = tt });
   goes_on = λ p n h. unnoted (leaving p) (moving (start_behind p.place n.book.rules) p) n n refl tt h;

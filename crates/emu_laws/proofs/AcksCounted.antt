@@ -4,9 +4,9 @@ use Rattle.std.specs.Prelude.{if◌then◌else◌, ◌⊎◌, ◌==◌, map, cou
 use Rattle.std.specs.List.{AllByRecursion}
 use Rattle.std.proofs.lemmas.Bool.{eqb-true}
 use Rattle.std.proofs.lemmas.List.Sums.{sum_by-cons}
-use Rattle.emu_laws.proofs.Types.{SendSpec, Packet, Load, Plain, Seg, Ack, Record, PacketDelivered, PacketDropped, DropCause, Denied, NoPipe, Budget, Deleted}
+use Rattle.emu_laws.proofs.Types.{SendSpec, Packet, Load, Plain, Seg, Ack, Record, PacketDelivered, PacketDropped, DropCause, Denied, NoPipe, Budget, Deleted, Origin}
 use Rattle.emu_model.specs.Pipes.{Drop, PipeState, After, pipe_packets, pipe_arrive, pipe_finish, pipe_exit, pipe_configure}
-use Rattle.emu_model.specs.Net.{Net, initial_net, note, note_all, note_drops, to_direct, put_pipe, put_after, find_pipe, note_traced, make_record, drop_record, packet_of}
+use Rattle.emu_model.specs.Net.{Net, initial_net, note, note_all, note_drops, to_direct, put_pipe, put_after, find_pipe, note_traced, make_record, drop_record, packet_of, load_by}
 use Rattle.emu_model.specs.Rules.{start_behind}
 use Rattle.emu_model.specs.Delay.{first_item, leave}
 use Rattle.emu_model.specs.Commands.{new_pipe, without_pipe, delete_pipe}
@@ -196,28 +196,28 @@ module _ (k : ℕ) where
   segs-is p = refl
 
   -- a packet was made, which a traced run records
-  abbrev begun : ℕ → Packet → Net → Net
-  begun now p n = note_traced (make_record now p ∷ []) (record n { made = n.made + 1 })
+  abbrev begun : ℕ → Origin → Packet → Net → Net
+  begun now l p n = note_traced (make_record now l p ∷ []) (record n { made = n.made + 1 })
 
-  traced-none : (test : Record → Bool) (now : ℕ) (p : Packet) (b : Bool) → test (make_record now p) ≡ false →
-      count_by test (if b then make_record now p ∷ [] else []) ≡ 0
-  traced-none test now p true e = omega (arith, count-cons test (make_record now p) [], ap one_if e, none)
+  traced-none : (test : Record → Bool) (now : ℕ) (l : Origin) (p : Packet) (b : Bool) → test (make_record now l p) ≡ false →
+      count_by test (if b then make_record now l p ∷ [] else []) ≡ 0
+  traced-none test now l p true e = omega (arith, count-cons test (make_record now l p) [], ap one_if e, none)
     where
       none : count_by test [] ≡ 0
       none = refl
-  traced-none test now p false e = refl
+  traced-none test now l p false e = refl
 
-  made-even : (now : ℕ) (l : Load) (send : SendSpec) (n : Net) → Even (owed now l send) n →
-      Even (moving 0 (packet_of l send n.made)) (begun now (packet_of l send n.made) n)
+  made-even : (now : ℕ) (l : Origin) (send : SendSpec) (n : Net) → Even (owed now (load_by l) send) n →
+      Even (moving 0 (packet_of (load_by l) send n.made)) (begun now l (packet_of (load_by l) send n.made) n)
   made-even now l send n h =
-      let p : Packet = packet_of l send n.made in
-      let m : Net = begun now p n in
-      changed (if n.trace then make_record now p ∷ [] else []) (owed now l send) (moving 0 p) n m refl
+      let p : Packet = packet_of (load_by l) send n.made in
+      let m : Net = begun now l p n in
+      changed (if n.trace then make_record now l p ∷ [] else []) (owed now (load_by l) send) (moving 0 p) n m refl
       (omega (
         arith,
         weigh-same acks_of n m refl refl,
-        traced-none (ends_ack k) now p n.trace refl,
-        traced-none (brings_segment k) now p n.trace refl,
+        traced-none (ends_ack k) now l p n.trace refl,
+        traced-none (brings_segment k) now l p n.trace refl,
       )) (λ there. there) (omega (arith, weigh-same segs_of n m refl refl)) h
 
   -- one packet that is on its way is dropped
@@ -306,8 +306,8 @@ module _ (k : ℕ) where
         still (came now p) (owed now (Ack j upto) send) n n refl refl refl (λ there. there) (sym here) (omega arith) h;
     made = λ now l send n few h. made-even now l send n h;
     refused = λ now l send n many h.
-        let p : Packet = packet_of l send n.made in
-        one-dropped now Budget p (begun now p n) (made-even now l send n h);
+        let p : Packet = packet_of (load_by l) send n.made in
+        one-dropped now Budget p (begun now l p n) (made-even now l send n h);
     goes_on = λ p n h. still (leaving p) (moving (start_behind p.place n.book.rules) p) n n refl refl refl (λ there. there) refl (omega arith) h;
     denied = λ now start p n is h.
         one-dropped now Denied p (counted start p n)

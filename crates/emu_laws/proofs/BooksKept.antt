@@ -3,12 +3,12 @@
 use Rattle.std.proofs.Common.{◌≡◌, ℕ, zero, suc, ◌+◌, ◌/◌, ◌%◌, List, [], ◌∷◌, Option, Some, None}
 use Rattle.std.specs.Prelude.{is_some, nat_lt, if◌then◌else◌}
 use Rattle.std.specs.Option.{option_map_or}
-use Rattle.emu_laws.proofs.Types.{EventContext, Spec, Timed, Class, NextCommand, Exit, Finish, Expiry, Emission, Packet, Load, Plain, Seg, Ack, Verdict, OverTheLink, Dropped, IntoPipe, Rule, SendSpec, NoPipe, Budget, Command, Add, Delete, Config, PipeDelete, PipeShow, Show, Inject, Train, Flow, Stop, OnePass, Trace, End, CommandDone, CommandRefused, PacketDelivered, PacketPassed, AckTaken}
+use Rattle.emu_laws.proofs.Types.{EventContext, Spec, Timed, Class, NextCommand, Exit, Finish, Expiry, Emission, Packet, Load, Plain, Seg, Ack, Verdict, OverTheLink, Dropped, IntoPipe, Rule, SendSpec, NoPipe, Budget, Command, Add, Delete, Config, PipeDelete, PipeShow, Show, Inject, Train, Flow, Stop, OnePass, Trace, End, CommandDone, CommandRefused, PacketDelivered, PacketPassed, AckTaken, ByCommand, ByReceiver, BySender, ByTrain, Origin}
 use Rattle.emu_model.specs.Rules.{RuleBook, initial_book, verdict, start_behind, counted_book, add_refusal, delete_refusal, book_with, book_without}
 use Rattle.emu_model.specs.Delay.{first_item, leave}
 use Rattle.emu_model.specs.Reno.{Sender, ack, with_segment, missing, emitted, emit}
 use Rattle.emu_model.specs.Pipes.{InService, PipeState, pipe_arrive, pipe_exit, pipe_configure}
-use Rattle.emu_model.specs.Net.{Net, FlowState, TrainState, note, note_traced, note_arrival, enter_pipe, drop_packet, by_verdict, pass_rules_from, pass_rules, reinject, packet_of, make_record, make, held, data_send, ack_send, find_pipe, put_pipe, put_after, find_flow, put_flow, find_train, put_train, take_segment, take_ack, take_load, deliver}
+use Rattle.emu_model.specs.Net.{Net, FlowState, TrainState, note, note_traced, note_arrival, enter_pipe, drop_packet, by_verdict, pass_rules_from, pass_rules, reinject, packet_of, make_record, make, held, data_send, ack_send, find_pipe, put_pipe, put_after, find_flow, put_flow, find_train, put_train, take_segment, take_ack, take_load, deliver, load_by}
 use Rattle.emu_model.specs.Commands.{new_pipe, delete_pipe, stop_flow, refusal_of, effect_of, obey}
 use Rattle.emu_model.specs.Events.{direct_exit, deliver_some, flying_in, leave_pipe_some, pipe_exits, served_in, note_finish, pipe_finishes, expire_flow, emit_segment, emit_packet, event_of}
 use Rattle.emu_model.specs.declared.sources.Due.{Due}
@@ -43,17 +43,17 @@ module _ (P : RuleBook → Type 0) (keeps : KeepsBook P) where
       by_verdict-keeps at (verdict start p n.book.rules) p (record n { book = counted_book start p n.book })
       (keeps.searched start p n.book h)
 
-  make-keeps : (at : EventContext) (l : Load) (send : SendSpec) (n : Net) → Keeps n → Keeps (make at l send n)
+  make-keeps : (at : EventContext) (l : Origin) (send : SendSpec) (n : Net) → Keeps n → Keeps (make at l send n)
   make-keeps at l send n h =
-      let p : Packet = packet_of l send n.made in
-      let m : Net = note_traced (make_record at.now p ∷ []) (record n { made = n.made + 1 }) in
+      let p : Packet = packet_of (load_by l) send n.made in
+      let m : Net = note_traced (make_record at.now l p ∷ []) (record n { made = n.made + 1 }) in
       either Keeps (nat_lt (held n) at.packet_budget) (pass_rules at p m) (drop_packet at.now Budget p m)
       (pass_rules_from-keeps at 0 p m h) h
 
   take_segment-keeps : (at : EventContext) (first : ℕ) (n : Net) (f : FlowState) → Keeps n → Keeps (take_segment at first n f)
   take_segment-keeps at first n f h =
       let came : List ℕ = with_segment first f.came in
-      make-keeps at (Ack f.number (missing f.flow.smss came)) (ack_send f.flow) (put_flow (record f { came = came }) n) h
+      make-keeps at (ByReceiver f.number (missing f.flow.smss came)) (ack_send f.flow) (put_flow (record f { came = came }) n) h
 
   take_ack-keeps : (now upto : ℕ) (n : Net) (f : FlowState) → Keeps n → Keeps (take_ack now upto n f)
   take_ack-keeps now upto n f h =
@@ -94,11 +94,11 @@ module _ (P : RuleBook → Type 0) (keeps : KeepsBook P) where
 
   emit_segment-keeps : (at : EventContext) (n : Net) (f : FlowState) → Keeps n → Keeps (emit_segment at n f)
   emit_segment-keeps at n f h =
-      make-keeps at (Seg f.number (emitted f.sender)) (data_send f.flow)
+      make-keeps at (BySender f.number (emitted f.sender)) (data_send f.flow)
       (put_flow (record f { sender = emit f.flow at.now f.sender }) n) h
 
   emit_packet-keeps : (at : EventContext) (n : Net) (t : TrainState) → Keeps n → Keeps (emit_packet at n t)
-  emit_packet-keeps at n t h = make-keeps at Plain t.train.packet (put_train (record t { sent = t.sent + 1 }) n) h
+  emit_packet-keeps at n t h = make-keeps at (ByTrain t.number) t.train.packet (put_train (record t { sent = t.sent + 1 }) n) h
 
   event-keeps : (at : EventContext) (class : Class) (k : ℕ) (n : Net) → Keeps n → Keeps (event_of at class k n)
   event-keeps at NextCommand k n h = h
@@ -115,21 +115,22 @@ module _ (P : RuleBook → Type 0) (keeps : KeepsBook P) where
       (λ t e. emit_packet-keeps at n t h)
       (some_or Keeps (emit_segment at n) (find_flow k n) n (λ f e. emit_segment-keeps at n f h) h)
 
-  effect-keeps : (at : EventContext) (c : Command) (n : Net) → refusal_of c n ≡ None → Keeps n → Keeps (effect_of at c n)
-  effect-keeps at (Add r) n e h = keeps.added r n.book e h
-  effect-keeps at (Delete k) n e h = keeps.deleted k n.book e h
-  effect-keeps at (Config k config) n e h =
+  effect-keeps : (at : EventContext) (j : ℕ) (c : Command) (n : Net) → refusal_of c n ≡ None → Keeps n →
+      Keeps (effect_of at j c n)
+  effect-keeps at j (Add r) n e h = keeps.added r n.book e h
+  effect-keeps at j (Delete k) n e h = keeps.deleted k n.book e h
+  effect-keeps at j (Config k config) n e h =
       some_or Keeps (λ p. put_pipe k (pipe_configure config p) n) (find_pipe k n) (new_pipe k config n) (λ p g. h) h
-  effect-keeps at (PipeDelete k) n e h = some_or Keeps (delete_pipe at.now k n) (find_pipe k n) n (λ p g. h) h
-  effect-keeps at PipeShow n e h = h
-  effect-keeps at Show n e h = h
-  effect-keeps at (Inject send) n e h = make-keeps at Plain send n h
-  effect-keeps at (Train k t) n e h = h
-  effect-keeps at (Flow k f) n e h = h
-  effect-keeps at (Stop k) n e h = some_or Keeps (stop_flow n) (find_flow k n) n (λ f g. h) h
-  effect-keeps at (OnePass c) n e h = h
-  effect-keeps at (Trace c) n e h = h
-  effect-keeps at End n e h = h
+  effect-keeps at j (PipeDelete k) n e h = some_or Keeps (delete_pipe at.now k n) (find_pipe k n) n (λ p g. h) h
+  effect-keeps at j PipeShow n e h = h
+  effect-keeps at j Show n e h = h
+  effect-keeps at j (Inject send) n e h = make-keeps at (ByCommand j) send n h
+  effect-keeps at j (Train k t) n e h = h
+  effect-keeps at j (Flow k f) n e h = h
+  effect-keeps at j (Stop k) n e h = some_or Keeps (stop_flow n) (find_flow k n) n (λ f g. h) h
+  effect-keeps at j (OnePass c) n e h = h
+  effect-keeps at j (Trace c) n e h = h
+  effect-keeps at j End n e h = h
 
   -- a command is refused or not, whether or not it is noted as done
   noted : (c : Command) (now k : ℕ) (n : Net) → refusal_of c n ≡ None → refusal_of c (note (CommandDone now k) n) ≡ None
@@ -150,8 +151,8 @@ module _ (P : RuleBook → Type 0) (keeps : KeepsBook P) where
   obey-keeps : (at : EventContext) (k : ℕ) (c : Command) (n : Net) → Keeps n → Keeps (obey at k c n)
   obey-keeps at k c n h =
       let m : Net = note (CommandDone at.now k) n in
-      found_or Keeps (λ r. note (CommandRefused at.now k r) n) (refusal_of c n) (effect_of at c m) (λ r e. h)
-      (λ e. effect-keeps at c m (noted c at.now k n e) h)
+      found_or Keeps (λ r. note (CommandRefused at.now k r) n) (refusal_of c n) (effect_of at k c m) (λ r e. h)
+      (λ e. effect-keeps at k c m (noted c at.now k n e) h)
 
   counted-keeps : (t : State) → Keeps t.net → Keeps (count_step t).net
   counted-keeps t h =

@@ -3,13 +3,13 @@ use Rattle.std.proofs.Common.{◌≡◌, ℕ, zero, suc, ◌+◌, ◌<◌, ◌�
 use Rattle.std.specs.Prelude.{if◌then◌else◌, ◌==◌, nat_lt, max, count_by, map, length, slice_get}
 use Rattle.std.specs.List.{AllByRecursion}
 use Rattle.std.proofs.lemmas.Bool.{eqb-true, eq-eqb, ltb-true}
-use Rattle.emu_laws.proofs.Types.{EventContext, Spec, Timed, Packet, Load, SendSpec, PipeConfig, DropCause, Deleted, Record, PacketArrived, PacketFinished, PacketDelivered, PacketPassed, PacketDropped, Command}
+use Rattle.emu_laws.proofs.Types.{EventContext, Spec, Timed, Packet, SendSpec, PipeConfig, DropCause, Deleted, Record, PacketArrived, PacketFinished, PacketDelivered, PacketPassed, PacketDropped, Command, Origin}
 use Rattle.emu_model.specs.Lists.{replace_first}
 use Rattle.emu_model.specs.FlowIds.{flow_id}
 use Rattle.emu_model.specs.Moments.{milliseconds}
 use Rattle.emu_model.specs.Delay.{first_item, leave}
 use Rattle.emu_model.specs.Pipes.{InService, Instance, PipeState, Drop, instance_for, pipe_arrive, pipe_finish, pipe_exit, pipe_configure, pipe_packets}
-use Rattle.emu_model.specs.Net.{Net, note, note_all, note_traced, drop_record, drop_packet, arrive_records, arrivals, identify_record, make_record, packet_of, find_pipe, put_pipe, put_after, to_direct}
+use Rattle.emu_model.specs.Net.{Net, note, note_all, note_traced, drop_record, drop_packet, arrive_records, arrivals, identify_record, make_record, packet_of, find_pipe, put_pipe, put_after, to_direct, load_by}
 use Rattle.emu_model.specs.Commands.{new_pipe, delete_pipe}
 use Rattle.emu_model.specs.Events.{flying_in, served_in, note_finish}
 use Rattle.emu_model.specs.RunLaws.{ConfiguresPipe, DuesDiffer}
@@ -69,9 +69,9 @@ arrivals-plain now p q =
     came k true = (refl, tt)
     came k false = (refl, (refl, tt))
 
-made-plain : (now : ℕ) (p : Packet) → IsPlain (make_record now p)
+made-plain : (now : ℕ) (l : Origin) (p : Packet) → IsPlain (make_record now l p)
 unfolding is_plain
-made-plain now p = refl
+made-plain now l p = refl
 
 dropped-plain : (now : ℕ) (p : Packet) (cause : DropCause) → IsPlain (PacketDropped now p.number p.load cause)
 unfolding is_plain
@@ -320,15 +320,15 @@ module _ (pipe delay : ℕ) where
       (subst (λ o. All now o there) f (pipe_left-all now number k p n e out a))
 
   -- the number of a packet that is made is new
-  made-all : (now : ℕ) (load : Load) (send : SendSpec) (n : Net) → All now None n →
-      All now (Some (packet_of load send n.made))
-      (note_traced (make_record now (packet_of load send n.made) ∷ []) (record n { made = n.made + 1 }))
-  made-all now load send n a =
-      let p : Packet = packet_of load send n.made in
-      let r : Record = make_record now p in
+  made-all : (now : ℕ) (l : Origin) (send : SendSpec) (n : Net) → All now None n →
+      All now (Some (packet_of (load_by l) send n.made))
+      (note_traced (make_record now l (packet_of (load_by l) send n.made) ∷ []) (record n { made = n.made + 1 }))
+  made-all now l send n a =
+      let p : Packet = packet_of (load_by l) send n.made in
+      let r : Record = make_record now l p in
       let m : Net = note_traced (r ∷ []) (record n { made = n.made + 1 }) in
       advance-plain now (if n.trace then r ∷ [] else []) None (Some p) n m refl
-      (if-plain n.trace (r ∷ []) (made-plain now p, tt)) (omega arith)
+      (if-plain n.trace (r ∷ []) (made-plain now l p, tt)) (omega arith)
       (λ moment packet b h. stays moment packet now None (Some p) n m refl refl (λ e. absurd (omega (arith, e, b))) h) a
 
   deleted-all : (now k : ℕ) (p : PipeState) (n : Net) → All now None n → All now None (delete_pipe now k n p)
@@ -363,7 +363,7 @@ module _ (pipe delay : ℕ) where
     said = λ rs n q a. advance-plain at.now rs None None n (note_all rs n) refl
         (each_weaker (IsQuietAt at.now) IsPlain (λ r x. silent-plain r x.silent) rs q) (omega arith)
         (λ moment packet b h. stays moment packet at.now None None n (note_all rs n) refl refl tt h) a;
-    made = λ load send n a. made-all at.now load send n a;
+    made = λ l send n a. made-all at.now l send n a;
     placed = λ place p n a. advance-same at.now (Some p) (Some (record p { place = place })) n n refl refl
         (λ moment packet h. stays moment packet at.now (Some p) (Some (record p { place = place })) n n refl refl h.way h) a;
     dropped = λ cause p n e a.

@@ -4,13 +4,13 @@ use Rattle.std.specs.Prelude.{if◌then◌else◌, ◌&&◌, ◌||◌, nat_lt, �
 use Rattle.std.specs.List.{AllByRecursion}
 use Rattle.std.proofs.lemmas.Bool.{lt-ltb, ne_eqb}
 use Rattle.std.proofs.lemmas.List.Sums.{sum_by-cons}
-use Rattle.emu_laws.proofs.Types.{SendSpec, Plain, Seg, Ack, Tcp, Load, Spec, Timed, Packet, QueueLimit, Slots, KBytes, Discipline, TailDrop, PipeConfig, DropCause, Denied, NoPipe, NoInstance, Lost, Full, Codel, Deleted, Budget, Command, Config, PipeDelete, Record, PacketDelivered, PacketDropped}
+use Rattle.emu_laws.proofs.Types.{SendSpec, Plain, Seg, Ack, Tcp, Load, Spec, Timed, Packet, QueueLimit, Slots, KBytes, Discipline, TailDrop, PipeConfig, DropCause, Denied, NoPipe, NoInstance, Lost, Full, Codel, Deleted, Budget, Command, Config, PipeDelete, Record, PacketDelivered, PacketDropped, Origin}
 use Rattle.emu_model.specs.FlowIds.{flow_id}
 use Rattle.emu_model.specs.Delay.{first_item, leave}
 use Rattle.emu_model.specs.Loss.{loss_word, is_below_rate}
 use Rattle.emu_model.specs.DropTail.{Queued, accepts}
 use Rattle.emu_model.specs.Pipes.{Instance, PipeState, After, Drop, pipe_packets, may_drop, dequeue, codel_drops, serve_next, no_drop, drop_one, enqueue, drawn_one, instance_arrive, instance_finish, put_instance, with_instance, draw, instance_for, arrive_at, pipe_arrive, pipe_finish, pipe_exit, pipe_configure}
-use Rattle.emu_model.specs.Net.{Net, initial_net, note, note_traced, make_record, note_all, note_drops, drop_record, packet_of, held, cause_number, is_drop_of, drops_of, find_pipe, put_after, put_pipe}
+use Rattle.emu_model.specs.Net.{Net, initial_net, note, note_traced, make_record, note_all, note_drops, drop_record, packet_of, held, cause_number, is_drop_of, drops_of, find_pipe, put_after, put_pipe, load_by}
 use Rattle.emu_model.specs.Commands.{new_pipe, without_pipe, delete_pipe}
 use Rattle.emu_model.specs.Events.{flying_in}
 use Rattle.emu_model.specs.TraceLaws.{drops, EachPacketOnce}
@@ -47,7 +47,7 @@ silent-caused : (D : Load → DropCause → Type 0) (r : Record) → IsSilent r 
 silent-caused D (PacketDropped moment packet load cause) e = absurd (cc e)
 silent-caused D _ e = tt
 
-found-le : {A : Type 0} (f : A → ℕ) (test : A → Bool) (x : A) (xs : List A) → find test xs ≡ Some x →
+pub found-le : {A : Type 0} (f : A → ℕ) (test : A → Bool) (x : A) (xs : List A) → find test xs ≡ Some x →
     f x ≤ sum_by f xs
 found-le f test x [] e = absurd (cc e)
 found-le f test x (z ∷ zs) e = go (test z) e (λ g. found-le f test x zs g)
@@ -59,7 +59,7 @@ found-le f test x (z ∷ zs) e = go (test z) e (λ g. found-le f test x zs g)
         omega (arith, ap f same, sum_by-cons f z zs)
     go false g later = omega (arith, later g, sum_by-cons f z zs)
 
-got-le : {A : Type 0} (f : A → ℕ) (x : A) (xs : List A) (k : ℕ) → slice_get xs k ≡ Some x → f x ≤ sum_by f xs
+pub got-le : {A : Type 0} (f : A → ℕ) (x : A) (xs : List A) (k : ℕ) → slice_get xs k ≡ Some x → f x ≤ sum_by f xs
 got-le f x [] k e = absurd (cc e)
 got-le f x (y ∷ ys) zero e =
     let same : y ≡ x = cc e in
@@ -263,14 +263,14 @@ module _ (b : ℕ) (Allowed : Command → Type 0) (C : PipeConfig → Type 0) (D
       })
 
   -- a packet was made, which a traced run records
-  abbrev begun : ℕ → Packet → Net → Net
-  begun now p n = note_traced (make_record now p ∷ []) (record n { made = n.made + 1 })
+  abbrev begun : ℕ → Origin → Packet → Net → Net
+  begun now l p n = note_traced (make_record now l p ∷ []) (record n { made = n.made + 1 })
 
-  made-told : (now : ℕ) (p : Packet) (n : Net) → AllByRecursion (IsCaused D) n.records →
-      AllByRecursion (IsCaused D) (begun now p n).records
-  made-told now p n h =
-      each_joined (IsCaused D) n.records (if n.trace then make_record now p ∷ [] else []) h
-      (either (AllByRecursion (IsCaused D)) n.trace (make_record now p ∷ []) [] (tt, tt) tt)
+  made-told : (now : ℕ) (l : Origin) (p : Packet) (n : Net) → AllByRecursion (IsCaused D) n.records →
+      AllByRecursion (IsCaused D) (begun now l p n).records
+  made-told now l p n h =
+      each_joined (IsCaused D) n.records (if n.trace then make_record now l p ∷ [] else []) h
+      (either (AllByRecursion (IsCaused D)) n.trace (make_record now l p ∷ []) [] (tt, tt) tt)
 
   within-owed : (now : ℕ) (l : Load) (send : SendSpec) (n : Net) → Within b (packet_in (owed now l send)) n → Within b None n
   within-owed now Plain send n h = h
@@ -304,20 +304,20 @@ module _ (b : ℕ) (Allowed : Command → Type 0) (C : PipeConfig → Type 0) (D
     sent = λ now l send n e h. record { within = within-sent now l send n e h.within; configs = h.configs; drops = h.drops };
     answered = λ now k first upto send p n e there h. record { within = within-any b p nobody n h.within; configs = h.configs; drops = h.drops };
     made = λ now l send n few h.
-        let p : Packet = packet_of l send n.made in
+        let p : Packet = packet_of (load_by l) send n.made in
         record {
-          within = within-alike b (Some p) n (begun now p n) refl refl (within-made b p n few);
+          within = within-alike b (Some p) n (begun now l p n) refl refl (within-made b p n few);
           configs = h.configs;
-          drops = made-told now p n h.drops;
+          drops = made-told now l p n h.drops;
         };
     refused = λ now l send n many h.
-        let p : Packet = packet_of l send n.made in
-        dropped-told now (record { packet = p; cause = Budget } ∷ []) (begun now p n)
-        (refused-caused l send now n many h.within, tt)
+        let p : Packet = packet_of (load_by l) send n.made in
+        dropped-told now (record { packet = p; cause = Budget } ∷ []) (begun now l p n)
+        (refused-caused (load_by l) send now n many h.within, tt)
         (record {
-          within = within-alike b None n (begun now p n) refl refl (within-owed now l send n h.within);
+          within = within-alike b None n (begun now l p n) refl refl (within-owed now (load_by l) send n h.within);
           configs = h.configs;
-          drops = made-told now p n h.drops;
+          drops = made-told now l p n h.drops;
         });
     goes_on = λ p n h. record { within = h.within; configs = h.configs; drops = h.drops };
     denied = λ now start p n is h.

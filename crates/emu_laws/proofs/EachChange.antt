@@ -6,12 +6,12 @@ use Rattle.std.specs.Option.{option_map_or}
 use Rattle.std.specs.List.{AllByRecursion, list_any}
 use Rattle.std.proofs.lemmas.Bool.{ltb-true, eqb-true, eq-eqb, or_parts}
 use Rattle.emu_model.specs.Lists.{replace_first}
-use Rattle.emu_laws.proofs.Types.{EventContext, Spec, Timed, Class, NextCommand, Exit, Finish, Expiry, Emission, Place, Packet, Load, Plain, Seg, Ack, Verdict, OverTheLink, Dropped, IntoPipe, SendSpec, PipeConfig, FlowSpec, DropCause, Denied, NoPipe, Budget, FlowThere, TooManyFlows, Command, Add, Delete, Config, PipeDelete, PipeShow, Show, Inject, Train, Flow, Stop, OnePass, Trace, End, CommandDone, CommandRefused, PacketDelivered, PacketPassed, AckTaken, TimerExpired}
+use Rattle.emu_laws.proofs.Types.{EventContext, Spec, Timed, Class, NextCommand, Exit, Finish, Expiry, Emission, Place, Packet, Load, Plain, Seg, Ack, Verdict, OverTheLink, Dropped, IntoPipe, SendSpec, PipeConfig, FlowSpec, DropCause, Denied, NoPipe, Budget, FlowThere, TooManyFlows, Command, Add, Delete, Config, PipeDelete, PipeShow, Show, Inject, Train, Flow, Stop, OnePass, Trace, End, CommandDone, CommandRefused, PacketDelivered, PacketPassed, AckTaken, TimerExpired, ByCommand, ByReceiver, BySender, ByTrain, Origin}
 use Rattle.emu_model.specs.Rules.{verdict, start_behind, counted_book}
 use Rattle.emu_model.specs.Delay.{first_item, leave}
 use Rattle.emu_model.specs.Reno.{Sender, ack, with_segment, missing, emitted, emit, expire}
 use Rattle.emu_model.specs.Pipes.{InService, PipeState, After, pipe_arrive, pipe_finish, pipe_exit, pipe_configure}
-use Rattle.emu_model.specs.Net.{Net, initial_net, FlowState, TrainState, note, note_traced, note_arrival, enter_pipe, drop_packet, to_pipe, to_direct, by_verdict, pass_rules_from, pass_rules, reinject, packet_of, make_record, make, held, data_send, ack_send, find_pipe, put_pipe, put_after, find_flow, put_flow, find_train, put_train, take_segment, take_ack, take_load, deliver}
+use Rattle.emu_model.specs.Net.{Net, initial_net, FlowState, TrainState, note, note_traced, note_arrival, enter_pipe, drop_packet, to_pipe, to_direct, by_verdict, pass_rules_from, pass_rules, reinject, packet_of, make_record, make, held, data_send, ack_send, find_pipe, put_pipe, put_after, find_flow, put_flow, find_train, put_train, take_segment, take_ack, take_load, deliver, opening_net, load_by}
 use Rattle.emu_model.specs.Commands.{new_pipe, without_pipe, delete_pipe, start_flow, stop_flow, is_in_use, source_refusal, refusal_of, effect_of, obey}
 use Rattle.emu_model.specs.Events.{direct_exit, deliver_some, flying_in, leave_pipe_some, pipe_exits, served_in, note_finish, pipe_finishes, expire_flow, emit_segment, emit_packet, event_of}
 use Rattle.emu_model.specs.declared.sources.Due.{Due}
@@ -139,15 +139,16 @@ module _ (b : ℕ) (Sends : FlowState → Type 0) (Allowed : Command → Type 0)
       let m : Net = record n { book = counted_book start p n.book } in
       by_verdict-walks at (verdict start p n.book.rules) p m (alike (Some p) n m refl refl refl h)
 
-  make-walks : (at : EventContext) → at.packet_budget ≡ b → (l : Load) (send : SendSpec) (n : Net) → IsTrueOf l n.flows →
-      P None n → P None (make at l send n)
-  make-walks at e l send n tells h =
-      let p : Packet = packet_of l send n.made in
-      let m : Net = note_traced (make_record at.now p ∷ []) (record n { made = n.made + 1 }) in
+  make-walks : (at : EventContext) → at.packet_budget ≡ b → (o : Origin) (send : SendSpec) (n : Net) →
+      IsTrueOf (load_by o) n.flows →
+      P None n → P None (make at o send n)
+  make-walks at e o send n tells h =
+      let p : Packet = packet_of (load_by o) send n.made in
+      let m : Net = note_traced (make_record at.now o p ∷ []) (record n { made = n.made + 1 }) in
       let here : P None m = alike None n m refl refl refl h in
       of_choice (P None) (nat_lt (held n) at.packet_budget) (pass_rules at p m) (drop_packet at.now Budget p m)
       (λ r. pass_rules_from-walks at 0 p m
-      (keeps.made n.made l send m (subst (λ k. held n < k) e (ltb-true (held n) at.packet_budget r)) tells here))
+      (keeps.made n.made (load_by o) send m (subst (λ k. held n < k) e (ltb-true (held n) at.packet_budget r)) tells here))
       (λ r. alike None m (drop_packet at.now Budget p m) refl refl refl here)
 
   take_segment-walks : (at : EventContext) → at.packet_budget ≡ b → (k first : ℕ) (p : Packet) (n : Net) (f : FlowState) →
@@ -157,7 +158,7 @@ module _ (b : ℕ) (Sends : FlowState → Type 0) (Allowed : Command → Type 0)
       let g : FlowState = record f { came = came } in
       let number : f.number ≡ k = eqb-true f.number k (found-passes (λ x. x.number == k) f n.flows there) in
       let same : find_flow f.number n ≡ Some f = ap (λ j. find_flow j n) number ∙ there in
-      make-walks at e (Ack f.number (missing f.flow.smss came)) (ack_send f.flow) (put_flow g n)
+      make-walks at e (ByReceiver f.number (missing f.flow.smss came)) (ack_send f.flow) (put_flow g n)
       (g, found_put (λ x. x.number == f.number) f g n.flows same (eq-eqb f.number f.number refl), omega arith)
       (keeps.came k first p f n is there h)
 
@@ -235,12 +236,12 @@ module _ (b : ℕ) (Sends : FlowState → Type 0) (Allowed : Command → Type 0)
   emit_packet-walks : (at : EventContext) → at.packet_budget ≡ b → (n : Net) (t : TrainState) → P None n → P None (emit_packet at n t)
   emit_packet-walks at e n t h =
       let m : Net = put_train (record t { sent = t.sent + 1 }) n in
-      make-walks at e Plain t.train.packet m tt (alike None n m refl refl refl h)
+      make-walks at e (ByTrain t.number) t.train.packet m tt (alike None n m refl refl refl h)
 
   emit_segment-walks : (at : EventContext) → at.packet_budget ≡ b → (k : ℕ) (n : Net) (f : FlowState) →
       find_flow k n ≡ Some f → Sends f → P None n → P None (emit_segment at n f)
   emit_segment-walks at e k n f there sends h =
-      make-walks at e (Seg f.number (emitted f.sender)) (data_send f.flow)
+      make-walks at e (BySender f.number (emitted f.sender)) (data_send f.flow)
       (put_flow (record f { sender = emit f.flow at.now f.sender }) n) tt (keeps.emitted at.now k f n there sends h)
 
   -- the flow that is found with this number, where no train is, may send
@@ -276,26 +277,26 @@ module _ (b : ℕ) (Sends : FlowState → Type 0) (Allowed : Command → Type 0)
       go false h g =
           (or_parts (list_any (λ f. f.number == k) n.flows) (list_any (λ t. t.number == k) n.trains) h).0
 
-  effect-walks : (at : EventContext) → at.packet_budget ≡ b → (c : Command) (n : Net) → refusal_of c n ≡ None → Allowed c →
-      P None n → P None (effect_of at c n)
-  effect-walks at b' (Add r) n e ok h = alike None n (effect_of at (Add r) n) refl refl refl h
-  effect-walks at b' (Delete k) n e ok h = alike None n (effect_of at (Delete k) n) refl refl refl h
-  effect-walks at b' (Config k config) n e ok h =
+  effect-walks : (at : EventContext) → at.packet_budget ≡ b → (j : ℕ) (c : Command) (n : Net) → refusal_of c n ≡ None →
+      Allowed c → P None n → P None (effect_of at j c n)
+  effect-walks at b' j (Add r) n e ok h = alike None n (effect_of at j (Add r) n) refl refl refl h
+  effect-walks at b' j (Delete k) n e ok h = alike None n (effect_of at j (Delete k) n) refl refl refl h
+  effect-walks at b' j (Config k config) n e ok h =
       found_or (P None) (λ p. put_pipe k (pipe_configure config p) n) (find_pipe k n) (new_pipe k config n)
       (λ p g. keeps.configured k config p n ok g h) (λ g. keeps.opened k config n ok g h)
-  effect-walks at b' (PipeDelete k) n e ok h =
+  effect-walks at b' j (PipeDelete k) n e ok h =
       some_or (P None) (delete_pipe at.now k n) (find_pipe k n) n
       (λ p g. alike None (without_pipe k n) (delete_pipe at.now k n p) refl refl refl (keeps.deleted k p n g h)) h
-  effect-walks at b' PipeShow n e ok h = alike None n (effect_of at PipeShow n) refl refl refl h
-  effect-walks at b' Show n e ok h = alike None n (effect_of at Show n) refl refl refl h
-  effect-walks at b' (Inject send) n e ok h = make-walks at b' Plain send n tt h
-  effect-walks at b' (Train k t) n e ok h = alike None n (effect_of at (Train k t) n) refl refl refl h
-  effect-walks at b' (Flow k f) n e ok h = keeps.started k f n ok (new_number k n e) h
-  effect-walks at b' (Stop k) n e ok h =
+  effect-walks at b' j PipeShow n e ok h = alike None n (effect_of at j PipeShow n) refl refl refl h
+  effect-walks at b' j Show n e ok h = alike None n (effect_of at j Show n) refl refl refl h
+  effect-walks at b' j (Inject send) n e ok h = make-walks at b' (ByCommand j) send n tt h
+  effect-walks at b' j (Train k t) n e ok h = alike None n (effect_of at j (Train k t) n) refl refl refl h
+  effect-walks at b' j (Flow k f) n e ok h = keeps.started k f n ok (new_number k n e) h
+  effect-walks at b' j (Stop k) n e ok h =
       some_or (P None) (stop_flow n) (find_flow k n) n (λ f g. keeps.stopped k f n g h) h
-  effect-walks at b' (OnePass c) n e ok h = alike None n (effect_of at (OnePass c) n) refl refl refl h
-  effect-walks at b' (Trace c) n e ok h = alike None n (effect_of at (Trace c) n) refl refl refl h
-  effect-walks at b' End n e ok h = h
+  effect-walks at b' j (OnePass c) n e ok h = alike None n (effect_of at j (OnePass c) n) refl refl refl h
+  effect-walks at b' j (Trace c) n e ok h = alike None n (effect_of at j (Trace c) n) refl refl refl h
+  effect-walks at b' j End n e ok h = h
 
   noted-refusal : (c : Command) (now k : ℕ) (n : Net) → refusal_of c (note (CommandDone now k) n) ≡ refusal_of c n
   noted-refusal (Add r) now k n = refl
@@ -316,9 +317,9 @@ module _ (b : ℕ) (Sends : FlowState → Type 0) (Allowed : Command → Type 0)
       P None (obey at k c n)
   obey-walks at b' k c n ok h =
       let m : Net = note (CommandDone at.now k) n in
-      found_or (P None) (λ r. note (CommandRefused at.now k r) n) (refusal_of c n) (effect_of at c m)
+      found_or (P None) (λ r. note (CommandRefused at.now k r) n) (refusal_of c n) (effect_of at k c m)
       (λ r e. alike None n (note (CommandRefused at.now k r) n) refl refl refl h)
-      (λ e. effect-walks at b' c m (noted-refusal c at.now k n ∙ e) ok (alike None n m refl refl refl h))
+      (λ e. effect-walks at b' k c m (noted-refusal c at.now k n ∙ e) ok (alike None n m refl refl refl h))
 
   -- all commands that are left are allowed
   record Stands (s : State) : Type 0 where
@@ -380,6 +381,11 @@ pub steps_keep : (Sends : FlowState → Type 0) (Allowed : Command → Type 0) (
 steps_keep Sends Allowed P spec c keeps knows ok h n = (go n).net
   where
     go : (n : ℕ) → Stands spec.budget.packets Sends Allowed P keeps (alone spec c n)
-    go zero = record { net = h; budget = refl; left = ok }
+    go zero =
+        record {
+          net = keeps.quiet None initial_net (opening_net spec.traced) (record { direct = refl; pipes = refl; flows = refl }) h;
+          budget = refl;
+          left = ok;
+        }
     go (suc n) =
         step-stands spec.budget.packets Sends Allowed P keeps (alone spec c n) (λ t. knows n t (go n).net) (go n)

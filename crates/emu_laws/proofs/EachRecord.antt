@@ -5,13 +5,13 @@ use Rattle.std.specs.Prelude.{if◌then◌else◌, ◌⊎◌, is_some, nat_lt, �
 use Rattle.std.specs.Option.{option_map_or}
 use Rattle.std.specs.List.{AllByRecursion}
 use Rattle.std.proofs.lemmas.Bool.{ltb-true, ltb-false, eqb-true, eq-eqb}
-use Rattle.emu_laws.proofs.Types.{PacketMade, EventContext, Spec, Timed, Class, NextCommand, Exit, Finish, Expiry, Emission, Place, Packet, Load, Plain, Seg, Ack, Verdict, OverTheLink, Dropped, IntoPipe, SendSpec, PipeConfig, Denied, NoPipe, Budget, Command, Add, Delete, Config, PipeDelete, PipeShow, Show, Inject, Train, Flow, Stop, OnePass, Trace, End, Record, CommandDone, CommandRefused, PacketDelivered, PacketDropped, PacketPassed, AckTaken, TimerExpired, StepsSpent, RuleLine}
+use Rattle.emu_laws.proofs.Types.{PacketMade, EventContext, Spec, Timed, Class, NextCommand, Exit, Finish, Expiry, Emission, Place, Packet, Load, Plain, Seg, Ack, Verdict, OverTheLink, Dropped, IntoPipe, SendSpec, PipeConfig, Denied, NoPipe, Budget, Command, Add, Delete, Config, PipeDelete, PipeShow, Show, Inject, Train, Flow, Stop, OnePass, Trace, End, Record, CommandDone, CommandRefused, PacketDelivered, PacketDropped, PacketPassed, AckTaken, TimerExpired, StepsSpent, RuleLine, ByCommand, ByReceiver, BySender, ByTrain, Origin}
 use Rattle.emu_model.specs.Lists.{replace_first}
 use Rattle.emu_model.specs.Rules.{RuleBook, book_with, book_without, Counted, verdict, start_behind, counted_book}
 use Rattle.emu_model.specs.Delay.{first_item, leave}
 use Rattle.emu_model.specs.Reno.{Sender, ack, with_segment, missing, emitted, emit, expire}
 use Rattle.emu_model.specs.Pipes.{Instance, InService, PipeState, pipe_arrive, pipe_finish, pipe_exit, pipe_configure, instance_for}
-use Rattle.emu_model.specs.Net.{Net, initial_net, FlowState, TrainState, note, note_all, note_traced, arrive_records, arrivals, note_arrival, drop_packet, to_pipe, to_direct, by_verdict, pass_rules_from, pass_rules, reinject, packet_of, make_record, make, held, data_send, ack_send, find_pipe, put_pipe, put_after, find_flow, put_flow, find_train, put_train, take_segment, take_ack, take_load, deliver}
+use Rattle.emu_model.specs.Net.{Net, initial_net, FlowState, TrainState, note, note_all, note_traced, arrive_records, arrivals, note_arrival, drop_packet, to_pipe, to_direct, by_verdict, pass_rules_from, pass_rules, reinject, packet_of, make_record, make, held, data_send, ack_send, find_pipe, put_pipe, put_after, find_flow, put_flow, find_train, put_train, take_segment, take_ack, take_load, deliver, opening_net, load_by}
 use Rattle.emu_model.specs.Commands.{rule_lines, instance_lines, pipe_lines, new_pipe, delete_pipe, stop_flow, refusal_of, effect_of, obey}
 use Rattle.emu_model.specs.Events.{direct_exit, deliver_some, flying_in, leave_pipe_some, pipe_exits, served_in, note_finish, pipe_finishes, expire_flow, emit_segment, emit_packet, event_of}
 use Rattle.emu_model.specs.declared.sources.Due.{Due}
@@ -52,7 +52,7 @@ IsLate _ = ⊥
 
 -- a record that says where a packet begins or ends
 abbrev pub bounds_packet : Record → Bool
-bounds_packet (PacketMade moment packet load proto src sport dst dport size) = true
+bounds_packet (PacketMade moment packet origin proto src sport dst dport size) = true
 bounds_packet (PacketDelivered moment packet load) = true
 bounds_packet (PacketDropped moment packet load cause) = true
 bounds_packet _ = false
@@ -93,12 +93,12 @@ pub record Tells (seed b : ℕ) (Allowed : Command → Type 0) (P : Phase → Ne
       P (owed now l send) n
   pub answered : (now k first upto : ℕ) (send : SendSpec) (p : Packet) (n : Net) → p.load ≡ Seg k first →
       IsOfFlow ack_send k send n → P (came now p) n → P (owed now (Ack k upto) send) n
-  pub made : (now : ℕ) (l : Load) (send : SendSpec) (n : Net) → held n < b → P (owed now l send) n →
-      P (moving 0 (packet_of l send n.made))
-      (note_traced (make_record now (packet_of l send n.made) ∷ []) (record n { made = n.made + 1 }))
-  pub refused : (now : ℕ) (l : Load) (send : SendSpec) (n : Net) → b ≤ held n → P (owed now l send) n →
-      P ended (drop_packet now Budget (packet_of l send n.made)
-      (note_traced (make_record now (packet_of l send n.made) ∷ []) (record n { made = n.made + 1 })))
+  pub made : (now : ℕ) (l : Origin) (send : SendSpec) (n : Net) → held n < b → P (owed now (load_by l) send) n →
+      P (moving 0 (packet_of (load_by l) send n.made))
+      (note_traced (make_record now l (packet_of (load_by l) send n.made) ∷ []) (record n { made = n.made + 1 }))
+  pub refused : (now : ℕ) (l : Origin) (send : SendSpec) (n : Net) → b ≤ held n → P (owed now (load_by l) send) n →
+      P ended (drop_packet now Budget (packet_of (load_by l) send n.made)
+      (note_traced (make_record now l (packet_of (load_by l) send n.made) ∷ []) (record n { made = n.made + 1 })))
   pub goes_on : (p : Packet) (n : Net) → P (leaving p) n → P (moving (start_behind p.place n.book.rules) p) n
   pub denied : (now start : ℕ) (p : Packet) (n : Net) → verdict start p n.book.rules ≡ Dropped → P (moving start p) n →
       P ended (drop_packet now Denied p (counted start p n))
@@ -263,12 +263,12 @@ module _ (seed b : ℕ) (Allowed : Command → Type 0) (P : Phase → Net → Ty
       P ended (pass_rules_from at start p n)
   pass_rules_from-walks at e start p n h = by_verdict-walks at e start (verdict start p n.book.rules) p n refl h
 
-  make-walks : (at : EventContext) → IsSet at → (l : Load) (send : SendSpec) (n : Net) →
-      P (owed at.now l send) n →
+  make-walks : (at : EventContext) → IsSet at → (l : Origin) (send : SendSpec) (n : Net) →
+      P (owed at.now (load_by l) send) n →
       P ended (make at l send n)
   make-walks at e l send n h =
-      let p : Packet = packet_of l send n.made in
-      let m : Net = note_traced (make_record at.now p ∷ []) (record n { made = n.made + 1 }) in
+      let p : Packet = packet_of (load_by l) send n.made in
+      let m : Net = note_traced (make_record at.now l p ∷ []) (record n { made = n.made + 1 }) in
       of_choice (P ended) (nat_lt (held n) at.packet_budget) (pass_rules at p m) (drop_packet at.now Budget p m)
       (λ few. pass_rules_from-walks at e 0 p m
       (keeps.made at.now l send n (subst (λ x. held n < x) e.budget_is (ltb-true (held n) at.packet_budget few)) h))
@@ -282,7 +282,7 @@ module _ (seed b : ℕ) (Allowed : Command → Type 0) (P : Phase → Net → Ty
       let g : FlowState = record f { came = set } in
       let upto : ℕ = missing f.flow.smss set in
       let number : f.number ≡ k = eqb-true f.number k (found-passes (λ x. x.number == k) f n.flows there) in
-      make-walks at e (Ack f.number upto) (ack_send f.flow) (put_flow g n)
+      make-walks at e (ByReceiver f.number upto) (ack_send f.flow) (put_flow g n)
       (flow_put (owed at.now (Ack f.number upto) (ack_send f.flow)) g n tt
       (subst (λ j. P (owed at.now (Ack j upto) (ack_send f.flow)) n) (sym number)
       (keeps.answered at.now k first upto (ack_send f.flow) p n is (record { flow = f; there = there; sends = refl }) h)))
@@ -372,7 +372,7 @@ module _ (seed b : ℕ) (Allowed : Command → Type 0) (P : Phase → Net → Ty
       P starting n → P ended (emit_packet at n t)
   emit_packet-walks at e k n t there h =
       let m : Net = put_train (record t { sent = t.sent + 1 }) n in
-      make-walks at e Plain t.train.packet m
+      make-walks at e (ByTrain t.number) t.train.packet m
       (alike (owed at.now Plain t.train.packet) n m tt refl refl refl refl refl refl
       (keeps.sent at.now Plain t.train.packet n
       (inr (record { number = k; train = t; there = there; sends = refl })) h))
@@ -383,7 +383,7 @@ module _ (seed b : ℕ) (Allowed : Command → Type 0) (P : Phase → Net → Ty
       let g : FlowState = record f { sender = emit f.flow at.now f.sender } in
       let l : Load = Seg f.number (emitted f.sender) in
       let number : f.number ≡ k = eqb-true f.number k (found-passes (λ x. x.number == k) f n.flows there) in
-      make-walks at e l (data_send f.flow) (put_flow g n)
+      make-walks at e (BySender f.number (emitted f.sender)) (data_send f.flow) (put_flow g n)
       (flow_put (owed at.now l (data_send f.flow)) g n tt
       (keeps.sent at.now l (data_send f.flow) n
       (record { flow = f; there = ap (λ j. find_flow j n) number ∙ there; sends = refl }) h))
@@ -412,24 +412,24 @@ module _ (seed b : ℕ) (Allowed : Command → Type 0) (P : Phase → Net → Ty
       P starting n → P ended m
   done n m k d p i r f h = alike ended n m tt k d p i r f (keeps.stood n h)
 
-  effect-walks : (at : EventContext) → IsSet at → (c : Command) (n : Net) → Allowed c → P starting n →
-      P ended (effect_of at c n)
-  effect-walks at b' (Add r) n ok h = keeps.ruled (book_with r n.book) n h
-  effect-walks at b' (Delete k) n ok h = keeps.ruled (book_without k n.book) n h
-  effect-walks at b' (Config k config) n ok h =
+  effect-walks : (at : EventContext) → IsSet at → (i : ℕ) (c : Command) (n : Net) → Allowed c → P starting n →
+      P ended (effect_of at i c n)
+  effect-walks at b' i (Add r) n ok h = keeps.ruled (book_with r n.book) n h
+  effect-walks at b' i (Delete k) n ok h = keeps.ruled (book_without k n.book) n h
+  effect-walks at b' i (Config k config) n ok h =
       some_or (P ended) (λ p. put_pipe k (pipe_configure config p) n) (find_pipe k n) (new_pipe k config n)
       (λ p g. keeps.configured k config p n ok g h) (keeps.opened k config n ok h)
-  effect-walks at b' (PipeDelete k) n ok h =
+  effect-walks at b' i (PipeDelete k) n ok h =
       some_or (P ended) (delete_pipe at.now k n) (find_pipe k n) n (λ p g. keeps.deleted at.now k p n ok g h)
       (keeps.stood n h)
-  effect-walks at b' PipeShow n ok h =
+  effect-walks at b' i PipeShow n ok h =
       keeps.said ended (flat_map pipe_lines n.pipes) n tt (pipes-silent n.pipes) (keeps.stood n h)
-  effect-walks at b' Show n ok h =
+  effect-walks at b' i Show n ok h =
       keeps.said ended (rule_lines n) n tt (rules-silent n.book.rules) (keeps.stood n h)
-  effect-walks at b' (Inject send) n ok h = make-walks at b' Plain send n (keeps.sent at.now Plain send n (inl ok) h)
-  effect-walks at b' (Train k t) n ok h = done n (effect_of at (Train k t) n) refl refl refl refl refl refl h
-  effect-walks at b' (Flow k f) n ok h =
-      keeps.quiet ended n (effect_of at (Flow k f) n) tt (record {
+  effect-walks at b' i (Inject send) n ok h = make-walks at b' (ByCommand i) send n (keeps.sent at.now Plain send n (inl ok) h)
+  effect-walks at b' i (Train k t) n ok h = done n (effect_of at i (Train k t) n) refl refl refl refl refl refl h
+  effect-walks at b' i (Flow k f) n ok h =
+      keeps.quiet ended n (effect_of at i (Flow k f) n) tt (record {
         book = refl;
         direct = refl;
         pipes = refl;
@@ -437,20 +437,20 @@ module _ (seed b : ℕ) (Allowed : Command → Type 0) (P : Phase → Net → Ty
         records = refl;
         flows = λ j there. flow-more _ n.flows j there;
       }) (keeps.stood n h)
-  effect-walks at b' (Stop k) n ok h =
+  effect-walks at b' i (Stop k) n ok h =
       some_or (P ended) (stop_flow n) (find_flow k n) n
       (λ f g. flow_put ended (record f { stopped = true }) n tt (keeps.stood n h)) (keeps.stood n h)
-  effect-walks at b' (OnePass c) n ok h = done n (effect_of at (OnePass c) n) refl refl refl refl refl refl h
-  effect-walks at b' (Trace c) n ok h = done n (effect_of at (Trace c) n) refl refl refl refl refl refl h
-  effect-walks at b' End n ok h = keeps.stood n h
+  effect-walks at b' i (OnePass c) n ok h = done n (effect_of at i (OnePass c) n) refl refl refl refl refl refl h
+  effect-walks at b' i (Trace c) n ok h = done n (effect_of at i (Trace c) n) refl refl refl refl refl refl h
+  effect-walks at b' i End n ok h = keeps.stood n h
 
   obey-walks : (at : EventContext) → IsSet at → (k : ℕ) (c : Command) (n : Net) → Allowed c → P starting n →
       P ended (obey at k c n)
   obey-walks at b' k c n ok h =
       let m : Net = note (CommandDone at.now k) n in
-      some_or (P ended) (λ r. note (CommandRefused at.now k r) n) (refusal_of c n) (effect_of at c m)
+      some_or (P ended) (λ r. note (CommandRefused at.now k r) n) (refusal_of c n) (effect_of at k c m)
       (λ r e. said_one ended (CommandRefused at.now k r) n tt refl (keeps.stood n h))
-      (effect-walks at b' c m ok (said_one starting (CommandDone at.now k) n tt refl h))
+      (effect-walks at b' k c m ok (said_one starting (CommandDone at.now k) n tt refl h))
 
   counted-ends : (t : State) → P ended t.net → P ended (count_step t).net
   counted-ends t h =
@@ -532,7 +532,15 @@ next-allowed Allowed s ok c next = (subst (AllByRecursion (λ t. Allowed t.comma
 pub steps_tell : (Allowed : Command → Type 0) (P : Phase → Net → Type 0) (spec : Spec) (c : List Timed) →
     Tells spec.seed spec.budget.packets Allowed P → ((n : Net) → P ended n → P starting n) →
     AllByRecursion (λ t. Allowed t.command) c → P starting initial_net → (n : ℕ) → P ended (alone spec c n).net
-steps_tell Allowed P spec c keeps again ok h zero = keeps.stood initial_net h
+steps_tell Allowed P spec c keeps again ok h zero =
+    keeps.quiet ended initial_net (opening_net spec.traced) tt (record {
+      book = refl;
+      direct = refl;
+      pipes = refl;
+      made = refl;
+      records = refl;
+      flows = λ k there. there;
+    }) (keeps.stood initial_net h)
 steps_tell Allowed P spec c keeps again ok h (suc n) =
     let s : State = alone spec c n in
     let stays : Stays Allowed spec s = alone-stays Allowed spec c ok n in

@@ -3,9 +3,9 @@ use Rattle.std.proofs.Common.{◌≡◌, ℕ, zero, suc, ◌+◌, ◌<◌, ◌�
 use Rattle.std.specs.Prelude.{if◌then◌else◌, ◌⊎◌, ◌==◌, nat_lt, find, map, flat_map, slice_get, option_to_list, option_map, option_and_then, count_by}
 use Rattle.std.specs.List.{AllByRecursion}
 use Rattle.std.proofs.lemmas.Bool.{eqb-true, ltb-false, eq-eqb, cases_lt}
-use Rattle.emu_laws.proofs.Types.{SendSpec, Command, Ack, Packet, Spec, Timed, Load, Record, PacketDelivered, PacketDropped, Denied, NoPipe, Budget, Deleted}
+use Rattle.emu_laws.proofs.Types.{SendSpec, Command, Ack, Packet, Spec, Timed, Record, PacketDelivered, PacketDropped, Denied, NoPipe, Budget, Deleted, Origin}
 use Rattle.emu_model.specs.Pipes.{Drop, Instance, PipeState, After, held_in, pipe_packets, pipe_arrive, pipe_finish, pipe_exit, pipe_configure}
-use Rattle.emu_model.specs.Net.{Net, note, note_all, note_drops, to_direct, put_pipe, note_traced, make_record, drop_record, packet_of}
+use Rattle.emu_model.specs.Net.{Net, note, note_all, note_drops, to_direct, put_pipe, note_traced, make_record, drop_record, packet_of, load_by}
 use Rattle.emu_model.specs.Rules.{start_behind}
 use Rattle.emu_model.specs.Delay.{InFlight, first_item, leave}
 use Rattle.emu_model.specs.Commands.{new_pipe, without_pipe}
@@ -130,13 +130,15 @@ module _ (m : Net) where
       noted (IsOfHeld m) (Place m) m (map (drop_record now) ds) o ended n (note_drops now ds n) refl (drops-held m now ds) tt h
 
   -- a packet was made, which a traced run records
-  abbrev begun : ℕ → Packet → Net → Net
-  begun now p n = note_traced (make_record now p ∷ []) (record n { made = n.made + 1 })
+  abbrev begun : ℕ → Origin → Packet → Net → Net
+  begun now l p n = note_traced (make_record now l p ∷ []) (record n { made = n.made + 1 })
 
-  made-follows : (now : ℕ) (l : Load) (send : SendSpec) (p : Packet) (n : Net) → Told (owed now l send) n → Told (moving 0 p) (begun now p n)
+  made-follows : (now : ℕ) (l : Origin) (send : SendSpec) (p : Packet) (n : Net) → Told (owed now (load_by l) send) n →
+      Told (moving 0 p) (begun now l p n)
   made-follows now l send p n h =
-      noted (IsOfHeld m) (Place m) m (if n.trace then make_record now p ∷ [] else []) (owed now l send) (moving 0 p) n (begun now p n) refl
-      (either (AllByRecursion (IsOfHeld m)) n.trace (make_record now p ∷ []) [] (tt, tt) tt) tt h
+      noted (IsOfHeld m) (Place m) m (if n.trace then make_record now l p ∷ [] else []) (owed now (load_by l) send) (moving 0 p) n
+      (begun now l p n) refl
+      (either (AllByRecursion (IsOfHeld m)) n.trace (make_record now l p ∷ []) [] (tt, tt) tt) tt h
 
   moved : (o : Phase) (n k : Net) → k.records ≡ n.records → Told o n → Told ended k
   moved o n k e h = unnoted (IsOfHeld m) (Place m) m o ended n k e tt h
@@ -151,10 +153,10 @@ module _ (m : Net) where
     sent = λ now l send n e h. unnoted (IsOfHeld m) (Place m) m starting (owed now l send) n n refl tt h;
     answered = λ now k first upto send p n is there h.
         unnoted (IsOfHeld m) (Place m) m (came now p) (owed now (Ack k upto) send) n n refl tt h;
-    made = λ now l send n few h. made-follows now l send (packet_of l send n.made) n h;
+    made = λ now l send n few h. made-follows now l send (packet_of (load_by l) send n.made) n h;
     refused = λ now l send n many h.
-        let p : Packet = packet_of l send n.made in
-        dropped-follows now (record { packet = p; cause = Budget } ∷ []) (moving 0 p) (begun now p n)
+        let p : Packet = packet_of (load_by l) send n.made in
+        dropped-follows now (record { packet = p; cause = Budget } ∷ []) (moving 0 p) (begun now l p n)
         (made-follows now l send p n h);
     goes_on = λ p n h. unnoted (IsOfHeld m) (Place m) m (leaving p) (moving (start_behind p.place n.book.rules) p) n n refl tt h;
     denied = λ now start p n is h.

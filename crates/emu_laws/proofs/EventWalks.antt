@@ -4,12 +4,12 @@ use Rattle.std.proofs.Common.{◌≡◌, ℕ, zero, suc, ◌+◌, ◌/◌, ◌%�
 use Rattle.std.specs.Prelude.{if◌then◌else◌, is_some, nat_lt, map, flat_map, slice_get}
 use Rattle.std.specs.Option.{option_map_or}
 use Rattle.std.specs.List.{AllByRecursion}
-use Rattle.emu_laws.proofs.Types.{EventContext, Timed, Class, NextCommand, Exit, Finish, Expiry, Emission, Place, Packet, Load, Plain, Seg, Ack, Verdict, OverTheLink, Dropped, IntoPipe, SendSpec, PipeConfig, DropCause, Denied, NoPipe, Budget, Command, Add, Delete, Config, PipeDelete, PipeShow, Show, Inject, Train, Flow, Stop, OnePass, Trace, End, Record, CommandDone, CommandRefused, PacketMade, PacketArrived, PacketFinished, PacketDelivered, PacketPassed, PacketDropped, AckTaken, TimerExpired, StepsSpent, RuleLine}
+use Rattle.emu_laws.proofs.Types.{EventContext, Timed, Class, NextCommand, Exit, Finish, Expiry, Emission, Place, Packet, Load, Plain, Seg, Ack, Verdict, OverTheLink, Dropped, IntoPipe, SendSpec, PipeConfig, DropCause, Denied, NoPipe, Budget, Command, Add, Delete, Config, PipeDelete, PipeShow, Show, Inject, Train, Flow, Stop, OnePass, Trace, End, Record, CommandDone, CommandRefused, PacketMade, PacketArrived, PacketFinished, PacketDelivered, PacketPassed, PacketDropped, AckTaken, TimerExpired, StepsSpent, RuleLine, ByCommand, ByReceiver, BySender, ByTrain, Origin}
 use Rattle.emu_model.specs.Rules.{Counted, verdict, start_behind, counted_book}
 use Rattle.emu_model.specs.Delay.{Line, first_item, leave}
 use Rattle.emu_model.specs.Reno.{Sender, ack, with_segment, missing, emitted, emit, expire}
 use Rattle.emu_model.specs.Pipes.{Instance, PipeState, pipe_arrive, pipe_finish, pipe_exit, pipe_configure}
-use Rattle.emu_model.specs.Net.{Net, FlowState, TrainState, note, note_all, note_traced, drop_packet, arrivals, to_pipe, to_direct, by_verdict, pass_rules_from, pass_rules, reinject, packet_of, make_record, make, held, data_send, ack_send, find_pipe, put_pipe, put_after, find_flow, put_flow, find_train, put_train, take_segment, take_ack, take_load, deliver}
+use Rattle.emu_model.specs.Net.{Net, FlowState, TrainState, note, note_all, note_traced, drop_packet, arrivals, to_pipe, to_direct, by_verdict, pass_rules_from, pass_rules, reinject, packet_of, make_record, make, held, data_send, ack_send, find_pipe, put_pipe, put_after, find_flow, put_flow, find_train, put_train, take_segment, take_ack, take_load, deliver, load_by}
 use Rattle.emu_model.specs.Commands.{rule_lines, instance_lines, pipe_lines, new_pipe, delete_pipe, stop_flow, refusal_of, effect_of, obey}
 use Rattle.emu_model.specs.Events.{direct_exit, deliver_some, flying_in, leave_pipe_some, pipe_exits, served_in, note_finish, pipe_finishes, expire_flow, emit_segment, emit_packet, event_of}
 use Rattle.emu_model.specs.declared.sources.Due.{Due}
@@ -20,7 +20,7 @@ use Rattle.emu_laws.proofs.EachOf.{either, some_or, each_joined}
 
 -- a record that names a packet
 abbrev pub names_packet : Record → Bool
-names_packet (PacketMade moment packet load proto src sport dst dport size) = true
+names_packet (PacketMade moment packet origin proto src sport dst dport size) = true
 names_packet (PacketArrived moment packet pipe instance) = true
 names_packet (PacketFinished moment packet pipe instance) = true
 names_packet (PacketDelivered moment packet load) = true
@@ -55,9 +55,9 @@ pub record Keeps (at : EventContext) (Ready : Line Packet → Type 0) (Known : N
   pub quiet : (o : Option Packet) (n m : Net) → Alike n m → P o n → P o m
   pub traced : (b : Bool) (n : Net) → P None n → P None (record n { trace = b })
   pub said : (rs : List Record) (n : Net) → AllByRecursion (IsQuietAt at.now) rs → P None n → P None (note_all rs n)
-  pub made : (l : Load) (send : SendSpec) (n : Net) → P None n →
-      P (Some (packet_of l send n.made))
-      (note_traced (make_record at.now (packet_of l send n.made) ∷ []) (record n { made = n.made + 1 }))
+  pub made : (l : Origin) (send : SendSpec) (n : Net) → P None n →
+      P (Some (packet_of (load_by l) send n.made))
+      (note_traced (make_record at.now l (packet_of (load_by l) send n.made) ∷ []) (record n { made = n.made + 1 }))
   pub placed : (place : Place) (p : Packet) (n : Net) → P (Some p) n → P (Some (record p { place = place })) n
   pub dropped : (cause : DropCause) (p : Packet) (n : Net) → is_by_pipe cause ≡ false → P (Some p) n →
       P None (drop_packet at.now cause p n)
@@ -146,10 +146,10 @@ module _ (at : EventContext) (Ready : Line Packet → Type 0) (Known : Net → T
       let m : Net = record n { book = counted_book start p n.book } in
       by_verdict-walks (verdict start p n.book.rules) p m (alike (Some p) n m refl refl refl refl refl h)
 
-  make-walks : (l : Load) (send : SendSpec) (n : Net) → P None n → P None (make at l send n)
+  make-walks : (l : Origin) (send : SendSpec) (n : Net) → P None n → P None (make at l send n)
   make-walks l send n h =
-      let p : Packet = packet_of l send n.made in
-      let m : Net = note_traced (make_record at.now p ∷ []) (record n { made = n.made + 1 }) in
+      let p : Packet = packet_of (load_by l) send n.made in
+      let m : Net = note_traced (make_record at.now l p ∷ []) (record n { made = n.made + 1 }) in
       let made : P (Some p) m = keeps.made l send n h in
       either (P None) (nat_lt (held n) at.packet_budget) (pass_rules at p m) (drop_packet at.now Budget p m)
       (pass_rules_from-walks 0 p m made) (keeps.dropped Budget p m refl made)
@@ -159,7 +159,7 @@ module _ (at : EventContext) (Ready : Line Packet → Type 0) (Known : Net → T
   take_segment-walks first n f h =
       let came : List ℕ = with_segment first f.came in
       let m : Net = put_flow (record f { came = came }) n in
-      make-walks (Ack f.number (missing f.flow.smss came)) (ack_send f.flow) m
+      make-walks (ByReceiver f.number (missing f.flow.smss came)) (ack_send f.flow) m
       (alike None n m refl refl refl refl refl h)
 
   take_ack-walks : (upto : ℕ) (n : Net) (f : FlowState) → P None n → P None (take_ack at.now upto n f)
@@ -216,12 +216,12 @@ module _ (at : EventContext) (Ready : Line Packet → Type 0) (Known : Net → T
   emit_packet-walks : (n : Net) (t : TrainState) → P None n → P None (emit_packet at n t)
   emit_packet-walks n t h =
       let m : Net = put_train (record t { sent = t.sent + 1 }) n in
-      make-walks Plain t.train.packet m (alike None n m refl refl refl refl refl h)
+      make-walks (ByTrain t.number) t.train.packet m (alike None n m refl refl refl refl refl h)
 
   emit_segment-walks : (n : Net) (f : FlowState) → P None n → P None (emit_segment at n f)
   emit_segment-walks n f h =
       let m : Net = put_flow (record f { sender = emit f.flow at.now f.sender }) n in
-      make-walks (Seg f.number (emitted f.sender)) (data_send f.flow) m
+      make-walks (BySender f.number (emitted f.sender)) (data_send f.flow) m
       (alike None n m refl refl refl refl refl h)
 
   event-walks : (class : Class) (k : ℕ) (n : Net) → (class ≡ Exit → IsReadyAt Ready k n) → Known n →
@@ -246,32 +246,32 @@ module _ (at : EventContext) (Ready : Line Packet → Type 0) (Known : Net → T
   found_or None f d p q = q refl
   found_or (Some x) f d p q = p x refl
 
-  effect-walks : (c : Command) (n : Net) → Allowed c → P None n → P None (effect_of at c n)
-  effect-walks (Add r) n ok h = alike None n (effect_of at (Add r) n) refl refl refl refl refl h
-  effect-walks (Delete k) n ok h = alike None n (effect_of at (Delete k) n) refl refl refl refl refl h
-  effect-walks (Config k config) n ok h =
+  effect-walks : (j : ℕ) (c : Command) (n : Net) → Allowed c → P None n → P None (effect_of at j c n)
+  effect-walks j (Add r) n ok h = alike None n (effect_of at j (Add r) n) refl refl refl refl refl h
+  effect-walks j (Delete k) n ok h = alike None n (effect_of at j (Delete k) n) refl refl refl refl refl h
+  effect-walks j (Config k config) n ok h =
       found_or (find_pipe k n) (λ p. put_pipe k (pipe_configure config p) n) (new_pipe k config n)
       (λ p e. keeps.configured k config p n ok e h) (λ e. keeps.opened k config n ok e h)
-  effect-walks (PipeDelete k) n ok h =
+  effect-walks j (PipeDelete k) n ok h =
       some_or (P None) (delete_pipe at.now k n) (find_pipe k n) n (λ p e. keeps.deleted k p n e h) h
-  effect-walks PipeShow n ok h = keeps.said (flat_map pipe_lines n.pipes) n (pipes-quiet at.now n.pipes) h
-  effect-walks Show n ok h = keeps.said (rule_lines n) n (rules-quiet at.now n.book.rules) h
-  effect-walks (Inject send) n ok h = make-walks Plain send n h
-  effect-walks (Train k t) n ok h = alike None n (effect_of at (Train k t) n) refl refl refl refl refl h
-  effect-walks (Flow k f) n ok h = alike None n (effect_of at (Flow k f) n) refl refl refl refl refl h
-  effect-walks (Stop k) n ok h =
+  effect-walks j PipeShow n ok h = keeps.said (flat_map pipe_lines n.pipes) n (pipes-quiet at.now n.pipes) h
+  effect-walks j Show n ok h = keeps.said (rule_lines n) n (rules-quiet at.now n.book.rules) h
+  effect-walks j (Inject send) n ok h = make-walks (ByCommand j) send n h
+  effect-walks j (Train k t) n ok h = alike None n (effect_of at j (Train k t) n) refl refl refl refl refl h
+  effect-walks j (Flow k f) n ok h = alike None n (effect_of at j (Flow k f) n) refl refl refl refl refl h
+  effect-walks j (Stop k) n ok h =
       some_or (P None) (stop_flow n) (find_flow k n) n
       (λ f e. alike None n (stop_flow n f) refl refl refl refl refl h) h
-  effect-walks (OnePass b) n ok h = alike None n (effect_of at (OnePass b) n) refl refl refl refl refl h
-  effect-walks (Trace b) n ok h = keeps.traced b n h
-  effect-walks End n ok h = h
+  effect-walks j (OnePass b) n ok h = alike None n (effect_of at j (OnePass b) n) refl refl refl refl refl h
+  effect-walks j (Trace b) n ok h = keeps.traced b n h
+  effect-walks j End n ok h = h
 
   obey-walks : (k : ℕ) (c : Command) (n : Net) → Allowed c → P None n → P None (obey at k c n)
   obey-walks k c n ok h =
       let m : Net = note (CommandDone at.now k) n in
-      some_or (P None) (λ r. note (CommandRefused at.now k r) n) (refusal_of c n) (effect_of at c m)
+      some_or (P None) (λ r. note (CommandRefused at.now k r) n) (refusal_of c n) (effect_of at k c m)
       (λ r e. said_one (CommandRefused at.now k r) n (record { silent = refl; moment = (refl, tt) }) h)
-      (effect-walks c m ok (said_one (CommandDone at.now k) n (record { silent = refl; moment = (refl, tt) }) h))
+      (effect-walks k c m ok (said_one (CommandDone at.now k) n (record { silent = refl; moment = (refl, tt) }) h))
 
   counted-walks : (t : State) → t.clock ≡ at.now → P None t.net → P None (count_step t).net
   counted-walks t clock h =

@@ -68,10 +68,12 @@ mod MaskedInstances
 mod MissingFacts
 mod NetSteps
 mod NewRate
+mod NumbersBounded
 mod OnePacket
 mod OnePacketHeld
 mod OnePassAgain
 mod OneSlot
+mod OriginSteps
 mod PacketBudget
 mod PipeDelay
 mod PipeDeleted
@@ -129,5 +131,6 @@ mod TwoLosses
 mod TwoPipesInTurn
 mod TwoPipesThenDenied
 mod Types
+mod Untraced
 mod WaitsBounded
 pub mod Words

@@ -1,6 +1,6 @@
 -- What the theorems are written with: makings of commands and records, with their fields in order, and lists that go
 -- on alike. No definition stands here.
-use Rattle.std.specs.Prelude.{ℕ, zero, suc, ◌+◌, Option, Some, None, List, [], ◌∷◌, ◌++◌}
+use Rattle.std.specs.Prelude.{ℕ, zero, suc, ◌+◌, Option, Some, None, List, [], ◌∷◌, ◌++◌, false}
 use Rattle.emu_model.specs.Spans.{AddressSpan, PortSpan}
 use Rattle.emu_model.specs.declared.packets.Protocol.{Protocol}
 use Rattle.emu_model.specs.declared.rules.Action.{Action}
@@ -29,7 +29,7 @@ runs n f = runs_from 0 n f
 
 abbrev pub spec : ℕ → ℕ → ℕ → Spec
 spec seed packets steps =
-    record { seed = seed; budget = record { packets = packets; steps = steps } }
+    record { seed = seed; budget = record { packets = packets; steps = steps }; traced = false }
 
 abbrev pub at : ℕ → Command → Timed
 at moment command = record { moment = moment; command = command }

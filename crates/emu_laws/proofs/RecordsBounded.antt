@@ -5,12 +5,12 @@ use Rattle.std.specs.Prelude.{if◌then◌else◌, not, is_some, nat_lt, ◌==�
 use Rattle.std.specs.Option.{option_map_or}
 use Rattle.std.proofs.lemmas.List.{length-map}
 use Rattle.std.proofs.lemmas.List.Sums.{sum_by-cons, sum_by-append, count_by-le-length}
-use Rattle.emu_laws.proofs.Types.{EventContext, Spec, Timed, Class, NextCommand, Exit, Finish, Expiry, Emission, Packet, Load, Plain, Seg, Ack, Verdict, OverTheLink, Dropped, IntoPipe, SendSpec, PipeConfig, DropCause, Denied, NoPipe, Budget, Deleted, Command, Add, Delete, Config, PipeDelete, PipeShow, Show, Inject, Train, Flow, Stop, OnePass, Trace, End, Record, CommandDone, CommandRefused, PacketArrived, PacketDelivered, PacketFinished, PacketPassed, AckTaken, TimerExpired, StepsSpent, RuleLine, PipeLine}
+use Rattle.emu_laws.proofs.Types.{EventContext, Spec, Timed, Class, NextCommand, Exit, Finish, Expiry, Emission, Packet, Load, Plain, Seg, Ack, Verdict, OverTheLink, Dropped, IntoPipe, SendSpec, PipeConfig, DropCause, Denied, NoPipe, Budget, Deleted, Command, Add, Delete, Config, PipeDelete, PipeShow, Show, Inject, Train, Flow, Stop, OnePass, Trace, End, Record, CommandDone, CommandRefused, PacketArrived, PacketDelivered, PacketFinished, PacketPassed, AckTaken, TimerExpired, StepsSpent, RuleLine, PipeLine, ByCommand, ByReceiver, BySender, ByTrain, Origin}
 use Rattle.emu_model.specs.Rules.{Counted, verdict, start_behind, counted_book}
 use Rattle.emu_model.specs.Delay.{first_item, leave}
 use Rattle.emu_model.specs.Reno.{Sender, ack, with_segment, missing, emitted, emit, expire}
 use Rattle.emu_model.specs.Pipes.{Drop, InService, Instance, PipeState, After, pipe_packets, instance_for, pipe_arrive, pipe_finish, pipe_exit, pipe_configure}
-use Rattle.emu_model.specs.Net.{Net, FlowState, TrainState, note, note_all, note_traced, held, arrive_records, arrivals, note_arrival, enter_pipe, drop_packet, drop_record, to_pipe, by_verdict, pass_rules_from, pass_rules, reinject, packet_of, make_record, make, data_send, ack_send, find_pipe, put_pipe, put_after, find_flow, put_flow, find_train, put_train, take_segment, take_ack, take_load, deliver}
+use Rattle.emu_model.specs.Net.{Net, FlowState, TrainState, note, note_all, note_traced, held, arrive_records, arrivals, note_arrival, enter_pipe, drop_packet, drop_record, to_pipe, by_verdict, pass_rules_from, pass_rules, reinject, packet_of, make_record, make, data_send, ack_send, find_pipe, put_pipe, put_after, find_flow, put_flow, find_train, put_train, take_segment, take_ack, take_load, deliver, load_by, initial_net, opening_net}
 use Rattle.emu_model.specs.Commands.{without_pipe, rule_lines, instance_line, instance_lines, pipe_lines, new_pipe, delete_pipe, stop_flow, refusal_of, effect_of, obey}
 use Rattle.emu_model.specs.Events.{direct_exit, deliver_some, flying_in, leave_pipe_some, pipe_exits, served_in, note_finish, pipe_finishes, expire_flow, emit_segment, emit_packet, event_of}
 use Rattle.emu_model.specs.declared.sources.Due.{Due}
@@ -112,12 +112,12 @@ module _ (at : EventContext) where
       let m : Net = record n { book = counted_book start p n.book } in
       omega (arith, by_verdict-sum (verdict start p n.book.rules) p m, still n m refl refl refl)
 
-  make-sum : (l : Load) (send : SendSpec) (n : Net) → sum_of (make at l send n) ≤ sum_of n + 4
+  make-sum : (l : Origin) (send : SendSpec) (n : Net) → sum_of (make at l send n) ≤ sum_of n + 4
   make-sum l send n =
-      let p : Packet = packet_of l send n.made in
+      let p : Packet = packet_of (load_by l) send n.made in
       let k : Net = record n { made = n.made + 1 } in
-      let m : Net = note_traced (make_record at.now p ∷ []) k in
-      let made : sum_of m ≤ sum_of n + 1 = omega (arith, traced (make_record at.now p ∷ []) k, still n k refl refl refl) in
+      let m : Net = note_traced (make_record at.now l p ∷ []) k in
+      let made : sum_of m ≤ sum_of n + 1 = omega (arith, traced (make_record at.now l p ∷ []) k, still n k refl refl refl) in
       either (λ x. sum_of x ≤ sum_of n + 4) (nat_lt (held n) at.packet_budget) (pass_rules at p m)
       (drop_packet at.now Budget p m) (omega (arith, made, pass_rules_from-sum 0 p m))
       (omega (arith, made, dropped_one at.now Budget p m))
@@ -128,7 +128,7 @@ module _ (at : EventContext) where
       let m : Net = put_flow (record f { came = came }) n in
       omega (
         arith,
-        make-sum (Ack f.number (missing f.flow.smss came)) (ack_send f.flow) m,
+        make-sum (ByReceiver f.number (missing f.flow.smss came)) (ack_send f.flow) m,
         still n m refl refl refl,
       )
 
@@ -226,12 +226,12 @@ module _ (at : EventContext) where
   emit_segment-sum : (n : Net) (f : FlowState) → sum_of (emit_segment at n f) ≤ sum_of n + 4
   emit_segment-sum n f =
       let m : Net = put_flow (record f { sender = emit f.flow at.now f.sender }) n in
-      omega (arith, make-sum (Seg f.number (emitted f.sender)) (data_send f.flow) m, still n m refl refl refl)
+      omega (arith, make-sum (BySender f.number (emitted f.sender)) (data_send f.flow) m, still n m refl refl refl)
 
   emit_packet-sum : (n : Net) (t : TrainState) → sum_of (emit_packet at n t) ≤ sum_of n + 4
   emit_packet-sum n t =
       let m : Net = put_train (record t { sent = t.sent + 1 }) n in
-      omega (arith, make-sum Plain t.train.packet m, still n m refl refl refl)
+      omega (arith, make-sum (ByTrain t.number) t.train.packet m, still n m refl refl refl)
 
   event-sum : (class : Class) (k : ℕ) (n : Net) → sum_of (event_of at class k n) ≤ sum_of n + 4
   event-sum NextCommand k n = omega arith
@@ -308,33 +308,33 @@ module _ (at : EventContext) where
   same : (n m : Net) → m.direct ≡ n.direct → m.pipes ≡ n.pipes → m.records ≡ n.records → sum_of m ≤ sum_of n + 4
   same n m d p r = omega (arith, still n m d p r)
 
-  effect-sum : (c : Command) (n : Net) → sum_of (effect_of at c n) ≤ sum_of n + 4
-  effect-sum (Add r) n = same n (effect_of at (Add r) n) refl refl refl
-  effect-sum (Delete k) n = same n (effect_of at (Delete k) n) refl refl refl
-  effect-sum (Config k config) n =
+  effect-sum : (j : ℕ) (c : Command) (n : Net) → sum_of (effect_of at j c n) ≤ sum_of n + 4
+  effect-sum j (Add r) n = same n (effect_of at j (Add r) n) refl refl refl
+  effect-sum j (Delete k) n = same n (effect_of at j (Delete k) n) refl refl refl
+  effect-sum j (Config k config) n =
       some_or (λ x. sum_of x ≤ sum_of n + 4) (λ p. put_pipe k (pipe_configure config p) n) (find_pipe k n)
       (new_pipe k config n) (λ p e. omega (arith, configured-sum k config n p e)) (omega (arith, new_pipe-sum k config n))
-  effect-sum (PipeDelete k) n =
+  effect-sum j (PipeDelete k) n =
       some_or (λ x. sum_of x ≤ sum_of n + 4) (delete_pipe at.now k n) (find_pipe k n) n
       (λ p e. omega (arith, deleted-sum k n p e)) (omega arith)
-  effect-sum PipeShow n = omega (arith, listed-sum (flat_map pipe_lines n.pipes) n (pipes-untold n.pipes))
-  effect-sum Show n = omega (arith, listed-sum (rule_lines n) n (rules-untold n.book.rules))
-  effect-sum (Inject send) n = make-sum Plain send n
-  effect-sum (Train k t) n = same n (effect_of at (Train k t) n) refl refl refl
-  effect-sum (Flow k f) n = same n (effect_of at (Flow k f) n) refl refl refl
-  effect-sum (Stop k) n =
+  effect-sum j PipeShow n = omega (arith, listed-sum (flat_map pipe_lines n.pipes) n (pipes-untold n.pipes))
+  effect-sum j Show n = omega (arith, listed-sum (rule_lines n) n (rules-untold n.book.rules))
+  effect-sum j (Inject send) n = make-sum (ByCommand j) send n
+  effect-sum j (Train k t) n = same n (effect_of at j (Train k t) n) refl refl refl
+  effect-sum j (Flow k f) n = same n (effect_of at j (Flow k f) n) refl refl refl
+  effect-sum j (Stop k) n =
       some_or (λ x. sum_of x ≤ sum_of n + 4) (stop_flow n) (find_flow k n) n
       (λ f e. same n (stop_flow n f) refl refl refl) (omega arith)
-  effect-sum (OnePass b) n = same n (effect_of at (OnePass b) n) refl refl refl
-  effect-sum (Trace b) n = same n (effect_of at (Trace b) n) refl refl refl
-  effect-sum End n = omega arith
+  effect-sum j (OnePass b) n = same n (effect_of at j (OnePass b) n) refl refl refl
+  effect-sum j (Trace b) n = same n (effect_of at j (Trace b) n) refl refl refl
+  effect-sum j End n = omega arith
 
   obey-sum : (k : ℕ) (c : Command) (n : Net) → sum_of (obey at k c n) ≤ sum_of n + 5
   obey-sum k c n =
       let m : Net = note (CommandDone at.now k) n in
-      some_or (λ x. sum_of x ≤ sum_of n + 5) (λ r. note (CommandRefused at.now k r) n) (refusal_of c n) (effect_of at c m)
+      some_or (λ x. sum_of x ≤ sum_of n + 5) (λ r. note (CommandRefused at.now k r) n) (refusal_of c n) (effect_of at k c m)
       (λ r e. omega (arith, noted_one (CommandRefused at.now k r) n))
-      (omega (arith, effect-sum c m, noted_one (CommandDone at.now k) n))
+      (omega (arith, effect-sum k c m, noted_one (CommandDone at.now k) n))
 
 taken-sum : (class : Class) (e : Due) (c : Timed) (rest : List Timed) (s : State) →
     sum_of (take_class class e c rest s).net ≤ sum_of s.net + 5
@@ -363,7 +363,7 @@ step-sum s =
 
 alone-sum : (spec : Spec) (c : List Timed) (n : ℕ) → sum_of (alone spec c n).net ≤ 6 * n
 unfolding sum_of
-alone-sum spec c zero = omega (arith, none-weighs)
+alone-sum spec c zero = omega (arith, none-weighs, weigh-same each_one initial_net (opening_net spec.traced) refl refl)
 alone-sum spec c (suc n) = omega (arith, alone-sum spec c n, step-sum (alone spec c n))
 
 pub records_are_bounded : RecordsAreBounded

@@ -6,7 +6,7 @@ use Rattle.emu_laws.proofs.Types.{EventContext, Spec, Timed, Packet, Deleted, Re
 use Rattle.emu_model.specs.FlowIds.{flow_id}
 use Rattle.emu_model.specs.Delay.{leave}
 use Rattle.emu_model.specs.Pipes.{InService, PipeState, Drop, instance_for, pipe_arrive, pipe_finish, pipe_exit, pipe_configure, pipe_packets}
-use Rattle.emu_model.specs.Net.{Net, note, note_all, note_traced, drop_record, drop_packet, arrive_records, arrivals, identify_record, make_record, packet_of, put_pipe, put_after, to_direct}
+use Rattle.emu_model.specs.Net.{Net, note, note_all, note_traced, drop_record, drop_packet, arrive_records, arrivals, identify_record, make_record, packet_of, put_pipe, put_after, to_direct, load_by}
 use Rattle.emu_model.specs.Commands.{new_pipe, delete_pipe}
 use Rattle.emu_model.specs.Events.{served_in, note_finish}
 use Rattle.emu_model.specs.declared.sources.Due.{Due}
@@ -66,8 +66,8 @@ adds-keeps at l = record {
   traced = λ b n h. add-none at.now l n (record n { trace = b }) refl h;
   said = λ rs n q h. add at.now rs l n (note_all rs n) refl
       (each_weaker (IsQuietAt at.now) (IsAt at.now) (λ r x. x.moment) rs q) h;
-  made = λ load send n h.
-      let r : Record = make_record at.now (packet_of load send n.made) in
+  made = λ o send n h.
+      let r : Record = make_record at.now o (packet_of (load_by o) send n.made) in
       add at.now (if n.trace then r ∷ [] else []) l n (note_traced (r ∷ []) (record n { made = n.made + 1 })) refl
       (if-at at.now n.trace (r ∷ []) ((refl, tt), tt)) h;
   placed = λ place p n h. h;
@@ -101,13 +101,13 @@ adds-keeps at l = record {
       add at.now (map (drop_record at.now) ds) l n (delete_pipe at.now k n p) refl (drops-at at.now ds) h;
 }
 
-moments-append : (rs ss : List Record) → moments_of (rs ++ ss) ≡ moments_of rs ++ moments_of ss
+pub moments-append : (rs ss : List Record) → moments_of (rs ++ ss) ≡ moments_of rs ++ moments_of ss
 moments-append [] ss = refl
 moments-append (r ∷ rs) ss =
     ap (λ xs. moment_of r ++ xs) (moments-append rs ss)
     ∙ sym (append_assoc (moment_of r) (moments_of rs) (moments_of ss))
 
-moments-at : (now : ℕ) (rs : List Record) → AllByRecursion (IsAt now) rs → AllByRecursion (λ m. m ≡ now) (moments_of rs)
+pub moments-at : (now : ℕ) (rs : List Record) → AllByRecursion (IsAt now) rs → AllByRecursion (λ m. m ≡ now) (moments_of rs)
 moments-at now [] h = tt
 moments-at now (r ∷ rs) h = each_joined (λ m. m ≡ now) (moment_of r) (moments_of rs) h.0 (moments-at now rs h.1)
 

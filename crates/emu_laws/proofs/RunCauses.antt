@@ -4,7 +4,7 @@ use Rattle.std.proofs.Common.{Bool, true, inl, inr, ◌≡◌, ℕ, zero, suc, �
 use Rattle.std.specs.Prelude.{flat_map, option_and_then, option_map, option_to_list, if◌then◌else◌, ◌==◌, nat_lt, is_some, find, map, slice_get}
 use Rattle.std.specs.List.{AllByRecursion}
 use Rattle.std.proofs.lemmas.List.{length-append}
-use Rattle.emu_laws.proofs.Types.{SendSpec, Plain, Seg, PipeDelete, Dropped, IntoPipe, Denied, NoPipe, NoInstance, QueueLimit, Slots, KBytes, Packet, Load, Ack, Record, PacketDelivered, PacketDropped, Discipline, PipeConfig, Lost, Full, Codel, Deleted, Budget}
+use Rattle.emu_laws.proofs.Types.{SendSpec, Plain, Seg, PipeDelete, Dropped, IntoPipe, Denied, NoPipe, NoInstance, QueueLimit, Slots, KBytes, Packet, Load, Ack, Record, PacketDelivered, PacketDropped, Discipline, PipeConfig, Lost, Full, Codel, Deleted, Budget, Origin}
 use Rattle.emu_model.specs.declared.pipes.Discipline.TheVariants.{TailDrop, ControlledDelay}
 use Rattle.emu_model.specs.FlowIds.{FlowId, flow_id}
 use Rattle.emu_model.specs.Delay.{InFlight, first_item, leave}
@@ -12,7 +12,7 @@ use Rattle.emu_model.specs.DropTail.{Queued}
 use Rattle.emu_model.specs.ComponentLaws.{IsWithin}
 use Rattle.emu_model.specs.Codel.{Times, CodelState, codel_dequeue}
 use Rattle.emu_model.specs.Pipes.{held_in, Instance, PipeState, After, Drop, no_drop, instance_finish, put_instance, dequeue, codel_drops, serve_next, enqueue, drawn_one, initial_instance, with_instance, draw, instance_for, pipe_packets, pipe_arrive, pipe_finish, pipe_exit, pipe_configure}
-use Rattle.emu_model.specs.Net.{drop_packet, Net, held, is_drop_of, drops_of, note, note_all, note_drops, to_direct, put_pipe, put_after, find_pipe, note_traced, make_record, drop_record, packet_of}
+use Rattle.emu_model.specs.Net.{drop_packet, Net, held, is_drop_of, drops_of, note, note_all, note_drops, to_direct, put_pipe, put_after, find_pipe, note_traced, make_record, drop_record, packet_of, load_by}
 use Rattle.emu_model.specs.Commands.{delete_pipe, new_pipe, without_pipe}
 use Rattle.emu_model.specs.Events.{flying_in}
 use Rattle.emu_model.specs.Alone.{alone}
@@ -390,33 +390,35 @@ module _ (s : State) (busy : AllByRecursion IsBusy s.net.pipes) where
       refl) (moved starting n (without_pipe k n) refl h)
 
   -- a packet was made, which a traced run records
-  abbrev begun : ℕ → Packet → Net → Net
-  begun now p n = note_traced (make_record now p ∷ []) (record n { made = n.made + 1 })
+  abbrev begun : ℕ → Origin → Packet → Net → Net
+  begun now l p n = note_traced (make_record now l p ∷ []) (record n { made = n.made + 1 })
 
   is-made : (l : Load) (send : SendSpec) (n : Net) → Owes s l send n → IsMade s (packet_of l send n.made)
   is-made l send n h = record { load = l; send = send; is = ap (packet_of l send) h.made; sent = h.sent }
 
-  made-told : (now : ℕ) (l : Load) (send : SendSpec) (n : Net) → Told (owed now l send) n →
-      Told (moving 0 (packet_of l send n.made)) (begun now (packet_of l send n.made) n)
+  made-told : (now : ℕ) (l : Origin) (send : SendSpec) (n : Net) → Told (owed now (load_by l) send) n →
+      Told (moving 0 (packet_of (load_by l) send n.made)) (begun now l (packet_of (load_by l) send n.made) n)
   made-told now l send n h =
-      let p : Packet = packet_of l send n.made in
-      noted (HasCause s) (Place s) s.net (if n.trace then make_record now p ∷ [] else []) (owed now l send) (moving 0 p) n
-      (begun now p n) refl (either (AllByRecursion (HasCause s)) n.trace (make_record now p ∷ []) [] (tt, tt) tt)
+      let p : Packet = packet_of (load_by l) send n.made in
+      noted (HasCause s) (Place s) s.net (if n.trace then make_record now l p ∷ [] else []) (owed now (load_by l) send)
+      (moving 0 p) n (begun now l p n) refl
+      (either (AllByRecursion (HasCause s)) n.trace (make_record now l p ∷ []) [] (tt, tt) tt)
       (record {
-        rested = rested-alike s.net n (begun now p n) refl refl refl h.place.rested;
-        enters = inr (is-made l send n h.place, refl);
+        rested = rested-alike s.net n (begun now l p n) refl refl refl h.place.rested;
+        enters = inr (is-made (load_by l) send n h.place, refl);
       }) h
 
-  refused-told : (now : ℕ) (l : Load) (send : SendSpec) (n : Net) → s.spec.budget.packets ≤ held n →
-      Told (owed now l send) n →
-      Told ended (drop_packet now Budget (packet_of l send n.made) (begun now (packet_of l send n.made) n))
+  refused-told : (now : ℕ) (l : Origin) (send : SendSpec) (n : Net) → s.spec.budget.packets ≤ held n →
+      Told (owed now (load_by l) send) n →
+      Told ended (drop_packet now Budget (packet_of (load_by l) send n.made)
+      (begun now l (packet_of (load_by l) send n.made) n))
   refused-told now l send n many h =
-      let p : Packet = packet_of l send n.made in
-      dropped-told now (record { packet = p; cause = Budget } ∷ []) (moving 0 p) (begun now p n) (
+      let p : Packet = packet_of (load_by l) send n.made in
+      dropped-told now (record { packet = p; cause = Budget } ∷ []) (moving 0 p) (begun now l p n) (
         record {
           packet = p;
           number_is = refl;
-          made = is-made l send n h.place;
+          made = is-made (load_by l) send n h.place;
           spent = omega (arith, many, within-held (held s.net) n h.place.rested.within);
         },
         tt,

@@ -14,7 +14,7 @@ use Rattle.emu_model.specs.Alone.{alone}
 
 -- two commands, and a budget of two steps
 abbrev spec : Spec
-spec = record { seed = 0; budget = record { packets = 10; steps = 2 } }
+spec = record { seed = 0; budget = record { packets = 10; steps = 2 }; traced = false }
 
 abbrev commands : List Timed
 commands = record { moment = 3; command = OnePass false } ∷ record { moment = 5; command = End } ∷ []

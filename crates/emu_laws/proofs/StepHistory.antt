@@ -9,7 +9,7 @@ use Rattle.emu_model.specs.FlowIds.{flow_id}
 use Rattle.emu_model.specs.Delay.{Line, leave}
 use Rattle.emu_model.specs.DropTail.{Queued, accepts}
 use Rattle.emu_model.specs.Pipes.{Instance, PipeState, After, Drop, InService, no_drop, drop_one, drawn_one, instance_arrive, instance_finish, serve_next, enqueue, accept, codel_drops, dequeue, put_instance, change_one, with_instance, draw, arrive_at, instance_for, pipe_arrive, pipe_finish, pipe_exit, pipe_configure, pipe_packets}
-use Rattle.emu_model.specs.Net.{Net, initial_net, note, note_all, note_traced, drop_record, drop_packet, arrive_records, arrivals, identify_record, make_record, packet_of, find_pipe, put_pipe, put_after, to_direct}
+use Rattle.emu_model.specs.Net.{Net, initial_net, note, note_all, note_traced, drop_record, drop_packet, arrive_records, arrivals, identify_record, make_record, packet_of, find_pipe, put_pipe, put_after, to_direct, load_by, opening_net}
 use Rattle.emu_model.specs.Commands.{with_pipe, new_pipe, delete_pipe}
 use Rattle.emu_model.specs.Events.{served_in, note_finish}
 use Rattle.emu_model.specs.declared.sources.Due.{Due}
@@ -244,8 +244,8 @@ goes-keeps at l = record {
   traced = λ b n g. on n (record n { trace = b }) g (same-by_pipe at.seed n (record n { trace = b }) refl refl);
   said = λ rs n h g. on n (note_all rs n) g
       (nothing-by_pipe at.seed n (note_all rs n) rs refl refl (quiet-by_pipe at.now rs h));
-  made = λ load send n g.
-      let r : Record = make_record at.now (packet_of load send n.made) in
+  made = λ o send n g.
+      let r : Record = make_record at.now o (packet_of (load_by o) send n.made) in
       let m : Net = note_traced (r ∷ []) (record n { made = n.made + 1 }) in
       on n m g (nothing-by_pipe at.seed n m (if n.trace then r ∷ [] else []) refl refl (if-none n.trace (r ∷ []) refl));
   placed = λ place p n g. g;
@@ -325,7 +325,7 @@ pub steps_are_histories : StepsAreHistories
 steps_are_histories spec c n = rw add-one (next-goes spec c n)
 
 from-start : (spec : Spec) (c : List Timed) (n : ℕ) → GoesOn spec.seed initial_net (alone spec c n).net
-from-start spec c zero = same-by_pipe spec.seed initial_net initial_net refl refl
+from-start spec c zero = same-by_pipe spec.seed initial_net (opening_net spec.traced) refl refl
 from-start spec c (suc n) =
     going-on spec.seed initial_net (alone spec c n).net (alone spec c (suc n)).net (from-start spec c n) (next-goes spec c n)
 

@@ -1,5 +1,5 @@
 -- TraceOnAndOff: the report of a scenario, computed by the definitions.
-use Rattle.emu_laws.proofs.Words.{Add, AnyProtocol, CommandDone, Config, End, Inject, List, PacketArrived, PacketDelivered, PacketFinished, PacketMade, Pipe, Plain, Record, Slots, TailDrop, Timed, Trace, Udp, [], alone, false, refl, trace_of, true, ◌++◌, ◌+◌, ◌∷◌, ◌≡◌}
+use Rattle.emu_laws.proofs.Words.{Add, AnyProtocol, ByCommand, CommandDone, Config, End, Inject, List, PacketArrived, PacketDelivered, PacketFinished, PacketMade, Pipe, Plain, Record, Slots, TailDrop, Timed, Trace, Udp, [], alone, false, refl, trace_of, true, ◌++◌, ◌+◌, ◌∷◌, ◌≡◌}
 use Rattle.emu_laws.proofs.Makings.{at, counted, packet, pipe_with, rule_for_all, runs, spec, unmasked}
 
 -- experiment trace-on-and-off
@@ -15,7 +15,7 @@ abbrev exp_0-records : List Record
 exp_0-records =
     runs 3 (λ i. CommandDone 0 i ∷ []) ++
     (PacketFinished 0 0 1 0 ∷ CommandDone 1 3 ∷ CommandDone 1 4 ∷
-    PacketMade 1 1 Plain Udp 167772161 1000 167772162 2000 1000 ∷ PacketArrived 1 1 1 0 ∷
+    PacketMade 1 1 (ByCommand 4) Udp 167772161 1000 167772162 2000 1000 ∷ PacketArrived 1 1 1 0 ∷
     PacketFinished 1 1 1 0 ∷ CommandDone 2 5 ∷ CommandDone 2 6 ∷ PacketFinished 2 2 1 0 ∷ []) ++
     runs 3 (λ i. PacketDelivered (10000000 + i) i Plain ∷ []) ++
     (CommandDone 20000000 7 ∷ [])

@@ -3,6 +3,7 @@
 use Rattle.std.specs.Prelude.{◌≡◌, refl, true, false, List, [], ◌∷◌, map, flat_map, count_by}
 use Rattle.std.proofs.Common.{inl, inr}
 use Rattle.emu_model.specs.declared.packets.Load.TheVariants.{Plain}
+use Rattle.emu_model.specs.declared.packets.Origin.TheVariants.{ByTrain}
 use Rattle.emu_model.specs.declared.packets.Protocol.TheVariants.{Udp}
 use Rattle.emu_model.specs.declared.commands.Command.TheVariants.{Show, Trace, End}
 use Rattle.emu_model.specs.declared.commands.Command.{Command}
@@ -28,24 +29,36 @@ not_twice (inl (e, inr h)) = h
 not_twice (inr (inl (e, h))) = absurd (cc e)
 not_twice (inr (inr h)) = h
 
--- a run is traced whose first command is `trace 1` and which has no `trace 0`
+-- a run is traced that is traced from its first event on, or whose first command is `trace 1`, and which has no `trace 0`
 abbrev at_zero : Command → Timed
 at_zero c = record { moment = 0; command = c }
 
-traced_run : IsTraced (at_zero (Trace true) ∷ at_zero Show ∷ at_zero (Trace true) ∷ at_zero End ∷ [])
+traced_run : IsTraced false (at_zero (Trace true) ∷ at_zero Show ∷ at_zero (Trace true) ∷ at_zero End ∷ [])
 traced_run = (refl, ((λ e. cc e), ((λ e. cc e), ((λ e. cc e), tt))))
 
-traced_too_late : IsTraced (at_zero Show ∷ at_zero (Trace true) ∷ []) → ⊥
+traced_too_late : IsTraced false (at_zero Show ∷ at_zero (Trace true) ∷ []) → ⊥
 traced_too_late h = absurd (cc h.0)
 
-traced_no_more : IsTraced (at_zero (Trace true) ∷ at_zero (Trace false) ∷ []) → ⊥
+traced_no_more : IsTraced false (at_zero (Trace true) ∷ at_zero (Trace false) ∷ []) → ⊥
 traced_no_more h = h.1.0 refl
+
+traced_without : IsTraced true (at_zero Show ∷ at_zero (Trace true) ∷ [])
+traced_without = ((λ e. cc e), ((λ e. cc e), tt))
+
+traced_until : IsTraced true (at_zero (Trace false) ∷ []) → ⊥
+traced_until h = h.0 refl
+
+traced_with_none : IsTraced true []
+traced_with_none = tt
+
+untraced_with_none : IsTraced false [] → ⊥
+untraced_with_none h = h
 
 -- packet 7 is made, comes to instance 0 of pipe 1, finishes there and passes on; comes to instance 1 of pipe 1, and is
 -- dropped there. Packet 8 comes to instance 0 of pipe 2, finishes there and is delivered
 abbrev lines : List Record
 lines =
-    PacketMade 0 7 Plain Udp 1 2 3 4 100 ∷ PacketArrived 0 7 1 0 ∷ PacketArrived 0 8 2 0 ∷ PacketFinished 5 7 1 0
+    PacketMade 0 7 (ByTrain 3) Udp 1 2 3 4 100 ∷ PacketArrived 0 7 1 0 ∷ PacketArrived 0 8 2 0 ∷ PacketFinished 5 7 1 0
     ∷ PacketPassed 6 7 1 0 ∷ PacketArrived 6 7 1 1 ∷ PacketDropped 6 7 Plain Full ∷ PacketFinished 7 8 2 0
     ∷ PacketDelivered 8 8 Plain ∷ CommandDone 8 7 ∷ []
 

@@ -1,5 +1,5 @@
 -- TracedBudget: the report of a scenario, computed by the definitions.
-use Rattle.emu_laws.proofs.Words.{Add, AnyProtocol, Budget, CommandDone, Config, End, Inject, InstanceIdentified, List, PacketArrived, PacketDelivered, PacketDropped, PacketFinished, PacketMade, Pipe, Plain, Record, Slots, TailDrop, Timed, Trace, Udp, [], alone, refl, trace_of, true, ◌++◌, ◌+◌, ◌∷◌, ◌≡◌}
+use Rattle.emu_laws.proofs.Words.{Add, AnyProtocol, Budget, ByCommand, CommandDone, Config, End, Inject, InstanceIdentified, List, PacketArrived, PacketDelivered, PacketDropped, PacketFinished, PacketMade, Pipe, Plain, Record, Slots, TailDrop, Timed, Trace, Udp, [], alone, refl, trace_of, true, ◌++◌, ◌+◌, ◌∷◌, ◌≡◌}
 use Rattle.emu_laws.proofs.Makings.{at, counted, packet, pipe_with, rule_for_all, runs, spec, unmasked}
 
 -- experiment traced-budget
@@ -13,10 +13,11 @@ exp_0-commands =
 abbrev exp_0-records : List Record
 exp_0-records =
     runs 4 (λ i. CommandDone 0 i ∷ []) ++
-    (PacketMade 0 0 Plain Udp 167772161 1000 167772162 2000 1000 ∷
+    (PacketMade 0 0 (ByCommand 3) Udp 167772161 1000 167772162 2000 1000 ∷
     InstanceIdentified 0 1 0 0 0 0 0 0 ∷ PacketArrived 0 0 1 0 ∷ CommandDone 0 4 ∷
-    PacketMade 0 1 Plain Udp 167772161 1000 167772162 2000 1000 ∷ PacketDropped 0 1 Plain Budget ∷
-    PacketFinished 8000000 0 1 0 ∷ PacketDelivered 8000001 0 Plain ∷ CommandDone 20000000 5 ∷ [])
+    PacketMade 0 1 (ByCommand 4) Udp 167772161 1000 167772162 2000 1000 ∷
+    PacketDropped 0 1 Plain Budget ∷ PacketFinished 8000000 0 1 0 ∷
+    PacketDelivered 8000001 0 Plain ∷ CommandDone 20000000 5 ∷ [])
 
 exp_0 :
     trace_of (alone (spec 0 1 1000000) exp_0-commands 10)

@@ -1,5 +1,5 @@
 -- TracedFlow: the report of a scenario, computed by the definitions.
-use Rattle.emu_laws.proofs.Words.{Ack, AckTaken, Add, Allow, CommandDone, Config, End, Fixed, Flow, InstanceIdentified, List, None, OnlyTcp, PacketArrived, PacketDelivered, PacketFinished, PacketMade, Pipe, Record, Seg, Slots, TailDrop, Tcp, Timed, Trace, [], address_span, alone, refl, trace_of, true, ◌++◌, ◌+◌, ◌∷◌, ◌≡◌}
+use Rattle.emu_laws.proofs.Words.{Ack, AckTaken, Add, Allow, ByReceiver, BySender, CommandDone, Config, End, Fixed, Flow, InstanceIdentified, List, None, OnlyTcp, PacketArrived, PacketDelivered, PacketFinished, PacketMade, Pipe, Record, Seg, Slots, TailDrop, Tcp, Timed, Trace, [], address_span, alone, refl, trace_of, true, ◌++◌, ◌+◌, ◌∷◌, ◌≡◌}
 use Rattle.emu_laws.proofs.Makings.{at, counted, flow, pipe_with, rule, runs, spec, unmasked}
 
 -- experiment traced-flow
@@ -14,10 +14,10 @@ exp_0-commands =
 abbrev exp_0-records : List Record
 exp_0-records =
     runs 5 (λ i. CommandDone 0 i ∷ []) ++
-    (PacketMade 0 0 (Seg 1 0) Tcp 167772161 1000 167772162 80 1000 ∷
+    (PacketMade 0 0 (BySender 1 0) Tcp 167772161 1000 167772162 80 1000 ∷
     InstanceIdentified 0 1 0 0 0 0 0 0 ∷ PacketArrived 0 0 1 0 ∷ PacketFinished 8000000 0 1 0 ∷
     PacketDelivered 18000000 0 (Seg 1 0) ∷
-    PacketMade 18000000 1 (Ack 1 960) Tcp 167772162 80 167772161 1000 40 ∷
+    PacketMade 18000000 1 (ByReceiver 1 960) Tcp 167772162 80 167772161 1000 40 ∷
     PacketDelivered 18000001 1 (Ack 1 960) ∷ AckTaken 18000001 1 4800 65535 ∷
     CommandDone 100000000 5 ∷ [])
 

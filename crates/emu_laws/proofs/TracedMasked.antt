@@ -1,5 +1,5 @@
 -- TracedMasked: the report of a scenario, computed by the definitions.
-use Rattle.emu_laws.proofs.Words.{Add, AnyProtocol, CommandDone, Config, End, Inject, InstanceIdentified, List, PacketArrived, PacketDelivered, PacketFinished, PacketMade, Pipe, Plain, Record, Slots, TailDrop, Timed, Trace, Udp, [], alone, refl, trace_of, true, ◌++◌, ◌+◌, ◌∷◌, ◌≡◌}
+use Rattle.emu_laws.proofs.Words.{Add, AnyProtocol, ByCommand, CommandDone, Config, End, Inject, InstanceIdentified, List, PacketArrived, PacketDelivered, PacketFinished, PacketMade, Pipe, Plain, Record, Slots, TailDrop, Timed, Trace, Udp, [], alone, refl, trace_of, true, ◌++◌, ◌+◌, ◌∷◌, ◌≡◌}
 use Rattle.emu_laws.proofs.Makings.{at, counted, masked, packet, pipe_with, rule_for_all, runs, spec}
 
 -- experiment traced-masked
@@ -15,11 +15,11 @@ exp_0-commands =
 abbrev exp_0-records : List Record
 exp_0-records =
     runs 4 (λ i. CommandDone 0 i ∷ []) ++
-    (PacketMade 0 0 Plain Udp 167772161 1000 167772162 2000 1000 ∷
+    (PacketMade 0 0 (ByCommand 3) Udp 167772161 1000 167772162 2000 1000 ∷
     InstanceIdentified 0 1 0 0 0 167772162 0 0 ∷ PacketArrived 0 0 1 0 ∷ CommandDone 0 4 ∷
-    PacketMade 0 1 Plain Udp 167772161 1000 167772163 2000 1000 ∷
+    PacketMade 0 1 (ByCommand 4) Udp 167772161 1000 167772163 2000 1000 ∷
     InstanceIdentified 0 1 1 0 0 167772163 0 0 ∷ PacketArrived 0 1 1 1 ∷ CommandDone 0 5 ∷
-    PacketMade 0 2 Plain Udp 167772161 1000 167772162 2000 1000 ∷ PacketArrived 0 2 1 0 ∷
+    PacketMade 0 2 (ByCommand 5) Udp 167772161 1000 167772162 2000 1000 ∷ PacketArrived 0 2 1 0 ∷
     PacketFinished 8000000 0 1 0 ∷ PacketFinished 8000000 1 1 1 ∷ PacketDelivered 8000001 0 Plain ∷
     PacketDelivered 8000001 1 Plain ∷ PacketFinished 16000000 2 1 0 ∷
     PacketDelivered 16000001 2 Plain ∷ CommandDone 20000000 6 ∷ [])

@@ -1,5 +1,5 @@
 -- TracedTwoPipes: the report of a scenario, computed by the definitions.
-use Rattle.emu_laws.proofs.Words.{Add, Allow, AnyProtocol, CommandDone, Config, End, Inject, InstanceIdentified, List, OnePass, PacketArrived, PacketDelivered, PacketFinished, PacketMade, PacketPassed, Pipe, Plain, Record, Slots, TailDrop, Timed, Trace, Udp, [], alone, false, refl, trace_of, true, ◌++◌, ◌+◌, ◌∷◌, ◌≡◌}
+use Rattle.emu_laws.proofs.Words.{Add, Allow, AnyProtocol, ByCommand, CommandDone, Config, End, Inject, InstanceIdentified, List, OnePass, PacketArrived, PacketDelivered, PacketFinished, PacketMade, PacketPassed, Pipe, Plain, Record, Slots, TailDrop, Timed, Trace, Udp, [], alone, false, refl, trace_of, true, ◌++◌, ◌+◌, ◌∷◌, ◌≡◌}
 use Rattle.emu_laws.proofs.Makings.{at, counted, masked, packet, pipe_with, rule_for_all, runs, spec, unmasked}
 
 -- experiment traced-two-pipes
@@ -16,7 +16,7 @@ exp_0-commands =
 abbrev exp_0-records : List Record
 exp_0-records =
     runs 8 (λ i. CommandDone 0 i ∷ []) ++
-    (PacketMade 0 0 Plain Udp 167772161 1000 167772162 2000 1000 ∷
+    (PacketMade 0 0 (ByCommand 7) Udp 167772161 1000 167772162 2000 1000 ∷
     InstanceIdentified 0 1 0 0 0 0 0 0 ∷ PacketArrived 0 0 1 0 ∷ PacketFinished 0 0 1 0 ∷
     PacketPassed 10000000 0 1 0 ∷ InstanceIdentified 10000000 2 0 17 167772161 167772162 1000 2000 ∷
     PacketArrived 10000000 0 2 0 ∷ PacketFinished 10000000 0 2 0 ∷ PacketPassed 15000000 0 2 0 ∷

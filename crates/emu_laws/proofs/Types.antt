@@ -4,6 +4,8 @@ pub use Rattle.emu_model.specs.declared.packets.Protocol.{Protocol}
 pub use Rattle.emu_model.specs.declared.packets.Protocol.TheVariants.{Tcp, Udp}
 pub use Rattle.emu_model.specs.declared.packets.Load.{Load}
 pub use Rattle.emu_model.specs.declared.packets.Load.TheVariants.{Plain, Seg, Ack}
+pub use Rattle.emu_model.specs.declared.packets.Origin.{Origin}
+pub use Rattle.emu_model.specs.declared.packets.Origin.TheVariants.{ByCommand, ByTrain, BySender, ByReceiver}
 pub use Rattle.emu_model.specs.declared.packets.Place.{Place}
 pub use Rattle.emu_model.specs.declared.packets.Packet.{Packet}
 pub use Rattle.emu_model.specs.declared.rules.Action.{Action}

@@ -2,6 +2,7 @@
 pub use Rattle.std.specs.Prelude.{◌≡◌, refl, ℕ, ◌+◌, ◌*◌, List, [], ◌∷◌, ◌++◌, Some, None, true, false}
 pub use Rattle.emu_model.specs.Spans.{address_span}
 pub use Rattle.emu_model.specs.declared.packets.Load.TheVariants.{Plain, Seg, Ack}
+pub use Rattle.emu_model.specs.declared.packets.Origin.TheVariants.{ByCommand, ByTrain, BySender, ByReceiver}
 pub use Rattle.emu_model.specs.declared.packets.Protocol.TheVariants.{Tcp, Udp}
 pub use Rattle.emu_model.specs.declared.rules.Action.TheVariants.{Allow, Deny, Count, SkipTo, Pipe}
 pub use Rattle.emu_model.specs.declared.rules.ProtocolMatch.TheVariants.{AnyProtocol, OnlyTcp, OnlyUdp}

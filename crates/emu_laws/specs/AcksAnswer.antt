@@ -1,7 +1,8 @@
 -- Every acknowledgement that is created answers a segment that was delivered (RFC 5681, section 4.2; that each segment is
 -- acknowledged at once is our choice).
 use Rattle.std.specs.Prelude.{◌≡◌, ℕ, Option, Some, None, List, [], ◌∷◌}
-use Rattle.emu_model.specs.declared.packets.Load.TheVariants.{Seg, Ack}
+use Rattle.emu_model.specs.declared.packets.Load.TheVariants.{Seg}
+use Rattle.emu_model.specs.declared.packets.Origin.TheVariants.{ByReceiver}
 use Rattle.emu_model.specs.declared.records.Record.{Record}
 use Rattle.emu_model.specs.declared.records.Record.TheVariants.{PacketMade, PacketDelivered}
 use Rattle.emu_model.specs.declared.commands.Spec.{Spec}
@@ -16,7 +17,7 @@ DeliversSegment k moment r = ⊥
 -- if a record is the creation of an acknowledgement, the record before it is the delivery of a segment of the same flow at
 -- the same time
 abbrev pub Answers : Option Record → Record → Type 0
-Answers before (PacketMade moment packet (Ack k upto) proto src sport dst dport size) =
+Answers before (PacketMade moment packet (ByReceiver k upto) proto src sport dst dport size) =
     (r : Record) × (before ≡ Some r) × DeliversSegment k moment r
 Answers before r = Unit {0}
 

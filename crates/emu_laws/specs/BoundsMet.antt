@@ -1,6 +1,6 @@
 -- Examples that meet the bounds of laws, so that no smaller bound holds, and a search that takes every kind of step. The runs
 -- and numbers are worked out by hand.
-use Rattle.std.specs.Prelude.{◌≡◌, ℕ, ◌+◌, ◌-◌, ◌*◌, ◌^◌, true, None, List, [], ◌∷◌, length, map}
+use Rattle.std.specs.Prelude.{◌≡◌, ℕ, ◌+◌, ◌-◌, ◌*◌, ◌^◌, true, None, List, [], ◌∷◌, length, map, false}
 use Rattle.std.specs.List.{AllByRecursion}
 use Rattle.emu_model.specs.declared.packets.Protocol.TheVariants.{Udp}
 use Rattle.emu_model.specs.declared.packets.Load.TheVariants.{Plain}
@@ -28,6 +28,7 @@ use Rattle.emu_model.specs.Step.{step}
 use Rattle.emu_model.specs.Alone.{alone}
 use Rattle.emu_laws.specs.CodelCauses.{least_sojourn, most_left, least_time, control_after}
 use Rattle.emu_laws.specs.DeliveryDelay.{least_delay}
+use Rattle.emu_laws.specs.NumberBounds.{most_made}
 use Rattle.emu_laws.specs.PipeRate.{bytes_between, most_bits}
 use Rattle.emu_laws.specs.SearchEnds.{EndsAt}
 use Rattle.emu_laws.specs.SenderWindow.{most_flight, window_end, IsTooSmall}
@@ -138,10 +139,10 @@ udp_packet = record {
 }
 
 abbrev spec : Spec
-spec = record { seed = 0; budget = record { packets = 2; steps = 100 } }
+spec = record { seed = 0; budget = record { packets = 2; steps = 100 }; traced = false }
 
 abbrev four_steps : Spec
-four_steps = record { seed = 0; budget = record { packets = 2; steps = 4 } }
+four_steps = record { seed = 0; budget = record { packets = 2; steps = 4 }; traced = false }
 
 abbrev times : Times
 times = record { target = 5; interval = 100 }
@@ -168,6 +169,9 @@ pub record BoundsAreMet : Type 0 where
   pub step_tells_most :
       let s = alone four_steps traced_packet 3 in
       told (step s).net.records + held (step s).net ≡ told s.net.records + held s.net + most_told
+  pub step_makes_most :
+      let s = alone four_steps traced_packet 3 in
+      (step s).net.made ≡ s.net.made + most_made
   pub flight_is_window : map (λ f. flight_size f.sender) (flows 4) ≡ map most_flight (flows 4)
   pub window_is_filled : map (λ f. f.sender.snd_nxt + f.flow.smss) (flows 3) ≡ map window_end (flows 3)
   pub rate_is_full :

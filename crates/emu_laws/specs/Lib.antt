@@ -13,6 +13,7 @@ pub mod LossCauses
 pub mod Losses
 pub mod Missing
 pub mod NeverIdle
+pub mod NumberBounds
 pub mod PipeDelay
 pub mod PipeRate
 pub mod QueueBound
@@ -25,6 +26,7 @@ pub mod SenderWindow
 pub mod ServiceMoments
 pub mod Isolation
 pub mod StepPackets
+pub mod Tracing
 pub mod WaitBound
 pub mod WorkBound
 pub mod BoundsMet

@@ -11,7 +11,7 @@ use Rattle.emu_model.specs.Alone.{alone}
 abbrev pub moment_of : Record → List ℕ
 moment_of (CommandDone moment command) = moment ∷ []
 moment_of (CommandRefused moment command refusal) = moment ∷ []
-moment_of (PacketMade moment packet load proto src sport dst dport size) = moment ∷ []
+moment_of (PacketMade moment packet origin proto src sport dst dport size) = moment ∷ []
 moment_of (PacketArrived moment packet pipe instance) = moment ∷ []
 moment_of (InstanceIdentified moment pipe instance proto src dst sport dport) = moment ∷ []
 moment_of (PacketFinished moment packet pipe instance) = moment ∷ []

@@ -17,6 +17,7 @@ mod runs;
 mod searches;
 mod senders;
 mod single_states;
+mod tracing;
 mod work;
 
 pub use isolation::{
@@ -41,4 +42,5 @@ pub use single_states::{
     bounds_are_met, dropping_ends_in_time, least_due_is_least, missing_is_least,
     numbers_count_identifiers, search_goes_all_ways,
 };
-pub use work::{held_within_budget, records_are_bounded};
+pub use tracing::tracing_only_adds;
+pub use work::{held_within_budget, numbers_are_bounded, records_are_bounded};

@@ -4,12 +4,12 @@ use Rattle.std.proofs.Common.{◌≡◌, ℕ, zero, suc, ◌+◌, ◌/◌, ◌%�
 use Rattle.std.specs.Prelude.{if◌then◌else◌, is_some, nat_lt, map, flat_map}
 use Rattle.std.specs.Option.{option_map_or}
 use Rattle.std.specs.List.{AllByRecursion}
-use Rattle.emu_model.specs.Types.{Spec, Timed, Class, NextCommand, Exit, Finish, Expiry, Emission, Place, Packet, Load, Plain, Seg, Ack, Verdict, OverTheLink, Dropped, IntoPipe, SendSpec, PipeConfig, DropCause, Denied, NoPipe, Budget, Command, Add, Delete, Config, PipeDelete, PipeShow, Show, Inject, Train, Flow, Stop, OnePass, Trace, End, Record, CommandDone, CommandRefused, PacketMade, PacketArrived, PacketFinished, PacketDelivered, PacketPassed, PacketDropped, AckTaken, TimerExpired, StepsSpent, RuleLine}
+use Rattle.emu_model.specs.Types.{Spec, Timed, Class, NextCommand, Exit, Finish, Expiry, Emission, Place, Packet, Load, Origin, ByCommand, ByTrain, BySender, ByReceiver, Plain, Seg, Ack, Verdict, OverTheLink, Dropped, IntoPipe, SendSpec, PipeConfig, DropCause, Denied, NoPipe, Budget, Command, Add, Delete, Config, PipeDelete, PipeShow, Show, Inject, Train, Flow, Stop, OnePass, Trace, End, Record, CommandDone, CommandRefused, PacketMade, PacketArrived, PacketFinished, PacketDelivered, PacketPassed, PacketDropped, AckTaken, TimerExpired, StepsSpent, RuleLine}
 use Rattle.emu_model.specs.Rules.{Counted, verdict, start_behind, counted_book}
 use Rattle.emu_model.specs.Delay.{first_item, leave}
 use Rattle.emu_model.specs.Reno.{Sender, ack, with_segment, missing, emitted, emit, expire}
 use Rattle.emu_model.specs.Pipes.{Instance, PipeState, pipe_arrive, pipe_finish, pipe_exit, pipe_configure}
-use Rattle.emu_model.specs.Net.{Net, EventContext, initial_net, FlowState, TrainState, note, note_all, note_traced, drop_packet, arrivals, to_pipe, to_direct, by_verdict, pass_rules_from, pass_rules, reinject, packet_of, make_record, make, held, data_send, ack_send, find_pipe, put_pipe, put_after, find_flow, put_flow, find_train, put_train, take_segment, take_ack, take_load, deliver}
+use Rattle.emu_model.specs.Net.{Net, EventContext, opening_net, FlowState, TrainState, note, note_all, note_traced, drop_packet, arrivals, to_pipe, to_direct, by_verdict, pass_rules_from, pass_rules, reinject, packet_of, load_by, make_record, make, held, data_send, ack_send, find_pipe, put_pipe, put_after, find_flow, put_flow, find_train, put_train, take_segment, take_ack, take_load, deliver}
 use Rattle.emu_model.specs.Commands.{rule_lines, instance_lines, pipe_lines, new_pipe, delete_pipe, stop_flow, refusal_of, effect_of, obey}
 use Rattle.emu_model.specs.Events.{direct_exit, deliver_some, flying_in, leave_pipe_some, pipe_exits, served_in, note_finish, pipe_finishes, expire_flow, emit_segment, emit_packet, event_of}
 use Rattle.emu_model.specs.declared.sources.Due.{Due}
@@ -19,7 +19,7 @@ use Rattle.emu_model.proofs.AllFacts.{either, some_or, each_joined}
 
 -- a record that names a packet
 abbrev pub names_packet : Record → Bool
-names_packet (PacketMade moment packet load proto src sport dst dport size) = true
+names_packet (PacketMade moment packet origin proto src sport dst dport size) = true
 names_packet (PacketArrived moment packet pipe instance) = true
 names_packet (PacketFinished moment packet pipe instance) = true
 names_packet (PacketDelivered moment packet load) = true
@@ -42,9 +42,9 @@ pub record Alike (n m : Net) : Type 0 where
 pub record Keeps (P : Option Packet → Net → Type 0) : Type 0 where
   pub quiet : (o : Option Packet) (n m : Net) → Alike n m → P o n → P o m
   pub said : (rs : List Record) (n : Net) → AllByRecursion IsSilent rs → P None n → P None (note_all rs n)
-  pub made : (now : ℕ) (l : Load) (send : SendSpec) (n : Net) → P None n →
-      P (Some (packet_of l send n.made))
-      (note_traced (make_record now (packet_of l send n.made) ∷ []) (record n { made = n.made + 1 }))
+  pub made : (now : ℕ) (l : Origin) (send : SendSpec) (n : Net) → P None n →
+      P (Some (packet_of (load_by l) send n.made))
+      (note_traced (make_record now l (packet_of (load_by l) send n.made) ∷ []) (record n { made = n.made + 1 }))
   pub placed : (place : Place) (p : Packet) (n : Net) → P (Some p) n → P (Some (record p { place = place })) n
   pub dropped : (now : ℕ) (cause : DropCause) (p : Packet) (n : Net) → P (Some p) n →
       P None (drop_packet now cause p n)
@@ -134,10 +134,10 @@ module _ (P : Option Packet → Net → Type 0) (keeps : Keeps P) where
       let m : Net = record n { book = counted_book start p n.book } in
       by_verdict-walks at (verdict start p n.book.rules) p m (alike (Some p) n m refl refl refl refl refl h)
 
-  make-walks : (at : EventContext) (l : Load) (send : SendSpec) (n : Net) → P None n → P None (make at l send n)
+  make-walks : (at : EventContext) (l : Origin) (send : SendSpec) (n : Net) → P None n → P None (make at l send n)
   make-walks at l send n h =
-      let p : Packet = packet_of l send n.made in
-      let m : Net = note_traced (make_record at.now p ∷ []) (record n { made = n.made + 1 }) in
+      let p : Packet = packet_of (load_by l) send n.made in
+      let m : Net = note_traced (make_record at.now l p ∷ []) (record n { made = n.made + 1 }) in
       let made : P (Some p) m = keeps.made at.now l send n h in
       either (P None) (nat_lt (held n) at.packet_budget) (pass_rules at p m) (drop_packet at.now Budget p m)
       (pass_rules_from-walks at 0 p m made) (keeps.dropped at.now Budget p m made)
@@ -147,7 +147,7 @@ module _ (P : Option Packet → Net → Type 0) (keeps : Keeps P) where
   take_segment-walks at first n f h =
       let came : List ℕ = with_segment first f.came in
       let m : Net = put_flow (record f { came = came }) n in
-      make-walks at (Ack f.number (missing f.flow.smss came)) (ack_send f.flow) m
+      make-walks at (ByReceiver f.number (missing f.flow.smss came)) (ack_send f.flow) m
       (alike None n m refl refl refl refl refl h)
 
   take_ack-walks : (now upto : ℕ) (n : Net) (f : FlowState) → P None n → P None (take_ack now upto n f)
@@ -202,12 +202,12 @@ module _ (P : Option Packet → Net → Type 0) (keeps : Keeps P) where
   emit_packet-walks : (at : EventContext) (n : Net) (t : TrainState) → P None n → P None (emit_packet at n t)
   emit_packet-walks at n t h =
       let m : Net = put_train (record t { sent = t.sent + 1 }) n in
-      make-walks at Plain t.train.packet m (alike None n m refl refl refl refl refl h)
+      make-walks at (ByTrain t.number) t.train.packet m (alike None n m refl refl refl refl refl h)
 
   emit_segment-walks : (at : EventContext) (n : Net) (f : FlowState) → P None n → P None (emit_segment at n f)
   emit_segment-walks at n f h =
       let m : Net = put_flow (record f { sender = emit f.flow at.now f.sender }) n in
-      make-walks at (Seg f.number (emitted f.sender)) (data_send f.flow) m
+      make-walks at (BySender f.number (emitted f.sender)) (data_send f.flow) m
       (alike None n m refl refl refl refl refl h)
 
   event-walks : (at : EventContext) (class : Class) (k : ℕ) (n : Net) → P None n → P None (event_of at class k n)
@@ -231,32 +231,32 @@ module _ (P : Option Packet → Net → Type 0) (keeps : Keeps P) where
   found_or None f d p q = q refl
   found_or (Some x) f d p q = p x refl
 
-  effect-walks : (at : EventContext) (c : Command) (n : Net) → Fits P c → P None n → P None (effect_of at c n)
-  effect-walks at (Add r) n fits h = alike None n (effect_of at (Add r) n) refl refl refl refl refl h
-  effect-walks at (Delete k) n fits h = alike None n (effect_of at (Delete k) n) refl refl refl refl refl h
-  effect-walks at (Config k config) n fits h =
+  effect-walks : (at : EventContext) (j : ℕ) (c : Command) (n : Net) → Fits P c → P None n → P None (effect_of at j c n)
+  effect-walks at j (Add r) n fits h = alike None n (effect_of at j (Add r) n) refl refl refl refl refl h
+  effect-walks at j (Delete k) n fits h = alike None n (effect_of at j (Delete k) n) refl refl refl refl refl h
+  effect-walks at j (Config k config) n fits h =
       found_or (find_pipe k n) (λ p. put_pipe k (pipe_configure config p) n) (new_pipe k config n)
       (λ p e. keeps.configured k config p n e h) (λ e. keeps.opened k config n e h)
-  effect-walks at (PipeDelete k) n fits h =
+  effect-walks at j (PipeDelete k) n fits h =
       some_or (P None) (delete_pipe at.now k n) (find_pipe k n) n (λ p e. keeps.deleted at.now k p n e h) h
-  effect-walks at PipeShow n fits h = keeps.said (flat_map pipe_lines n.pipes) n (pipes-silent n.pipes) h
-  effect-walks at Show n fits h = keeps.said (rule_lines n) n (rules-silent n.book.rules) h
-  effect-walks at (Inject send) n fits h = make-walks at Plain send n h
-  effect-walks at (Train k t) n fits h = alike None n (effect_of at (Train k t) n) refl refl refl refl refl h
-  effect-walks at (Flow k f) n fits h = alike None n (effect_of at (Flow k f) n) refl refl refl refl refl h
-  effect-walks at (Stop k) n fits h =
+  effect-walks at j PipeShow n fits h = keeps.said (flat_map pipe_lines n.pipes) n (pipes-silent n.pipes) h
+  effect-walks at j Show n fits h = keeps.said (rule_lines n) n (rules-silent n.book.rules) h
+  effect-walks at j (Inject send) n fits h = make-walks at (ByCommand j) send n h
+  effect-walks at j (Train k t) n fits h = alike None n (effect_of at j (Train k t) n) refl refl refl refl refl h
+  effect-walks at j (Flow k f) n fits h = alike None n (effect_of at j (Flow k f) n) refl refl refl refl refl h
+  effect-walks at j (Stop k) n fits h =
       some_or (P None) (stop_flow n) (find_flow k n) n
       (λ f e. alike None n (stop_flow n f) refl refl refl refl refl h) h
-  effect-walks at (OnePass b) n fits h = alike None n (effect_of at (OnePass b) n) refl refl refl refl refl h
-  effect-walks at (Trace b) n fits h = fits n h
-  effect-walks at End n fits h = h
+  effect-walks at j (OnePass b) n fits h = alike None n (effect_of at j (OnePass b) n) refl refl refl refl refl h
+  effect-walks at j (Trace b) n fits h = fits n h
+  effect-walks at j End n fits h = h
 
   obey-walks : (at : EventContext) (k : ℕ) (c : Command) (n : Net) → Fits P c → P None n → P None (obey at k c n)
   obey-walks at k c n fits h =
       let m : Net = note (CommandDone at.now k) n in
-      some_or (P None) (λ r. note (CommandRefused at.now k r) n) (refusal_of c n) (effect_of at c m)
+      some_or (P None) (λ r. note (CommandRefused at.now k r) n) (refusal_of c n) (effect_of at k c m)
       (λ r e. said_one (CommandRefused at.now k r) n refl h)
-      (effect-walks at c m fits (said_one (CommandDone at.now k) n refl h))
+      (effect-walks at k c m fits (said_one (CommandDone at.now k) n refl h))
 
   -- all commands that are left fit
   record Stands (s : State) : Type 0 where
@@ -305,7 +305,7 @@ module _ (P : Option Packet → Net → Type 0) (keeps : Keeps P) where
 
   -- what holds once the first command is obeyed holds after any number of steps from then on
   pub walks_on : (spec : Spec) (t : Timed) (ts : List Timed) (n : ℕ) →
-      AllByRecursion (λ u. Fits P u.command) ts → ((at : EventContext) → P None (obey at 0 t.command initial_net)) →
+      AllByRecursion (λ u. Fits P u.command) ts → ((at : EventContext) → P None (obey at 0 t.command (opening_net spec.traced))) →
       P None (alone spec (t ∷ ts) (suc n)).net
   walks_on spec t ts n fits h =
       subst (λ s. P None s.net) (sym (shifted n (initial_state spec (t ∷ ts))))

@@ -2,13 +2,13 @@
 use Rattle.std.proofs.Common.{◌≡◌, ℕ, zero, suc, ◌+◌, ◌/◌, ◌%◌, List, [], ◌∷◌, ◌++◌, Bool, true, false, refl, ◌∙◌, ap, Option, Some, None, append_assoc}
 use Rattle.std.specs.Prelude.{if◌then◌else◌, is_some, nat_lt}
 use Rattle.std.specs.Option.{option_map_or}
-use Rattle.emu_model.specs.Types.{Timed, Class, NextCommand, Exit, Finish, Expiry, Emission, Packet, Load, Plain, Seg, Ack, Verdict, OverTheLink, Dropped, IntoPipe, SendSpec, NoPipe, Budget, Command, Add, Delete, Config, PipeDelete, PipeShow, Show, Inject, Train, Flow, Stop, OnePass, Trace, End, Record, CommandDone, CommandRefused, PacketFinished, PacketDelivered, PacketPassed, AckTaken}
+use Rattle.emu_model.specs.Types.{Timed, Class, NextCommand, Exit, Finish, Expiry, Emission, Packet, Load, Origin, ByCommand, ByTrain, BySender, ByReceiver, Plain, Seg, Ack, Verdict, OverTheLink, Dropped, IntoPipe, SendSpec, NoPipe, Budget, Command, Add, Delete, Config, PipeDelete, PipeShow, Show, Inject, Train, Flow, Stop, OnePass, Trace, End, Record, CommandDone, CommandRefused, PacketFinished, PacketDelivered, PacketPassed, AckTaken}
 use Rattle.emu_model.specs.declared.sources.Due.{Due}
 use Rattle.emu_model.specs.Rules.{verdict, start_behind, counted_book}
 use Rattle.emu_model.specs.Delay.{first_item, leave}
 use Rattle.emu_model.specs.Reno.{with_segment, missing, ack, emitted, emit, expire}
 use Rattle.emu_model.specs.Pipes.{After, InService, PipeState, pipe_arrive, pipe_finish, pipe_exit, pipe_configure}
-use Rattle.emu_model.specs.Net.{Net, EventContext, FlowState, note, note_all, note_traced, drop_packet, arrivals, to_pipe, enter_pipe, by_verdict, pass_rules_from, reinject, packet_of, make_record, make, held, data_send, ack_send, find_pipe, put_pipe, put_after, find_flow, put_flow, find_train, put_train, take_segment, take_ack, take_load, deliver}
+use Rattle.emu_model.specs.Net.{Net, EventContext, FlowState, note, note_all, note_traced, drop_packet, arrivals, to_pipe, enter_pipe, by_verdict, pass_rules_from, reinject, packet_of, load_by, make_record, make, held, data_send, ack_send, find_pipe, put_pipe, put_after, find_flow, put_flow, find_train, put_train, take_segment, take_ack, take_load, deliver}
 use Rattle.emu_model.specs.Commands.{new_pipe, delete_pipe, stop_flow, refusal_of, effect_of, obey}
 use Rattle.emu_model.specs.Events.{direct_exit, flying_in, leave_pipe, pipe_exits, served_in, note_finish, pipe_finishes, expire_flow, emit_segment, emit_packet, emission, event_of}
 use Rattle.emu_model.specs.Step.{State, setting, take_command, take_class, take_due, count_step, spend, is_last_step, next_event, step_with, step}
@@ -66,10 +66,10 @@ module _ (rs : List Record) where
   goes-on : (at : EventContext) (p : Packet) → Same (reinject at p)
   goes-on at p n = pass-rules at (start_behind p.place n.book.rules) p n
 
-  making : (at : EventContext) (load : Load) (send : SendSpec) → Same (make at load send)
-  making at load send n =
-      let p : Packet = packet_of load send n.made in
-      let line : List Record = make_record at.now p ∷ [] in
+  making : (at : EventContext) (o : Origin) (send : SendSpec) → Same (make at o send)
+  making at o send n =
+      let p : Packet = packet_of (load_by o) send n.made in
+      let line : List Record = make_record at.now o p ∷ [] in
       let m : Net = record n { made = n.made + 1 } in
       ap (λ x. if nat_lt (held n) at.packet_budget then pass_rules_from at 0 p x else drop_packet at.now Budget p x)
       (noted-traced line m)
@@ -80,7 +80,7 @@ module _ (rs : List Record) where
   taking-segment : (at : EventContext) (first : ℕ) (f : FlowState) → Same (λ n. take_segment at first n f)
   taking-segment at first f n =
       let came : List ℕ = with_segment first f.came in
-      making at (Ack f.number (missing f.flow.smss came)) (ack_send f.flow) (put_flow (record f { came = came }) n)
+      making at (ByReceiver f.number (missing f.flow.smss came)) (ack_send f.flow) (put_flow (record f { came = came }) n)
 
   taking-ack : (now upto : ℕ) (f : FlowState) → Same (λ n. take_ack now upto n f)
   taking-ack now upto f n = go f.stopped
@@ -131,8 +131,8 @@ module _ (rs : List Record) where
   emits : (at : EventContext) (k : ℕ) → Same (emission at k)
   emits at k n =
       found (λ t n. emit_packet at n t) (λ n. option_map_or (emit_segment at n) (find_flow k n) n) (find_train k n)
-      (λ t n. making at Plain t.train.packet (put_train (record t { sent = t.sent + 1 }) n))
-      (λ n. found (λ f n. emit_segment at n f) (λ n. n) (find_flow k n) (λ f n. making at (Seg f.number (emitted f.sender)) (data_send f.flow)
+      (λ t n. making at (ByTrain t.number) t.train.packet (put_train (record t { sent = t.sent + 1 }) n))
+      (λ n. found (λ f n. emit_segment at n f) (λ n. n) (find_flow k n) (λ f n. making at (BySender f.number (emitted f.sender)) (data_send f.flow)
       (put_flow (record f { sender = emit f.flow at.now f.sender }) n)) same n) n
 
   event-same : (at : EventContext) (class : Class) (k : ℕ) → Same (event_of at class k)
@@ -165,31 +165,31 @@ module _ (rs : List Record) where
   refusal-same (Trace b) n = refl
   refusal-same End n = refl
 
-  effect-same : (at : EventContext) (c : Command) → Same (effect_of at c)
-  effect-same at (Add r) n = refl
-  effect-same at (Delete k) n = refl
-  effect-same at (Config k config) n =
+  effect-same : (at : EventContext) (j : ℕ) (c : Command) → Same (effect_of at j c)
+  effect-same at j (Add r) n = refl
+  effect-same at j (Delete k) n = refl
+  effect-same at j (Config k config) n =
       found (λ p. put_pipe k (pipe_configure config p)) (new_pipe k config) (find_pipe k n) (λ p n. refl) (λ n. refl) n
-  effect-same at (PipeDelete k) n =
+  effect-same at j (PipeDelete k) n =
       found (λ p n. delete_pipe at.now k n p) (λ n. n) (find_pipe k n) (λ p n. noted _ _) same n
-  effect-same at PipeShow n = noted _ n
-  effect-same at Show n = noted _ n
-  effect-same at (Inject send) n = making at Plain send n
-  effect-same at (Train k t) n = refl
-  effect-same at (Flow k f) n = refl
-  effect-same at (Stop k) n =
+  effect-same at j PipeShow n = noted _ n
+  effect-same at j Show n = noted _ n
+  effect-same at j (Inject send) n = making at (ByCommand j) send n
+  effect-same at j (Train k t) n = refl
+  effect-same at j (Flow k f) n = refl
+  effect-same at j (Stop k) n =
       found (λ f n. stop_flow n f) (λ n. n) (find_flow k n) (λ f n. refl) same n
-  effect-same at (OnePass b) n = refl
-  effect-same at (Trace b) n = refl
-  effect-same at End n = refl
+  effect-same at j (OnePass b) n = refl
+  effect-same at j (Trace b) n = refl
+  effect-same at j End n = refl
 
   obey-same : (at : EventContext) (k : ℕ) (c : Command) → Same (obey at k c)
   obey-same at k c n =
       ap (λ o. option_map_or (λ r. note (CommandRefused at.now k r) (E n)) o
-      (effect_of at c (note (CommandDone at.now k) (E n)))) (refusal-same c n)
-      ∙ found (λ r. note (CommandRefused at.now k r)) (λ n. effect_of at c (note (CommandDone at.now k) n))
+      (effect_of at k c (note (CommandDone at.now k) (E n)))) (refusal-same c n)
+      ∙ found (λ r. note (CommandRefused at.now k r)) (λ n. effect_of at k c (note (CommandDone at.now k) n))
       (refusal_of c n) (λ r. noted _)
-      (both (note (CommandDone at.now k)) (effect_of at c) (noted _) (effect-same at c)) n
+      (both (note (CommandDone at.now k)) (effect_of at k c) (noted _) (effect-same at k c)) n
 
   -- steps
   abbrev W : State → State

@@ -3,12 +3,12 @@ use Rattle.std.proofs.Common.{◌≡◌, true, false, ℕ, zero, suc, ◌+◌, �
 use Rattle.std.specs.Prelude.{nat_lt, ◌==◌}
 use Rattle.std.specs.Option.{option_map_or}
 use Rattle.std.specs.List.{AllByRecursion}
-use Rattle.emu_model.specs.Types.{Class, NextCommand, Exit, Finish, Expiry, Emission, Place, Packet, Load, Plain, Seg, Ack, Verdict, OverTheLink, Dropped, IntoPipe, SendSpec, PipeConfig, NoPipe, Budget, Command, Add, Delete, Config, PipeDelete, PipeShow, Show, Inject, Train, Flow, Stop, OnePass, Trace, End, CommandDone, CommandRefused, PacketDelivered, PacketPassed}
+use Rattle.emu_model.specs.Types.{Class, NextCommand, Exit, Finish, Expiry, Emission, Place, Packet, Load, Origin, ByCommand, ByTrain, BySender, ByReceiver, Plain, Seg, Ack, Verdict, OverTheLink, Dropped, IntoPipe, SendSpec, PipeConfig, NoPipe, Budget, Command, Add, Delete, Config, PipeDelete, PipeShow, Show, Inject, Train, Flow, Stop, OnePass, Trace, End, CommandDone, CommandRefused, PacketDelivered, PacketPassed}
 use Rattle.emu_model.specs.Rules.{verdict, start_behind, counted_book}
 use Rattle.emu_model.specs.Delay.{Line, first_item, enter, leave}
 use Rattle.emu_model.specs.Reno.{ack, expire, with_segment, missing, emitted, emit, initial_sender}
 use Rattle.emu_model.specs.Pipes.{InService, PipeState, After, pipe_arrive, pipe_finish, pipe_exit, pipe_configure}
-use Rattle.emu_model.specs.Net.{Net, EventContext, FlowState, TrainState, note, note_traced, note_arrival, enter_pipe, make_record, held, drop_packet, find_pipe, put_pipe, put_after, to_pipe, by_verdict, pass_rules_from, pass_rules, reinject, packet_of, make, data_send, ack_send, put_flow, put_train, find_flow, find_train, note_ack, take_segment, take_ack, take_load, deliver}
+use Rattle.emu_model.specs.Net.{Net, EventContext, FlowState, TrainState, note, note_traced, note_arrival, enter_pipe, make_record, load_by, held, drop_packet, find_pipe, put_pipe, put_after, to_pipe, by_verdict, pass_rules_from, pass_rules, reinject, packet_of, make, data_send, ack_send, put_flow, put_train, find_flow, find_train, note_ack, take_segment, take_ack, take_load, deliver}
 use Rattle.emu_model.specs.Commands.{with_pipe, new_pipe, delete_pipe, stop_flow, refusal_of, effect_of, obey}
 use Rattle.emu_model.specs.Events.{direct_exit, flying_in, leave_pipe, pipe_exits, served_in, note_finish, pipe_finishes, expire_flow, emit_segment, emit_packet, event_of}
 use Rattle.emu_model.proofs.AllFacts.{either, some_or, each_both, each_joined, each_found, each_replaced, each_removed}
@@ -146,11 +146,11 @@ module _ (h : Facts) (at : EventContext) (keeps : Keeps h at) where
       let m : Net = record n { book = counted_book start p n.book } in
       by_verdict-holds (verdict start p n.book.rules) p m fits (same_parts h n m refl refl refl refl s)
 
-  make-holds : (l : Load) (send : SendSpec) (n : Net) → h.packet (packet_of l send n.made) → Holds h n →
+  make-holds : (l : Origin) (send : SendSpec) (n : Net) → h.packet (packet_of (load_by l) send n.made) → Holds h n →
       Holds h (make at l send n)
   make-holds l send n fits s =
-      let p : Packet = packet_of l send n.made in
-      let m : Net = note_traced (make_record at.now p ∷ []) (record n { made = n.made + 1 }) in
+      let p : Packet = packet_of (load_by l) send n.made in
+      let m : Net = note_traced (make_record at.now l p ∷ []) (record n { made = n.made + 1 }) in
       either (Holds h) (nat_lt (held n) at.packet_budget) (pass_rules at p m) (drop_packet at.now Budget p m)
       (pass_rules_from-holds 0 p m fits (same_parts h n m refl refl refl refl s))
       (same_parts h n (drop_packet at.now Budget p m) refl refl refl refl s)
@@ -160,7 +160,7 @@ module _ (h : Facts) (at : EventContext) (keeps : Keeps h at) where
   take_segment-holds first n f p s =
       let came : List ℕ = with_segment first f.came in
       let g : FlowState = record f { came = came } in
-      make-holds (Ack f.number (missing f.flow.smss came)) (ack_send f.flow) (put_flow g n)
+      make-holds (ByReceiver f.number (missing f.flow.smss came)) (ack_send f.flow) (put_flow g n)
       (keeps.reply (Ack f.number (missing f.flow.smss came)) n.made f p)
       (flow-put h g n (keeps.came came f p) s)
 
@@ -220,7 +220,7 @@ module _ (h : Facts) (at : EventContext) (keeps : Keeps h at) where
   emit_segment-holds : (n : Net) (f : FlowState) → h.flow f → Holds h n → Holds h (emit_segment at n f)
   emit_segment-holds n f p s =
       let g : FlowState = record f { sender = emit f.flow at.now f.sender } in
-      make-holds (Seg f.number (emitted f.sender)) (data_send f.flow) (put_flow g n)
+      make-holds (BySender f.number (emitted f.sender)) (data_send f.flow) (put_flow g n)
       (keeps.segment (Seg f.number (emitted f.sender)) n.made f p)
       (flow-put h g n (keeps.emitted f p) s)
 
@@ -228,7 +228,7 @@ module _ (h : Facts) (at : EventContext) (keeps : Keeps h at) where
       Holds h n → Holds h (emit_packet at n t)
   emit_packet-holds n t p q s =
       let u : TrainState = record t { sent = t.sent + 1 } in
-      make-holds Plain t.train.packet (put_train u n) (keeps.one_of_train Plain n.made t p) (train-put h u n q s)
+      make-holds (ByTrain t.number) t.train.packet (put_train u n) (keeps.one_of_train Plain n.made t p) (train-put h u n q s)
 
   -- an event keeps what it keeps of the pipe whose packet finishes, and of the train that sends
   pub event-holds : (class : Class) (k : ℕ) (n : Net) →
@@ -283,40 +283,40 @@ module _ (h : Facts) (at : EventContext) (keeps : Keeps h at) where
     trains = s.trains;
   }
 
-  effect-holds : (c : Command) (n : Net) → Fits h at.now c → Holds h n → Holds h (effect_of at c n)
-  effect-holds (Add r) n fits s = same_parts h n (effect_of at (Add r) n) refl refl refl refl s
-  effect-holds (Delete k) n fits s = same_parts h n (effect_of at (Delete k) n) refl refl refl refl s
-  effect-holds (Config k config) n fits s =
+  effect-holds : (j : ℕ) (c : Command) (n : Net) → Fits h at.now c → Holds h n → Holds h (effect_of at j c n)
+  effect-holds j (Add r) n fits s = same_parts h n (effect_of at j (Add r) n) refl refl refl refl s
+  effect-holds j (Delete k) n fits s = same_parts h n (effect_of at j (Delete k) n) refl refl refl refl s
+  effect-holds j (Config k config) n fits s =
       some_or (Holds h) (λ p. put_pipe k (pipe_configure config p) n) (find_pipe k n) (new_pipe k config n)
       (λ p e. pipe-put h k (pipe_configure config p) n (fits.0 p (pipe-found h k p n e s)) s)
       (new_pipe-holds k config n fits.1 s)
-  effect-holds (PipeDelete k) n fits s =
+  effect-holds j (PipeDelete k) n fits s =
       some_or (Holds h) (delete_pipe at.now k n) (find_pipe k n) n (λ p e. delete_pipe-holds k n p s) s
-  effect-holds PipeShow n fits s = same_parts h n (effect_of at PipeShow n) refl refl refl refl s
-  effect-holds Show n fits s = same_parts h n (effect_of at Show n) refl refl refl refl s
-  effect-holds (Inject send) n fits s = make-holds Plain send n (fits Plain n.made) s
-  effect-holds (Train k t) n fits s = record {
+  effect-holds j PipeShow n fits s = same_parts h n (effect_of at j PipeShow n) refl refl refl refl s
+  effect-holds j Show n fits s = same_parts h n (effect_of at j Show n) refl refl refl refl s
+  effect-holds j (Inject send) n fits s = make-holds (ByCommand j) send n (fits Plain n.made) s
+  effect-holds j (Train k t) n fits s = record {
     direct = s.direct;
     pipes = s.pipes;
     flows = s.flows;
     trains = each_joined h.train n.trains _ s.trains (fits, tt);
   }
-  effect-holds (Flow k f) n fits s = record {
+  effect-holds j (Flow k f) n fits s = record {
     direct = s.direct;
     pipes = s.pipes;
     flows = each_joined h.flow n.flows _ s.flows (fits, tt);
     trains = s.trains;
   }
-  effect-holds (Stop k) n fits s =
+  effect-holds j (Stop k) n fits s =
       some_or (Holds h) (stop_flow n) (find_flow k n) n
       (λ f e. flow-put h (record f { stopped = true }) n (keeps.stopped f (flow-found h k f n e s)) s) s
-  effect-holds (OnePass b) n fits s = same_parts h n (effect_of at (OnePass b) n) refl refl refl refl s
-  effect-holds (Trace b) n fits s = same_parts h n (effect_of at (Trace b) n) refl refl refl refl s
-  effect-holds End n fits s = s
+  effect-holds j (OnePass b) n fits s = same_parts h n (effect_of at j (OnePass b) n) refl refl refl refl s
+  effect-holds j (Trace b) n fits s = same_parts h n (effect_of at j (Trace b) n) refl refl refl refl s
+  effect-holds j End n fits s = s
 
   pub obey-holds : (k : ℕ) (c : Command) (n : Net) → Fits h at.now c → Holds h n → Holds h (obey at k c n)
   obey-holds k c n fits s =
       let m : Net = note (CommandDone at.now k) n in
-      some_or (Holds h) (λ r. note (CommandRefused at.now k r) n) (refusal_of c n) (effect_of at c m)
+      some_or (Holds h) (λ r. note (CommandRefused at.now k r) n) (refusal_of c n) (effect_of at k c m)
       (λ r e. same_parts h n (note (CommandRefused at.now k r) n) refl refl refl refl s)
-      (effect-holds c m fits (same_parts h n m refl refl refl refl s))
+      (effect-holds k c m fits (same_parts h n m refl refl refl refl s))

@@ -10,12 +10,12 @@ use Rattle.emu_model.specs.Lists.{replace_first, remove_first}
 use Rattle.emu_model.specs.FlowIds.{flow_id}
 use Rattle.emu_model.specs.Delay.{first_item, leave}
 use Rattle.emu_model.specs.Pipes.{InService, PipeState, After, Drop, pipe_packets, instance_for, pipe_arrive, pipe_finish, pipe_exit, pipe_configure}
-use Rattle.emu_model.specs.Net.{Net, EventContext, initial_net, note, note_all, drop_record, note_traced, identify_record, arrive_records, arrivals, make_record, packet_of, find_pipe, put_pipe, put_after, to_direct}
+use Rattle.emu_model.specs.Net.{Net, EventContext, opening_net, note, note_all, drop_record, note_traced, identify_record, arrive_records, arrivals, make_record, load_by, packet_of, find_pipe, put_pipe, put_after, to_direct}
 use Rattle.emu_model.specs.Commands.{new_pipe, delete_pipe, obey}
 use Rattle.emu_model.specs.Events.{flying_in, served_in, note_finish}
 use Rattle.emu_model.specs.Step.{initial_state}
 use Rattle.emu_model.specs.Alone.{alone}
-use Rattle.emu_model.specs.TraceLaws.{IsSublist, arrives_in, finishes_in, passes_in, flight_in, under_way, LeavesInOrder, FinishesKeepOrder, ExitsKeepOrder}
+use Rattle.emu_model.specs.TraceLaws.{IsTraced, IsSublist, arrives_in, finishes_in, passes_in, flight_in, under_way, LeavesInOrder, FinishesKeepOrder, ExitsKeepOrder}
 use Rattle.emu_model.proofs.Numbers.{one_if, replaced-count, none-found, with_pipe-count, one_more, removed-le, pipe_arrive-kept, pipe_finish-kept}
 use Rattle.emu_model.proofs.Sublists.{sub-refl, sub-same, sub-trans, sub-joined, sub-front}
 use Rattle.emu_model.proofs.InstanceOrder.{served_numbers, first_number}
@@ -564,10 +564,10 @@ module _ (pipe k : ℕ) where
         changed t None None n (note_all rs n) rs
         (same-pipes n (note_all rs n) rs (still-silent rs e) refl refl refl) h;
     made = λ now l send n h.
-        let r : Record = make_record now (packet_of l send n.made) in
+        let r : Record = make_record now l (packet_of (load_by l) send n.made) in
         let rs : List Record = if n.trace then r ∷ [] else [] in
         let m : Net = note_traced (r ∷ []) (record n { made = n.made + 1 }) in
-        changed t None (Some (packet_of l send n.made)) n m rs
+        changed t None (Some (packet_of (load_by l) send n.made)) n m rs
         (same-pipes n m rs (still-if n.trace (r ∷ []) (still-cons r [] refl refl refl still-nil)) refl refl refl) h;
     placed = λ place p n h.
         changed t (Some p) (Some (record p { place = place })) n n [] (same-records n n refl refl refl) h;
@@ -598,8 +598,8 @@ module _ (pipe k : ℕ) where
   unfolding Few
   few-none j = omega arith
 
-  begun : Ordered false None initial_net
-  begun = record {
+  begun : (b : Bool) → Ordered false None (opening_net b)
+  begun b = record {
     few = few-none;
     leaves = record { gone = []; first_left = refl; passed = tt };
     trace = λ e. absurd (cc e);
@@ -631,9 +631,18 @@ module _ (pipe k : ℕ) where
   all-suit [] h = tt
   all-suit (t ∷ ts) h = (trace-suits t.command h.0, all-suit ts h.1)
 
-  traced-begun : (at : EventContext) → Ordered true None (obey at 0 (Trace true) initial_net)
+  traced-opening : Ordered true None (opening_net true)
   unfolding finished arrived inside
-  traced-begun at = record {
+  traced-opening = record {
+    few = few-none;
+    leaves = record { gone = []; first_left = refl; passed = tt };
+    trace = λ e. refl;
+    comes = λ e. tt;
+  }
+
+  traced-begun : (at : EventContext) (b : Bool) → Ordered true None (obey at 0 (Trace true) (opening_net b))
+  unfolding finished arrived inside
+  traced-begun at b = record {
     few = few-none;
     leaves = record { gone = []; first_left = refl; passed = tt };
     trace = λ e. refl;
@@ -643,16 +652,27 @@ module _ (pipe k : ℕ) where
 pub exits_keep_order : ExitsKeepOrder
 exits_keep_order spec c n pipe k =
     (walks (Ordered pipe k false) (ordered-keeps pipe k false) n (initial_state spec c)
-    (all_fit (Ordered pipe k false) (ordered-keeps pipe k false) (trace-ordered pipe k) c) (begun pipe k)).leaves
+    (all_fit (Ordered pipe k false) (ordered-keeps pipe k false) (trace-ordered pipe k) c) (begun pipe k spec.traced)).leaves
 
 pub finishes_keep_order : FinishesKeepOrder
 unfolding finished arrived
-finishes_keep_order spec c zero pipe k h = tt
-finishes_keep_order spec [] (suc n) pipe k h = absurd h
-finishes_keep_order spec (t ∷ ts) (suc n) pipe k h =
-    let net : Net = (alone spec (t ∷ ts) (suc n)).net in
-    let o : Ordered pipe k true None net =
-    walks_on (Ordered pipe k true) (ordered-keeps pipe k true) spec t ts n (all-suit pipe k ts h.1)
-    (λ at. subst (λ x. Ordered pipe k true None (obey at 0 x initial_net)) (sym h.0) (traced-begun pipe k at)) in
-    sub-trans (finished pipe k net.records) (finished pipe k net.records ++ inside pipe k net) (arrived pipe k net.records)
-    (sub-front (finished pipe k net.records) (inside pipe k net)) (o.comes refl)
+finishes_keep_order spec c n pipe k h = go spec.traced refl c n h
+  where
+    ordered : (net : Net) → Ordered pipe k true None net → IsSublist (finished pipe k net.records) (arrived pipe k net.records)
+    ordered net o =
+        sub-trans (finished pipe k net.records) (finished pipe k net.records ++ inside pipe k net) (arrived pipe k net.records)
+        (sub-front (finished pipe k net.records) (inside pipe k net)) (o.comes refl)
+
+    go : (b : Bool) → spec.traced ≡ b → (c : List Timed) (n : ℕ) → IsTraced b c →
+        let records : List Record = (alone spec c n).net.records in
+        IsSublist (flat_map (finishes_in pipe k) records) (flat_map (arrives_in pipe k) records)
+    go true e c n h =
+        ordered (alone spec c n).net
+        (walks (Ordered pipe k true) (ordered-keeps pipe k true) n (initial_state spec c) (all-suit pipe k c h)
+        (subst (λ x. Ordered pipe k true None (opening_net x)) (sym e) (traced-opening pipe k)))
+    go false e c zero h = tt
+    go false e [] (suc n) h = absurd h
+    go false e (t ∷ ts) (suc n) h =
+        ordered (alone spec (t ∷ ts) (suc n)).net
+        (walks_on (Ordered pipe k true) (ordered-keeps pipe k true) spec t ts n (all-suit pipe k ts h.1)
+        (λ at. subst (λ x. Ordered pipe k true None (obey at 0 x (opening_net spec.traced))) (sym h.0) (traced-begun pipe k at spec.traced)))

@@ -5,14 +5,15 @@ use Rattle.std.specs.Option.{option_map_or}
 use Rattle.std.specs.List.{AllByRecursion}
 use Rattle.std.proofs.lemmas.List.Sums.{sum_by-cons, sum_by-append}
 use Rattle.std.proofs.lemmas.Bool.{eqb-true, cases_lt}
-use Rattle.emu_model.specs.Types.{Spec, Timed, Packet, Load, SendSpec, DropCause, Deleted, Trace, Command, Record, PacketMade, PacketArrived, PacketFinished, PacketDelivered, PacketPassed, PacketDropped}
+use Rattle.emu_model.specs.Types.{Spec, Timed, Packet, Load, Origin, SendSpec, DropCause, Deleted, Trace, Command, Record, PacketMade, PacketArrived, PacketFinished, PacketDelivered, PacketPassed, PacketDropped}
 use Rattle.emu_model.specs.FlowIds.{flow_id}
 use Rattle.emu_model.specs.Delay.{first_item, leave}
 use Rattle.emu_model.specs.Pipes.{Instance, InService, PipeState, After, Drop, pipe_packets, instance_for, pipe_arrive, pipe_finish, pipe_exit, pipe_configure}
-use Rattle.emu_model.specs.Net.{Net, EventContext, initial_net, note, note_all, drop_record, drop_packet, note_traced, arrive_records, identify_record, arrivals, make_record, packet_of, find_pipe, put_pipe, put_after, to_direct}
+use Rattle.emu_model.specs.Net.{Net, EventContext, opening_net, note, note_all, drop_record, drop_packet, note_traced, arrive_records, identify_record, arrivals, make_record, load_by, packet_of, find_pipe, put_pipe, put_after, to_direct}
 use Rattle.emu_model.specs.Commands.{new_pipe, delete_pipe, obey}
 use Rattle.emu_model.specs.Events.{flying_in, served_in, note_finish}
 use Rattle.emu_model.specs.Alone.{alone}
+use Rattle.emu_model.specs.Step.{initial_state}
 use Rattle.emu_model.specs.TraceLaws.{IsTraced, makes, tells_of, EachMakeOnce, MakeComesFirst}
 use Rattle.emu_model.proofs.Sums.{sum_some, removed-sum}
 use Rattle.emu_model.proofs.Numbers.{one_if, count-cons}
@@ -20,16 +21,16 @@ use Rattle.emu_model.proofs.PacketsKept.{flown, fallen, size}
 use Rattle.emu_model.proofs.PipeKeeping.{load}
 use Rattle.emu_model.proofs.Conserved.{total, weight, gone, balance, Balanced, balanced-keeps, drops-gone}
 use Rattle.emu_model.proofs.OneByOne.{one_at, here, none_below, one_below, once}
-use Rattle.emu_model.proofs.ChangesWalk.{IsSilent, Keeps, Fits as Suits, walks_on}
+use Rattle.emu_model.proofs.ChangesWalk.{IsSilent, Keeps, Fits as Suits, walks, walks_on}
 
 -- a record behind m makes: a make is that of packet m, and what else tells of a packet tells of an
 -- earlier one
 Fits : ℕ → Record → Type 0
-Fits m (PacketMade now packet load proto src sport dst dport size) = packet ≡ m
+Fits m (PacketMade now packet origin proto src sport dst dport size) = packet ≡ m
 Fits m r = (k : ℕ) → tells_of k r ≡ true → k < m
 
 next : Record → ℕ → ℕ
-next (PacketMade now packet load proto src sport dst dport size) m = suc m
+next (PacketMade now packet origin proto src sport dst dport size) m = suc m
 next r m = m
 
 -- records of which each fits, behind m makes; then there are n
@@ -239,15 +240,15 @@ finished-traced now pipe k p n e h = go (served_in k p) refl (λ w. (balanced-ke
           even = even;
         }
 
-made-traced : (now : ℕ) (l : Load) (send : SendSpec) (n : Net) → Traced None n →
-    Traced (Some (packet_of l send n.made))
-    (note_traced (make_record now (packet_of l send n.made) ∷ []) (record n { made = n.made + 1 }))
+made-traced : (now : ℕ) (l : Origin) (send : SendSpec) (n : Net) → Traced None n →
+    Traced (Some (packet_of (load_by l) send n.made))
+    (note_traced (make_record now l (packet_of (load_by l) send n.made) ∷ []) (record n { made = n.made + 1 }))
 unfolding Told Fits next
 made-traced now l send n h =
-    let r : Record = make_record now (packet_of l send n.made) in
+    let r : Record = make_record now l (packet_of (load_by l) send n.made) in
     let m : Net = note_traced (r ∷ []) (record n { made = n.made + 1 }) in
     let one : Told n.made (r ∷ []) (n.made + 1) = (refl, add-one n.made) in
-    more (if n.trace then r ∷ [] else []) None (Some (packet_of l send n.made)) n m h refl refl
+    more (if n.trace then r ∷ [] else []) None (Some (packet_of (load_by l) send n.made)) n m h refl refl
     (if-told n.trace n.made (n.made + 1) (r ∷ []) h.trace one) (λ w. (balanced-keeps w).made now l send n (h.even w))
 
 -- one record of a packet that was made
@@ -331,19 +332,31 @@ all-suit [] h = tt
 all-suit (t ∷ ts) h = (trace-suits t.command h.0, all-suit ts h.1)
 
 -- it begins with the first command
-begun : (at : EventContext) → Traced None (obey at 0 (Trace true) initial_net)
+begun : (at : EventContext) (b : Bool) → Traced None (obey at 0 (Trace true) (opening_net b))
 unfolding Told Fits next Balanced balance gone flown sum_some total weight
-begun at = record { trace = refl; told = (λ k e. absurd (cc e), refl); even = λ w. refl }
+begun at b = record { trace = refl; told = (λ k e. absurd (cc e), refl); even = λ w. refl }
+
+-- or it is on from the first event
+opened : Traced None (opening_net true)
+unfolding Told Fits next Balanced balance gone flown sum_some total weight
+opened = record { trace = refl; told = refl; even = λ w. refl }
 
 -- what is told in a traced run
-all-told : (spec : Spec) (c : List Timed) (n : ℕ) → IsTraced c →
+all-told : (spec : Spec) (c : List Timed) (n : ℕ) → IsTraced spec.traced c →
     Told 0 (alone spec c n).net.records (alone spec c n).net.made
 unfolding Told
-all-told spec c zero h = refl
-all-told spec [] (suc n) h = absurd h
-all-told spec (t ∷ ts) (suc n) h =
-    (walks_on Traced traced-keeps spec t ts n (all-suit ts h.1)
-    (λ at. subst (λ x. Traced None (obey at 0 x initial_net)) (sym h.0) (begun at))).told
+all-told spec c n h = go spec.traced refl c n h
+  where
+    go : (b : Bool) → spec.traced ≡ b → (c : List Timed) (n : ℕ) → IsTraced b c →
+        Told 0 (alone spec c n).net.records (alone spec c n).net.made
+    go true e c n h =
+        (walks Traced traced-keeps n (initial_state spec c) (all-suit c h)
+        (subst (λ x. Traced None (opening_net x)) (sym e) opened)).told
+    go false e c zero h = refl
+    go false e [] (suc n) h = absurd h
+    go false e (t ∷ ts) (suc n) h =
+        (walks_on Traced traced-keeps spec t ts n (all-suit ts h.1)
+        (λ at. subst (λ x. Traced None (obey at 0 x (opening_net spec.traced))) (sym h.0) (begun at spec.traced))).told
 
 one-make : (k m : ℕ) (r : Record) → Fits m r → total (one_at k) (next r m) ≡ total (one_at k) m + one_if (makes k r)
 unfolding Fits next total

@@ -3,7 +3,7 @@ use Rattle.std.specs.Prelude.{ℕ, ◌+◌, ◌-◌, ◌^◌, min, Bool, true, f
 use Rattle.std.specs.List.{list_any}
 use Rattle.std.specs.Option.{option_map_or}
 use Rattle.emu_model.specs.Lists.{remove_first}
-use Rattle.emu_model.specs.Types.{Plain, PipeConfig, Timed, Command, Add, Delete, Config, PipeDelete, PipeShow, Show, Inject, Train, Flow, Stop, OnePass, Trace, End, TrainSpec, FlowSpec, Deleted, Refusal, NoSuchPipe, MaskFixed, FlowThere, NoFlow, TooManyPipes, TooManyFlows, Record, CommandDone, CommandRefused, RuleLine, PipeLine, InstanceLine}
+use Rattle.emu_model.specs.Types.{ByCommand, PipeConfig, Timed, Command, Add, Delete, Config, PipeDelete, PipeShow, Show, Inject, Train, Flow, Stop, OnePass, Trace, End, TrainSpec, FlowSpec, Deleted, Refusal, NoSuchPipe, MaskFixed, FlowThere, NoFlow, TooManyPipes, TooManyFlows, Record, CommandDone, CommandRefused, RuleLine, PipeLine, InstanceLine}
 use Rattle.emu_model.specs.Rules.{add_refusal, delete_refusal, book_with, book_without}
 use Rattle.emu_model.specs.DropTail.{bytes_of}
 use Rattle.emu_model.specs.Reno.{initial_sender}
@@ -101,27 +101,27 @@ refusal_of (Flow k f) n = source_refusal k n
 refusal_of (Stop k) n = if is_some (find_flow k n) then None else Some NoFlow
 refusal_of _ n = None
 
--- the effect of a command that is not refused
-abbrev pub effect_of : EventContext → Command → Net → Net
-effect_of at (Add r) n = record n { book = book_with r n.book }
-effect_of at (Delete k) n = record n { book = book_without k n.book }
-effect_of at (Config k config) n = configure k config n
-effect_of at (PipeDelete k) n = option_map_or (delete_pipe at.now k n) (find_pipe k n) n
-effect_of at PipeShow n = note_all (flat_map pipe_lines n.pipes) n
-effect_of at Show n = note_all (rule_lines n) n
-effect_of at (Inject send) n = make at Plain send n
-effect_of at (Train k t) n = start_train at.now k t n
-effect_of at (Flow k f) n = start_flow k f n
-effect_of at (Stop k) n = option_map_or (stop_flow n) (find_flow k n) n
-effect_of at (OnePass b) n = record n { one_pass = b }
-effect_of at (Trace b) n = record n { trace = b }
-effect_of at End n = n
+-- the effect of the command numbered k, if it is not refused
+abbrev pub effect_of : EventContext → ℕ → Command → Net → Net
+effect_of at k (Add r) n = record n { book = book_with r n.book }
+effect_of at k (Delete j) n = record n { book = book_without j n.book }
+effect_of at k (Config j config) n = configure j config n
+effect_of at k (PipeDelete j) n = option_map_or (delete_pipe at.now j n) (find_pipe j n) n
+effect_of at k PipeShow n = note_all (flat_map pipe_lines n.pipes) n
+effect_of at k Show n = note_all (rule_lines n) n
+effect_of at k (Inject send) n = make at (ByCommand k) send n
+effect_of at k (Train j t) n = start_train at.now j t n
+effect_of at k (Flow j f) n = start_flow j f n
+effect_of at k (Stop j) n = option_map_or (stop_flow n) (find_flow j n) n
+effect_of at k (OnePass b) n = record n { one_pass = b }
+effect_of at k (Trace b) n = record n { trace = b }
+effect_of at k End n = n
 
 -- executes or refuses the command numbered k
 abbrev pub obey : EventContext → ℕ → Command → Net → Net
 obey at k c n =
     option_map_or (λ r. note (CommandRefused at.now k r) n) (refusal_of c n)
-    (effect_of at c (note (CommandDone at.now k) n))
+    (effect_of at k c (note (CommandDone at.now k) n))
 
 abbrev pub is_end : Command → Bool
 is_end End = true

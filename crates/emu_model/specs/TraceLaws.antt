@@ -7,15 +7,16 @@ use Rattle.emu_model.specs.Pipes.{PipeState, pipe_packets}
 use Rattle.emu_model.specs.Net.{Net, find_pipe}
 use Rattle.emu_model.specs.Alone.{alone}
 
--- the first command is `trace 1`, and no later one is `trace 0`
-abbrev pub IsTraced : List Timed → Type 0
-IsTraced [] = ⊥
-IsTraced (t ∷ ts) =
+-- tracing is on from the first event, or the first command is `trace 1`; no later command is `trace 0`
+abbrev pub IsTraced : Bool → List Timed → Type 0
+IsTraced true ts = AllByRecursion (λ u. u.command ≢ Trace false) ts
+IsTraced false [] = ⊥
+IsTraced false (t ∷ ts) =
     (t.command ≡ Trace true) × AllByRecursion (λ u. u.command ≢ Trace false) ts
 
 -- tests for the record of the creation of packet k; `delivers` tests for its delivery, `drops` for its drop
 abbrev pub makes : ℕ → Record → Bool
-makes k (PacketMade moment packet load proto src sport dst dport size) = packet == k
+makes k (PacketMade moment packet origin proto src sport dst dport size) = packet == k
 makes k _ = false
 
 abbrev pub delivers : ℕ → Record → Bool
@@ -43,7 +44,7 @@ EachPacketOnce = (spec : Spec) (c : List Timed) (n k : ℕ) →
 
 -- in a traced run each packet that was created has one `make` record; no other packet has one
 abbrev pub EachMakeOnce : Type 0
-EachMakeOnce = (spec : Spec) (c : List Timed) (n k : ℕ) → IsTraced c →
+EachMakeOnce = (spec : Spec) (c : List Timed) (n k : ℕ) → IsTraced spec.traced c →
     count_by (makes k) (alone spec c n).net.records ≡ once_made k (alone spec c n).net
 
 -- tests for a record about packet k other than its `make`
@@ -58,7 +59,7 @@ tells_of k _ = false
 -- in a traced run every other record about a packet comes after its `make`
 abbrev pub MakeComesFirst : Type 0
 MakeComesFirst = (spec : Spec) (c : List Timed) (n k : ℕ) (before after : List Record) (r : Record) →
-    IsTraced c → (alone spec c n).net.records ≡ before ++ r ∷ after → tells_of k r ≡ true →
+    IsTraced spec.traced c → (alone spec c n).net.records ≡ before ++ r ∷ after → tells_of k r ≡ true →
     count_by (makes k) before ≡ 1
 
 -- the packet that arrives at instance k of a pipe, by a record; `finishes_in` has one that finishes there, `passes_in` one that passes on
@@ -93,7 +94,7 @@ IsSublist (x ∷ xs) (y ∷ ys) = ((x ≡ y) × IsSublist xs ys) ⊎ IsSublist (
 
 -- in a traced run packets finish in an instance in the order in which they arrived there
 abbrev pub FinishesKeepOrder : Type 0
-FinishesKeepOrder = (spec : Spec) (c : List Timed) (n pipe k : ℕ) → IsTraced c →
+FinishesKeepOrder = (spec : Spec) (c : List Timed) (n pipe k : ℕ) → IsTraced spec.traced c →
     let records : List Record = (alone spec c n).net.records in
     IsSublist (flat_map (finishes_in pipe k) records) (flat_map (arrives_in pipe k) records)
 

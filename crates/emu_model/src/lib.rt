@@ -24,7 +24,7 @@ pub use component_laws::{
     loss_has_its_extremes,
 };
 pub use due_laws::{dues_stay_ahead, dues_stay_below};
-pub use packets::{Load, Packet, Place, Protocol};
+pub use packets::{Load, Origin, Packet, Place, Protocol};
 pub use pipes::{Discipline, Mask, PipeConfig, QueueLimit};
 pub use ranged::{
     Amount, Bandwidth, CodelTime, Delay, FlowNumber, Gap, KByteLimit, LossRate, PacketBudget,

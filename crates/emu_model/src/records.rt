@@ -1,6 +1,6 @@
 //! The records of a report (our choice).
 
-use crate::packets::{Load, Protocol};
+use crate::packets::{Load, Origin, Protocol};
 use crate::pipes::PipeConfig;
 use crate::ranged::{FlowNumber, PipeNumber, Size};
 use crate::rules::Rule;
@@ -48,7 +48,7 @@ pub enum Record {
     PacketMade {
         moment: u64,
         packet: u64,
-        load: Load,
+        origin: Origin,
         proto: Protocol,
         src: u32,
         sport: u16,

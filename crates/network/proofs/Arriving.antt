@@ -8,6 +8,7 @@ use Rattle.std.proofs.lemmas.Bool.{lt-ltb, le-ltb}
 use Rattle.std.proofs.lemmas.List.{length-append, length-map}
 use Rattle.std.proofs.lemmas.List.Sums.{sum_by-cons}
 use Rattle.emu_model.specs.declared.packets.Load.{Load}
+use Rattle.emu_model.specs.declared.packets.Origin.{Origin}
 use Rattle.emu_model.specs.declared.packets.Load.TheVariants.{Plain}
 use Rattle.emu_model.specs.declared.packets.Packet.{Packet}
 use Rattle.emu_model.specs.declared.packets.Place.{Place}
@@ -21,7 +22,7 @@ use Rattle.emu_rules.proofs.CallerLemmas.{verdict-alike, counted-alone}
 use Rattle.emu_model.specs.Delay.{Line, InFlight, enter}
 use Rattle.emu_model.specs.Pipes.{PipeState, pipe_arrive, pipe_packets}
 use Rattle.emu_model.specs.declared.commands.EventContext.{EventContext}
-use Rattle.emu_model.specs.Net.{Net, held, note_all, note_drops, note_traced, note_arrival, arrivals, find_pipe, put_after, drop_packet, make_record, drop_record, to_direct, enter_pipe, to_pipe, by_verdict, pass_rules_from, packet_of, make, pass_rules}
+use Rattle.emu_model.specs.Net.{Net, held, note_all, note_drops, note_traced, note_arrival, arrivals, find_pipe, put_after, drop_packet, load_by, make_record, drop_record, to_direct, enter_pipe, to_pipe, by_verdict, pass_rules_from, packet_of, make, pass_rules}
 use Rattle.link_core.specs.Lane.{Lane}
 use Rattle.packet_store.specs.Pocket.{Pocket, with_packet}
 use Rattle.pipe_core.specs.KeyedInstance.{seen_leaving, seen_line}
@@ -217,7 +218,7 @@ held-is named p n h =
     )
 
 -- one more was made
-module _ (named : PacketsAreNamed) (at : EventContext) (p : Pocket) (n : KeptNet) (load : Load) (send : SendSpec) (x : Packet) (h : IsHoused p n) (is : x ≡ packet_of load send n.made) where
+module _ (named : PacketsAreNamed) (at : EventContext) (p : Pocket) (n : KeptNet) (o : Origin) (send : SendSpec) (x : Packet) (h : IsHoused p n) (is : x ≡ packet_of (load_by o) send n.made) where
   abbrev one-more : KeptNet
   one-more = record n { made = n.made + 1 }
 
@@ -225,18 +226,18 @@ module _ (named : PacketsAreNamed) (at : EventContext) (p : Pocket) (n : KeptNet
   more-housed = record { each = h.each; count = h.count }
 
   abbrev traced-one : Packet → Net
-  traced-one y = note_traced (make_record at.now y ∷ []) (net_of p one-more)
+  traced-one y = note_traced (make_record at.now o y ∷ []) (net_of p one-more)
 
   abbrev made-by : Bool → Packet → Net
   made-by fits y = cond fits (pass_rules at y (traced-one y)) (note_drops at.now (record { packet = y; cause = Budget } ∷ []) (traced-one y))
 
-  traced : (mid : KeptNet) → Notes (if n.trace then make_record at.now x ∷ [] else []) one-more mid →
+  traced : (mid : KeptNet) → Notes (if n.trace then make_record at.now o x ∷ [] else []) one-more mid →
       Becomes 0 (traced-one x) p p one-more mid
-  traced mid noted = notes-becomes p (if n.trace then make_record at.now x ∷ [] else []) one-more mid more-housed noted
+  traced mid noted = notes-becomes p (if n.trace then make_record at.now o x ∷ [] else []) one-more mid more-housed noted
 
-  pub made-passes : (q : Pocket) (mid new : KeptNet) → Notes (if n.trace then make_record at.now x ∷ [] else []) one-more mid →
+  pub made-passes : (q : Pocket) (mid new : KeptNet) → Notes (if n.trace then make_record at.now o x ∷ [] else []) one-more mid →
       p.count < at.packet_budget → Becomes 0 (pass_rules at x (net_of p mid)) p q mid new →
-      Becomes 1 (make at load send (net_of p n)) p q n new
+      Becomes 1 (make at o send (net_of p n)) p q n new
   made-passes q mid new noted fits passed =
       let test : nat_lt (held (net_of p n)) at.packet_budget ≡ true = lt-ltb (held (net_of p n)) at.packet_budget (omega (arith, fits, held-is named p n h)) in
       let b : Becomes 0 (pass_rules at x (traced-one x)) p q one-more new =
@@ -249,9 +250,9 @@ module _ (named : PacketsAreNamed) (at : EventContext) (p : Pocket) (n : KeptNet
         made = omega (arith, b.made);
       }
 
-  pub made-dropped : (mid new : KeptNet) → Notes (if n.trace then make_record at.now x ∷ [] else []) one-more mid →
+  pub made-dropped : (mid new : KeptNet) → Notes (if n.trace then make_record at.now o x ∷ [] else []) one-more mid →
       at.packet_budget ≤ p.count → Notes (drop_record at.now (record { packet = x; cause = Budget }) ∷ []) mid new →
-      Becomes 1 (make at load send (net_of p n)) p p n new
+      Becomes 1 (make at o send (net_of p n)) p p n new
   made-dropped mid new noted full dropped =
       let test : nat_lt (held (net_of p n)) at.packet_budget ≡ false = le-ltb (held (net_of p n)) at.packet_budget (omega (arith, full, held-is named p n h)) in
       let ds : List Record = drop_record at.now (record { packet = x; cause = Budget }) ∷ [] in

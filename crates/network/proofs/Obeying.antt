@@ -4,7 +4,7 @@ use Rattle.std.specs.Prelude.{is_some, OnOk, Result}
 use Rattle.std.specs.Option.{option_map_or}
 use Rattle.emu_model.specs.declared.commands.Command.{Command}
 use Rattle.emu_model.specs.declared.commands.Command.TheVariants.{Config, PipeDelete, Inject}
-use Rattle.emu_model.specs.declared.packets.Load.TheVariants.{Plain}
+use Rattle.emu_model.specs.declared.packets.Origin.TheVariants.{ByCommand}
 use Rattle.emu_model.specs.declared.packets.Packet.{Packet}
 use Rattle.emu_model.specs.declared.pipes.PipeConfig.{PipeConfig}
 use Rattle.emu_model.specs.declared.records.Record.{Record}
@@ -34,11 +34,11 @@ weaker m p q x y b = record { shown = b.shown; housed = b.housed; budget = b.bud
 pub from_still : (f : Net → Net) (c : ℕ) (p q : Pocket) (x y z : KeptNet) → IsHoused p x → IsStill x y → Becomes c (f (net_of p y)) p q y z → Becomes c (f (net_of p x)) p q x z
 from_still f c p q x y z h s b = follow f 0 c c (net_of p x) p p q x y z (omega arith) (still-becomes p x y h s) b
 
-pub obeyed-done : (at : EventContext) (k : ℕ) (c : Command) (m : Net) → refusal_of c m ≡ None → obey at k c m ≡ effect_of at c (note (CommandDone at.now k) m)
-obeyed-done at k c m e = ap (λ o. option_map_or (λ r. note (CommandRefused at.now k r) m) o (effect_of at c (note (CommandDone at.now k) m))) e
+pub obeyed-done : (at : EventContext) (k : ℕ) (c : Command) (m : Net) → refusal_of c m ≡ None → obey at k c m ≡ effect_of at k c (note (CommandDone at.now k) m)
+obeyed-done at k c m e = ap (λ o. option_map_or (λ r. note (CommandRefused at.now k r) m) o (effect_of at k c (note (CommandDone at.now k) m))) e
 
 pub obeyed-refused : (at : EventContext) (k : ℕ) (c : Command) (m : Net) (r : Refusal) → refusal_of c m ≡ Some r → obey at k c m ≡ note (CommandRefused at.now k r) m
-obeyed-refused at k c m r e = ap (λ o. option_map_or (λ r. note (CommandRefused at.now k r) m) o (effect_of at c (note (CommandDone at.now k) m))) e
+obeyed-refused at k c m r e = ap (λ o. option_map_or (λ r. note (CommandRefused at.now k r) m) o (effect_of at k c (note (CommandDone at.now k) m))) e
 
 pub refuse-obeys : (at : EventContext) (k : ℕ) (c : Command) (r : Refusal) (n new : KeptNet) → ((p : Pocket) → refusal_of c (net_of p n) ≡ Some r) →
     Notes (CommandRefused at.now k r ∷ []) n new → Obeys at k c n new
@@ -48,7 +48,7 @@ refuse-obeys at k c r n new why notes p h =
 
 -- a change within the net, and then it is recorded that the command is done
 pub record Works (at : EventContext) (k : ℕ) (c : Command) (n mid : KeptNet) : Type 0 where
-  pub moved : (p : Pocket) → effect_of at c (note (CommandDone at.now k) (net_of p n)) ≡ note (CommandDone at.now k) (net_of p mid)
+  pub moved : (p : Pocket) → effect_of at k c (note (CommandDone at.now k) (net_of p n)) ≡ note (CommandDone at.now k) (net_of p mid)
   pub line : mid.direct ≡ n.direct
   pub keys : pipe_keys mid.table.pipes ≡ pipe_keys n.table.pipes
   pub seed : mid.table.seed ≡ n.table.seed
@@ -83,7 +83,7 @@ module _ (at : EventContext) (k : ℕ) (n new : KeptNet) where
       (subst (λ x. Notes (CommandRefused at.now k r ∷ []) (record n { table = x }) new) is notes)
 
   pub traffic-done : (c : Command) (t : KeptTraffic) → ((p : Pocket) → refusal_of c (net_of p n) ≡ None) →
-      ((m : Net) → effect_of at c (with_traffic n.traffic m) ≡ with_traffic t m) →
+      ((m : Net) → effect_of at k c (with_traffic n.traffic m) ≡ with_traffic t m) →
       Notes (CommandDone at.now k ∷ []) (record n { traffic = t }) new → Obeys at k c n new
   traffic-done c t why moved notes = done-obeys at k c n (record n { traffic = t }) new why
       (record { moved = λ p. moved (note (CommandDone at.now k) (net_of p n)); line = refl; keys = refl; seed = refl; made = refl }) notes
@@ -106,7 +106,7 @@ kind-obeys {kind = kind} {p = p} {old = old} {mid = mid} is housed still at k ne
 
 -- it is recorded that the command is done, and then lines are listed
 pub listed-obeys : (at : EventContext) (k : ℕ) (c : Command) (n mid new : KeptNet) (rs : Pocket → List Record) → ((p : Pocket) → refusal_of c (net_of p n) ≡ None) →
-    ((p : Pocket) → effect_of at c (note (CommandDone at.now k) (net_of p n)) ≡ note_all (rs p) (note (CommandDone at.now k) (net_of p n))) →
+    ((p : Pocket) → effect_of at k c (note (CommandDone at.now k) (net_of p n)) ≡ note_all (rs p) (note (CommandDone at.now k) (net_of p n))) →
     Notes (CommandDone at.now k ∷ []) n mid → ((p : Pocket) → Notes (rs p) mid new) → Obeys at k c n new
 listed-obeys at k c n mid new rs why effect done listed p h =
     let a = notes-becomes p (CommandDone at.now k ∷ []) n mid h done in
@@ -117,11 +117,11 @@ listed-obeys at k c n mid new rs why effect done listed p h =
 
 -- a packet is injected
 pub injected : (at : EventContext) (k : ℕ) (send : SendSpec) (p q : Pocket) (n mid last new : KeptNet) → IsHoused p n → IsStill n mid →
-    Notes (CommandDone at.now k ∷ []) mid last → Becomes 1 (make at Plain send (net_of p last)) p q last new → Becomes 1 (obey at k (Inject send) (net_of p n)) p q n new
+    Notes (CommandDone at.now k ∷ []) mid last → Becomes 1 (make at (ByCommand k) send (net_of p last)) p q last new → Becomes 1 (obey at k (Inject send) (net_of p n)) p q n new
 injected at k send p q n mid last new h still done made =
     let a = notes-becomes p (CommandDone at.now k ∷ []) mid last (still-housed p n mid h still) done in
-    from_still (λ m. make at Plain send (note (CommandDone at.now k) m)) 1 p q n mid new h still
-    (follow (λ m. make at Plain send m) 0 1 1 (note_all (CommandDone at.now k ∷ []) (net_of p mid)) p p q mid last new (omega arith) a made)
+    from_still (λ m. make at (ByCommand k) send (note (CommandDone at.now k) m)) 1 p q n mid new h still
+    (follow (λ m. make at (ByCommand k) send m) 0 1 1 (note_all (CommandDone at.now k ∷ []) (net_of p mid)) p p q mid last new (omega arith) a made)
 
 none-from : {A : Type 0} (o : Option A) → is_some o ≡ false → o ≡ None
 none-from None e = refl

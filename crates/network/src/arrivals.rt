@@ -5,19 +5,19 @@ ghost use Rattle.std.specs.Prelude.{◌≡◌, ℕ, ◌+◌, ◌*◌, ◌^◌, �
 ghost use Rattle.std.specs.Option.{option_map_or};
 ghost use Rattle.emu_model.specs.Moments.{IsMoment};
 ghost use Rattle.packet_store.specs.Pocket.{Pocket, OthersStay, AllStay};
-ghost use Rattle.emu_model.specs.Net.{arrivals, by_verdict, drop_record, enter_pipe, find_pipe, reinject, make, make_record, packet_of, pass_rules, pass_rules_from, to_direct, to_pipe};
+ghost use Rattle.emu_model.specs.Net.{arrivals, by_verdict, drop_record, enter_pipe, find_pipe, load_by, reinject, make, make_record, packet_of, pass_rules, pass_rules_from, to_direct, to_pipe};
 ghost use Rattle.network.specs.Kept.{net_of, IsHoused, Stands};
 ghost use Rattle.network.specs.Changes.{Becomes, IsStill, Notes};
 ghost use Rattle.network.specs.Frames.{TakesRoom};
 ghost use Rattle.network.specs.Ready.{IsMatch, IsReady, CanGo, CanPass, start_after, CanMake};
 ghost use Rattle.pipe_table.specs.Table.{HasRoomIn};
-ghost use Rattle.pipe_table.specs.Places.{KeepsPlaces};
+ghost use Rattle.pipe_table.specs.Places.{IsRouted, KeepsPlaces};
 ghost use Rattle.emu_model.specs.declared.rules.Verdict.TheVariants.{IntoPipe};
 
 use crate::flow_cache::{Lookup, Route};
 use crate::state::Network;
 use emu_model::{
-    Delay, DropCause, EventContext, Load, Packet, PipeNumber, Place, Record, RuleNumber, SendSpec,
+    Delay, DropCause, EventContext, Origin, Packet, PipeNumber, Place, Record, RuleNumber, SendSpec,
     Verdict,
 };
 use emu_rules::{Match, NO_RULE};
@@ -29,8 +29,8 @@ use unchecked::unreachable_unchecked;
 
 // Returns a packet with this header.
 #[inline(always)]
-fn packet_of(load: Load, send: &SendSpec, number: u64) -> Packet
-    ensures { result ≡ packet_of load send.now number }
+fn packet_of(origin: Origin, send: &SendSpec, number: u64) -> Packet
+    ensures { result ≡ packet_of (load_by origin) send.now number }
 {
     Packet {
         proto: send.proto,
@@ -40,7 +40,7 @@ fn packet_of(load: Load, send: &SendSpec, number: u64) -> Packet
         dport: send.dport,
         size: send.size,
         number,
-        load,
+        load: origin.load(),
         place: Place {
             number: RuleNumber::new(0).unwrap(),
             order: 0,
@@ -187,7 +187,7 @@ impl Network {
         ensures places { OnOk result (KeepsPlaces self.old.table.pipes self.new.table.pipes) }
         ensures ready { IfOk result (λ lookup. CanMake send lookup self.new) }
     {
-        let packet = packet_of(Load::Plain, &send, 0);
+        let packet = packet_of(Origin::ByCommand(0), &send, 0);
         let found = self.book.classify_rule(&packet);
         let known = self.arrival_ready(shelf, owner, now, found, &packet)?;
         let Some(route) = known else {
@@ -214,7 +214,7 @@ impl Network {
         ensures rooms { (o : ℕ) → S.room shelf.old o ≤ S.room shelf.new o }
         ensures ready { OnOk result (CanMake send.now Lookup.Searched self.new) }
     {
-        let packet = packet_of(Load::Plain, send, 0);
+        let packet = packet_of(Origin::ByCommand(0), send, 0);
         let found = self.book.classify_rule(&packet);
         self.arrival_ready(shelf, owner, now, found, &packet)?;
         Ok(())
@@ -237,9 +237,9 @@ impl Network {
 
     // Records that a packet is created, if packets are traced.
     #[inline(always)]
-    fn note_made(&mut self, now: u64, packet: &Packet)
+    fn note_made(&mut self, now: u64, origin: Origin, packet: &Packet)
         requires { 0 < self.old.log.spare }
-        ensures { Notes (if self.old.trace then make_record now packet.now ∷ []
+        ensures { Notes (if self.old.trace then make_record now origin packet.now ∷ []
             else []) self.old self.new }
     {
         if !self.trace {
@@ -248,7 +248,7 @@ impl Network {
         self.note(&Record::PacketMade {
             moment: now,
             packet: packet.number,
-            load: packet.load,
+            origin,
             proto: packet.proto,
             src: packet.src,
             sport: packet.sport,
@@ -273,6 +273,27 @@ impl Network {
             return;
         }
         self.table.note_arrival(&mut self.log, now, number, *packet);
+    }
+
+    // Records that a packet arrives at the instance of its route, if packets are traced.
+    #[inline(always)]
+    fn note_arrival_by_route(&mut self, now: u64, route: &Route, packet: &Packet)
+        requires room { 0 < self.old.log.spare }
+        requires route { IsRouted route.now.number packet.now route.now.pipe route.now.instance
+            self.old.table.pipes }
+        ensures rest { self.new ≡ record self.old { log = self.new.log } }
+        ensures records { (p : Pocket) → self.new.log.records ≡ self.old.log.records
+            ++ (if self.old.trace
+            then option_map_or (arrivals now packet.now)
+            (find_pipe route.now.number (net_of p self.old)) []
+            else []) }
+        ensures room { self.old.log.spare ≤ self.new.log.spare + 2 }
+    {
+        if !self.trace {
+            return;
+        }
+        self.table
+            .note_arrival_at(&mut self.log, now, route.pipe, route.instance, packet);
     }
 
     // Adds a packet to the link of `allow`.
@@ -382,7 +403,7 @@ impl Network {
             place: route.place,
             ..*packet
         };
-        self.note_arrival(at.now, route.number, &sent);
+        self.note_arrival_by_route(at.now, route, &sent);
         let answer = self
             .table
             .arrive_at(route.pipe, route.instance, shelf, owner, at.now, &sent);
@@ -516,16 +537,16 @@ impl Network {
         requires log { 3 < self.old.log.spare }
         requires ready { CanMake sending.now.send lookup.now self.old }
         ensures becomes { Becomes 1
-            (make at sending.now.load sending.now.send
+            (make at sending.now.origin sending.now.send
             (net_of (S.pocket shelf.old owner) self.old))
             (S.pocket shelf.old owner) (S.pocket shelf.new owner) self.old self.new }
         ensures takes { TakesRoom 4 owner (S.pocket shelf.old) (S.pocket shelf.new)
             self.old self.new }
     {
         keys_say_all();
-        let packet = packet_of(sending.load, &sending.send, self.made);
+        let packet = packet_of(sending.origin, &sending.send, self.made);
         self.made += 1;
-        self.note_made(at.now, &packet);
+        self.note_made(at.now, sending.origin, &packet);
         if shelf.count(owner) >= at.packet_budget.get() as usize {
             self.drop_packet(at.now, &packet, DropCause::Budget);
             return;

@@ -16,7 +16,7 @@ ghost use Rattle.pipe_table.specs.Table.{pipe_of};
 use crate::flow_cache::Lookup;
 use crate::state::Network;
 use emu_model::{
-    Command, DropCause, EventContext, FlowNumber, FlowSpec, Load, PipeConfig, PipeNumber, Record,
+    Command, DropCause, EventContext, FlowNumber, FlowSpec, Origin, PipeConfig, PipeNumber, Record,
     Refusal, Rule, RuleNumber, SendSpec, TrainSpec,
 };
 use emu_rules::{AddError, RuleList};
@@ -244,7 +244,7 @@ impl Network {
         shelf.put_ready(owner)?;
         self.inject_ready(shelf, owner, at.now, send)?;
         self.note_done(at.now, number);
-        let sending = plain_sending(send);
+        let sending = injection(number, send);
         self.make(shelf, owner, at, &sending, &Lookup::Searched);
         Ok(())
     }
@@ -359,12 +359,12 @@ impl Network {
     }
 }
 
-// Returns a packet without a load that is to be created.
-fn plain_sending(send: &SendSpec) -> Sending
-    ensures { result ≡ record { load = Load.Plain; send = send.now } }
+// Returns the packet that the command with this number creates.
+fn injection(number: u64, send: &SendSpec) -> Sending
+    ensures { result ≡ record { origin = Origin.ByCommand number; send = send.now } }
 {
     Sending {
-        load: Load::Plain,
+        origin: Origin::ByCommand(number),
         send: *send,
     }
 }

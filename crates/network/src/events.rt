@@ -458,8 +458,8 @@ impl Network {
         };
         let send = self.traffic.header_at(&found);
         let lookup = self.make_ready(shelf, owner, at.now, line_of(source), &send)?;
-        let load = self.traffic.emit_at(at.now, &found);
-        self.make(shelf, owner, at, &Sending { load, send }, &lookup);
+        let origin = self.traffic.emit_at(at.now, &found);
+        self.make(shelf, owner, at, &Sending { origin, send }, &lookup);
         Ok(())
     }
 }

@@ -1,7 +1,7 @@
 //! The state of an experiment.
 
 ghost use Rattle.std.specs.Prelude.{◌≡◌, ◌+◌, ◌^◌, ◌<◌, ◌≤◌, ◌∷◌, [], IfOk, IsOk, OnOk};
-ghost use Rattle.emu_model.specs.Net.{initial_net};
+ghost use Rattle.emu_model.specs.Net.{opening_net};
 ghost use Rattle.packet_store.specs.Pocket.{Pocket};
 ghost use Rattle.network.specs.Kept.{net_of, net_keys};
 ghost use Rattle.network.specs.Changes.{IsStill, Notes};
@@ -58,10 +58,11 @@ impl Model for Network {
 }
 
 impl Network {
-    /// Creates a network with only the default rule, and without packets.
+    /// Creates a network with only the default rule, and without packets, whose packets are traced
+    /// or not.
     #[tactic(auto, unfolding(pipe_table::specs::Table::pipe_keys))]
-    pub fn new(alloc: Global, seed: u64) -> Result<Self, AllocError>
-        ensures shown { IfOk result (λ n. (p : Pocket) → net_of p n ≡ initial_net) }
+    pub fn new(alloc: Global, seed: u64, traced: bool) -> Result<Self, AllocError>
+        ensures shown { IfOk result (λ n. (p : Pocket) → net_of p n ≡ opening_net traced) }
         ensures keys { IfOk result (λ n. net_keys n ≡ []) }
         ensures seed { IfOk result (λ n. n.table.seed ≡ seed) }
         ensures made { IfOk result (λ n. n.made ≡ 0) }
@@ -75,7 +76,7 @@ impl Network {
             traffic: Traffic::new(alloc),
             made: 0,
             one_pass: true,
-            trace: false,
+            trace: traced,
             log: RecordLog::new(alloc),
             drops: Vec::new(alloc),
             flow_cache: FlowCache::new(alloc),

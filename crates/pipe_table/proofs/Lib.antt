@@ -12,3 +12,4 @@ mod Reaching
 mod PlaceFacts
 pub mod CallerLemmas
 mod LogFacts
+mod Routed

@@ -6,6 +6,7 @@ ghost use Rattle.emu_model.specs.FlowIds.{flow_id};
 ghost use Rattle.emu_model.specs.Net.{Net, arrivals, find_pipe, identify_record};
 ghost use Rattle.packet_store.specs.Pocket.{Pocket};
 ghost use Rattle.pipe_core.specs.Keyed.{seen_pipe};
+ghost use Rattle.pipe_table.specs.Places.{IsRouted, StandsAt};
 ghost use Rattle.pipe_table.specs.Table.{with_pipes};
 
 use crate::{PipeTable, RecordLog};
@@ -78,5 +79,34 @@ impl PipeTable {
             return;
         };
         note_at(&self.pipes[place], log, now, &packet);
+    }
+
+    /// Records an arrival like `note_arrival`, given the places of the packet's pipe and of its
+    /// instance, which exist.
+    #[inline(always)]
+    pub fn note_arrival_at(
+        &self,
+        log: &mut RecordLog,
+        now: u64,
+        place: usize,
+        instance: usize,
+        packet: &Packet,
+    )
+        requires room { 1 ≤ log.old.spare }
+        requires route { (k : ℕ) × IsRouted k packet.now place instance self.now.pipes }
+        ensures records { (k : ℕ) → StandsAt k place self.now.pipes → (p : Pocket) (n : Net) →
+            log.new.records ≡ log.old.records
+            ++ option_map_or (arrivals now packet.now) (find_pipe k (with_pipes p self.now n)) [] }
+        ensures room { log.old.spare ≤ log.new.spare + 1 }
+    {
+        let pipe = &self.pipes[place];
+        let _count = pipe.instances();
+        let Packet { number, .. } = *packet;
+        log.note(&Record::PacketArrived {
+            moment: now,
+            packet: number,
+            pipe: pipe.number(),
+            instance: instance as u8,
+        });
     }
 }

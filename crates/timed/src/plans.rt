@@ -124,7 +124,11 @@ fn spec(packets: u16) -> Option<Spec> {
     let packets = PacketBudget::new(packets)?;
     let steps = StepBudget::new(1_000_000)?;
     let budget = Budget { packets, steps };
-    Some(Spec { seed: 1, budget })
+    Some(Spec {
+        seed: 1,
+        budget,
+        traced: false,
+    })
 }
 
 /// Returns a flow of 400 segments there, and its acknowledgements back, which end long before the

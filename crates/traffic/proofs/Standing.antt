@@ -5,8 +5,8 @@ use Rattle.std.specs.Option.{option_map_or}
 use Rattle.std.proofs.Math.ListN.{get_or-map}
 use Rattle.std.proofs.lemmas.Option.{same_Some, slice_get-map, slice_get-get_or}
 use Rattle.std.proofs.lemmas.List.{map-set, set-get_or}
-use Rattle.emu_model.specs.declared.packets.Load.{Load}
-use Rattle.emu_model.specs.declared.packets.Load.TheVariants.{Plain, Seg}
+use Rattle.emu_model.specs.declared.packets.Origin.{Origin}
+use Rattle.emu_model.specs.declared.packets.Origin.TheVariants.{ByTrain, BySender}
 use Rattle.emu_model.specs.declared.commands.EventContext.{EventContext}
 use Rattle.emu_model.specs.declared.sources.SendSpec.{SendSpec}
 use Rattle.emu_model.specs.Reno.{emit as emitted_by, emitted}
@@ -80,9 +80,9 @@ module _ (t : KeptTraffic) (fs : List KeptFlow) (ts : List TrainState) (i : ℕ)
       sym (emitting_by_flow m.number (with_traffic t n) f.state (no_train_here m.number place n) ((here m.number place).found n))
       ∙ m.may n
 
-  pub flow_emits : (g : KeptFlow) (now : ℕ) (r : Load) →
+  pub flow_emits : (g : KeptFlow) (now : ℕ) (r : Origin) →
       (g ≡ record f { state = record f.state { sender = emitted_by f.state.flow now f.state.sender } }) →
-      r ≡ Seg f.state.number (emitted f.state.sender) →
+      r ≡ BySender f.state.number (emitted f.state.sender) →
       (s : EventContext) (k : ℕ) (n : Net) (send : SendSpec) → s.now ≡ now → source_place k t ≡ Some (Flow i) →
       next_send k (with_traffic t n) ≡ Some send →
       emission s k (with_traffic t n) ≡ make s r send (with_traffic (kept (set fs i g) ts) n)
@@ -92,7 +92,7 @@ module _ (t : KeptTraffic) (fs : List KeptFlow) (ts : List TrainState) (i : ℕ)
       let m = with_traffic t n in
       let new = with_traffic (kept (set fs i g) ts) n in
       let put = λ (x : ℕ). let y : FlowState = record f.state { sender = emitted_by f.state.flow x f.state.sender } in put_flow y m in
-      let made = make s (Seg f.state.number (emitted f.state.sender)) (data_send f.state.flow) in
+      let made = make s (BySender f.state.number (emitted f.state.sender)) (data_send f.state.flow) in
       let same : data_send f.state.flow ≡ send = same_Some _ _ (sym (flow_send_is k n source) ∙ sends) in
       emission_by_flow s k m f.state (no_train_here k place n) (h.found n)
       ∙ ap (λ x. made (put x)) moment
@@ -115,19 +115,19 @@ module _ (t : KeptTraffic) (fs : List KeptFlow) (ts : List TrainState) (i : ℕ)
       let n = initial_net in
       sym (emitting_by_train m.number (with_traffic t n) u ((standing m.number m.place).found n)) ∙ m.may n
 
-  pub train_emits : (v : TrainState) → (v ≡ record u { sent = u.sent + 1 }) →
+  pub train_emits : (v : TrainState) (r : Origin) → (v ≡ record u { sent = u.sent + 1 }) → r ≡ ByTrain u.number →
       (s : EventContext) (k : ℕ) (n : Net) (send : SendSpec) → source_place k t ≡ Some (Train i) →
       next_send k (with_traffic t n) ≡ Some send →
-      emission s k (with_traffic t n) ≡ make s Plain send (with_traffic (kept fs (set ts i v)) n)
-  train_emits v e s k n send source sends =
+      emission s k (with_traffic t n) ≡ make s r send (with_traffic (kept fs (set ts i v)) n)
+  train_emits v r e er s k n send source sends =
       let h = standing k source in
       let m = with_traffic t n in
       let new = with_traffic (kept fs (set ts i v)) n in
       let same : u.train.packet ≡ send = same_Some _ _ (sym (train_send_is k n source) ∙ sends) in
       emission_by_train s k m u (h.found n)
-      ∙ ap (make s Plain u.train.packet)
+      ∙ ap (make s (ByTrain u.number) u.train.packet)
       (ap (λ v. put_train v m) (sym e) ∙ h.put v n (ap (λ (u : TrainState). u.number) e ∙ h.number))
-      ∙ ap (λ x. make s Plain x new) same
+      ∙ (λ j. make s (sym er j) (same j) new)
 
 -- ---- what never changes
 

@@ -12,7 +12,7 @@ ghost use Rattle.traffic.specs.Sends.{may_send};
 
 use crate::sends::{Sending, Window};
 use due_index::DueNumber;
-use emu_model::{FlowNumber, FlowSpec, Load, Protocol, SendSpec, Size, Source};
+use emu_model::{FlowNumber, FlowSpec, Origin, Protocol, SendSpec, Size, Source};
 use reno_core::{Receiver, Sender};
 use std::alloc::{AllocError, Global};
 use std::marker::Model;
@@ -122,18 +122,18 @@ impl Flow {
         }
     }
 
-    /// Sends one segment at `now` (ns), and returns its load.
+    /// Sends one segment at `now` (ns), and returns its origin.
     #[inline(always)]
-    pub(crate) fn emit(&mut self, now: u64) -> Load
+    pub(crate) fn emit(&mut self, now: u64) -> Origin
         requires early { IsMoment now }
         requires may { may_send self.old.state ≡ true }
         ensures flow { let f = self.old.state in
             self.new ≡ record self.old { state = record f { sender = emit f.flow now f.sender } } }
         ensures result { let f = self.old.state in
-            result ≡ Load.Seg f.number (emitted f.sender) }
+            result ≡ Origin.BySender f.number (emitted f.sender) }
     {
         let first = self.sender.emit(now);
-        Load::Seg {
+        Origin::BySender {
             flow: self.number,
             first,
         }
@@ -158,7 +158,7 @@ impl Flow {
             self.new.state ≡ record f { came = with_segment first f.came } }
         ensures result { let f = self.old.state in
             result ≡ record {
-              load = Load.Ack f.number (missing f.flow.smss (with_segment first f.came));
+              origin = Origin.ByReceiver f.number (missing f.flow.smss (with_segment first f.came));
               send = ack_send f.flow;
             } }
     {
@@ -167,7 +167,7 @@ impl Flow {
             unreachable_unchecked!()
         };
         Sending {
-            load: Load::Ack {
+            origin: Origin::ByReceiver {
                 flow: self.number,
                 upto,
             },

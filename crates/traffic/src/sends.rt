@@ -1,11 +1,11 @@
 //! The results that sources return to the experiment.
 
-use emu_model::{Load, SendSpec};
+use emu_model::{Origin, SendSpec};
 
-/// A packet to be created: its load and its header.
+/// A packet to be created: who creates it, and its header.
 #[derive(Clone, Copy)]
 pub struct Sending {
-    pub load: Load,
+    pub origin: Origin,
     pub send: SendSpec,
 }
 

@@ -21,7 +21,7 @@ use crate::index::SourceIndex;
 use crate::sends::{Sending, Window};
 use crate::train::Train;
 use due_index::{DueNumber, NumberTable};
-use emu_model::{Due, FlowNumber, FlowSpec, Load, Refusal, SendSpec, TrainSpec};
+use emu_model::{Due, FlowNumber, FlowSpec, Origin, Refusal, SendSpec, TrainSpec};
 use std::alloc::{AllocError, Global};
 use std::marker::Model;
 
@@ -192,7 +192,7 @@ impl Traffic {
         requires { HasRoomFor number self.old }
         ensures taken { (at : EventContext) (n : Net) → let m = with_traffic self.old n in
             option_map_or (take_segment at first m) (find_flow number m) m
-            ≡ option_map_or (λ s. make at s.load s.send (with_traffic self.new n)) result
+            ≡ option_map_or (λ s. make at s.origin s.send (with_traffic self.new n)) result
             (with_traffic self.new n) }
         ensures header { (n : Net) →
             option_map (λ s. s.send) result ≡ reply_send number (with_traffic self.old n) }
@@ -339,9 +339,9 @@ impl Traffic {
     }
 
     /// Sends a packet from the source at a place, which must have one to send, and returns its
-    /// load. The packet's header is that of `header_at`.
+    /// origin. The packet's header is that of `header_at`.
     #[inline(always)]
-    pub fn emit_at(&mut self, now: u64, source: &SourcePlace) -> Load
+    pub fn emit_at(&mut self, now: u64, source: &SourcePlace) -> Origin
         requires early { IsMoment now }
         requires may { MaySendAt source.now self.old }
         ensures emission { (at : EventContext) (k : ℕ) (n : Net) (send : SendSpec) → at.now ≡ now →
@@ -353,15 +353,15 @@ impl Traffic {
         match source {
             SourcePlace::Flow(place) => {
                 let flow = &mut self.flows[*place];
-                let load = flow.emit(now);
+                let origin = flow.emit(now);
                 self.index.set_flow(*place, flow);
-                load
+                origin
             }
             SourcePlace::Train(place) => {
                 let train = &mut self.trains[*place];
-                train.emit();
+                let made = train.emit();
                 self.index.set_train(*place, train);
-                Load::Plain
+                made
             }
         }
     }

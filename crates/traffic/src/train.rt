@@ -7,7 +7,7 @@ ghost use Rattle.traffic.specs.Leaves.{packet_due};
 ghost use Rattle.traffic.specs.Sends.{has_left};
 
 use due_index::DueNumber;
-use emu_model::{FlowNumber, SendSpec, Source, TrainSpec};
+use emu_model::{FlowNumber, Origin, SendSpec, Source, TrainSpec};
 use std::marker::Model;
 
 /// A train, its start (ns), and the number of packets that it has sent.
@@ -56,14 +56,16 @@ impl Train {
         self.train.packet
     }
 
-    /// Sends one packet.
+    /// Sends one packet, and returns its origin.
     #[inline(always)]
-    pub(crate) fn emit(&mut self)
+    pub(crate) fn emit(&mut self) -> Origin
         requires { has_left self.old ≡ true }
-        ensures { self.new ≡ record self.old { sent = self.old.sent + 1 } }
+        ensures train { self.new ≡ record self.old { sent = self.old.sent + 1 } }
+        ensures result { result ≡ Origin.ByTrain self.old.number }
     {
         let _most = self.train.count.get();
         self.sent += 1;
+        Origin::ByTrain(self.number)
     }
 
     /// Returns the due of the next packet, or none if no packet is left.

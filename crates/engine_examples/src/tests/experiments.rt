@@ -6,9 +6,9 @@ ghost use Rattle.experiment.specs.Kept.{IsHousedIn};
 use crate::tests::wants::{assert_record, assert_same};
 use emu_model::{
     Action, Bandwidth, Budget, Class, Command, Delay, Discipline, Due, Ending, Load, LossRate,
-    Mask, PacketBudget, PipeConfig, PipeNumber, Prefix, PrefixLength, Protocol, ProtocolMatch,
-    QueueLimit, Record, Rule, RuleNumber, SendSpec, Size, SlotLimit, Source, Spec, StepBudget,
-    Timed,
+    Mask, Origin, PacketBudget, PipeConfig, PipeNumber, Prefix, PrefixLength, Protocol,
+    ProtocolMatch, QueueLimit, Record, Rule, RuleNumber, SendSpec, Size, SlotLimit, Source, Spec,
+    StepBudget, Timed,
 };
 use experiment::*;
 use packet_store::OwnShelf;
@@ -30,7 +30,14 @@ impl Bench {
         let steps = StepBudget::new(steps)?;
         let budget = Budget { packets, steps };
         let shelf = OwnShelf::new(alloc, packets);
-        let Ok(experiment) = Experiment::new(alloc, Spec { seed: 0, budget }) else {
+        let Ok(experiment) = Experiment::new(
+            alloc,
+            Spec {
+                seed: 0,
+                budget,
+                traced: false,
+            },
+        ) else {
             return None;
         };
         Some(Bench { shelf, experiment })
@@ -488,7 +495,7 @@ fn lines_of_a_traced_packet() -> Option<[Record; 10]> {
         Record::PacketMade {
             moment: 0,
             packet,
-            load: Load::Plain,
+            origin: Origin::ByCommand(3),
             proto: Protocol::Udp,
             src: 0x0a00_0001,
             sport: 1000,

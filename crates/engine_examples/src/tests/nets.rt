@@ -12,9 +12,9 @@ mod traces;
 use crate::tests::wants::{assert_records, assert_same, assert_with_message};
 use emu_model::{
     Action, Amount, Bandwidth, Class, Command, Delay, Discipline, DropCause, Due, EventContext,
-    FlowNumber, FlowSpec, Gap, Load, LossRate, Mask, PacketBudget, PipeConfig, PipeNumber, Prefix,
-    PrefixLength, Protocol, ProtocolMatch, QueueLimit, Record, Rule, RuleNumber, SegmentSize,
-    SendSpec, Size, SlotLimit, Source, Threshold, Timed, Timing, TrainSpec, Window,
+    FlowNumber, FlowSpec, Gap, Load, LossRate, Mask, Origin, PacketBudget, PipeConfig, PipeNumber,
+    Prefix, PrefixLength, Protocol, ProtocolMatch, QueueLimit, Record, Rule, RuleNumber,
+    SegmentSize, SendSpec, Size, SlotLimit, Source, Threshold, Timed, Timing, TrainSpec, Window,
 };
 use network::{Network, still_is_housed};
 use packet_store::{OwnShelf, Shelf};
@@ -173,9 +173,9 @@ fn opens(alloc: Global) -> Option<Network>
     ensures seed { IfSome result (λ n. n.table.seed ≡ 0) }
     ensures made { IfSome result (λ n. n.made ≡ 0) }
 {
-    match Network::new(alloc, 0).ok() {
+    match Network::new(alloc, 0, false).ok() {
         Some(net) => Some(net),
-        None => Network::new(alloc, 0).ok(),
+        None => Network::new(alloc, 0, false).ok(),
     }
 }
 

@@ -96,7 +96,14 @@ fn records_of_moves(alloc: Global, commands: &[Timed]) -> Option<Vec<Record>> {
     let packets = PacketBudget::new(100)?;
     let steps = StepBudget::new(1000)?;
     let budget = Budget { packets, steps };
-    let Ok(mut experiment) = Experiment::new(alloc, Spec { seed: 1, budget }) else {
+    let Ok(mut experiment) = Experiment::new(
+        alloc,
+        Spec {
+            seed: 1,
+            budget,
+            traced: false,
+        },
+    ) else {
         return None;
     };
     let mut own = OwnShelf::new(alloc, packets);

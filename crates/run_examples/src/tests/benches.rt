@@ -25,6 +25,7 @@ fn small_spec(rt: &impl Abort) -> Spec {
     Spec {
         seed: 0,
         budget: Budget { packets, steps },
+        traced: false,
     }
 }
 

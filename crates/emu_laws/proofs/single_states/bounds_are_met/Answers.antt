@@ -5,6 +5,7 @@ pub returns : goal.returns
 returns c = record {
   held_is_budget = refl;
   step_tells_most = refl;
+  step_makes_most = refl;
   flight_is_window = refl;
   window_is_filled = refl;
   rate_is_full = refl;

@@ -2,15 +2,16 @@
 
 use super::*;
 
-fn make_record(moment: u64, packet: u64) -> Option<Record> {
-    Some(made_of(moment, packet, &thousand()?))
+fn make_record(moment: u64, packet: u64, command: u64) -> Option<Record> {
+    let origin = Origin::ByCommand(command);
+    Some(made_of(moment, packet, origin, &thousand()?))
 }
 
-fn made_of(moment: u64, packet: u64, send: &SendSpec) -> Record {
+fn made_of(moment: u64, packet: u64, origin: Origin, send: &SendSpec) -> Record {
     Record::PacketMade {
         moment,
         packet,
-        load: Load::Plain,
+        origin,
         proto: send.proto,
         src: send.src,
         sport: send.sport,
@@ -86,7 +87,7 @@ fn traced_budget(rt: HostRuntime) {
     ];
     let expected = [
         done_record(0, 3),
-        make_record(0, 0).expect(&rt, "size"),
+        make_record(0, 0, 3).expect(&rt, "size"),
         Record::InstanceIdentified {
             moment: 0,
             pipe: one,
@@ -104,7 +105,7 @@ fn traced_budget(rt: HostRuntime) {
             instance: 0,
         },
         done_record(0, 4),
-        make_record(0, 1).expect(&rt, "size"),
+        make_record(0, 1, 4).expect(&rt, "size"),
         drop_record(0, 1, DropCause::Budget),
         finish_record(0, 0, one),
         done_record(5, 5),
@@ -147,14 +148,14 @@ fn refused_trace_changes_nothing(rt: HostRuntime) {
         done_record(0, 1),
         done_record(0, 2),
         done_record(0, 3),
-        made_of(0, 0, &send),
+        made_of(0, 0, Origin::ByCommand(3), &send),
         identifier_record(one, 0, 0x0a00_0001),
         arrival_record(0, 0, one, 0),
         done_record(0, 4),
-        made_of(0, 1, &other),
+        made_of(0, 1, Origin::ByTrain(number), &other),
         identifier_record(one, 1, 0x0a00_0003),
         arrival_record(0, 1, one, 1),
-        made_of(4_000_000, 2, &other),
+        made_of(4_000_000, 2, Origin::ByTrain(number), &other),
         arrival_record(4_000_000, 2, one, 1),
         finished_in(8_000_000, 0, one, 0),
         finished_in(8_000_000, 1, one, 1),

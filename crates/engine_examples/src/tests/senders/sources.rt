@@ -4,8 +4,8 @@ ghost use Rattle.emu_model.specs.Dues.{due};
 
 use crate::tests::wants::{assert_same, assert_with_message};
 use emu_model::{
-    Amount, Class, Due, FlowNumber, FlowSpec, Gap, Load, Protocol, Refusal, SegmentSize, SendSpec,
-    Size, Source, Threshold, Timing, TrainSpec, Window as Offered,
+    Amount, Class, Due, FlowNumber, FlowSpec, Gap, Load, Origin, Protocol, Refusal, SegmentSize,
+    SendSpec, Size, Source, Threshold, Timing, TrainSpec, Window as Offered,
 };
 use std::process::Abort;
 use traffic::{Sending, Traffic, Window};
@@ -115,8 +115,8 @@ fn sends(traffic: &mut Traffic, now: u64, end: u64) -> Option<Sending>
     let number = FlowNumber::new(due.source.number as u16)?;
     let found = traffic.find(number)?;
     let send = traffic.header_at(&found);
-    let load = traffic.emit_at(now, &found);
-    Some(Sending { load, send })
+    let origin = traffic.emit_at(now, &found);
+    Some(Sending { origin, send })
 }
 
 /// Returns the source and the destination, each with its port.
@@ -139,7 +139,7 @@ fn sends_segment(rt: &impl Abort, traffic: &mut Traffic, now: u64, first: u64)
     let sent = sends(traffic, now, now.saturating_add(1)).expect(rt, "a segment");
     assert_same(rt, ends_of(sent.send), (0x0a000001, 1000, 0x0a000002, 80));
     assert_same(rt, sent.send.size.get(), 1500);
-    assert_same(rt, segment_in(sent.load), Some((1, first)));
+    assert_same(rt, segment_in(sent.origin.load()), Some((1, first)));
 }
 
 /// Checks that exactly the segments that begin at these bytes are sent.
@@ -174,7 +174,7 @@ fn answers_upto(rt: &impl Abort, traffic: &mut Traffic, first: u64, upto: u64) {
     let answer = answers(traffic, 1, first).expect(rt, "an answer");
     assert_same(rt, ends_of(answer.send), (0x0a000002, 80, 0x0a000001, 1000));
     assert_same(rt, answer.send.size.get(), 40);
-    assert_same(rt, acknowledged_in(answer.load), Some((1, upto)));
+    assert_same(rt, acknowledged_in(answer.origin.load()), Some((1, upto)));
 }
 
 fn windows(rt: &impl Abort, window: Option<Window>, wanted: (u64, u64)) {
@@ -270,7 +270,7 @@ fn sender(traffic: &mut Traffic, now: u64) -> Option<u16>
     requires early { IsMoment now }
 {
     let sent = sends(traffic, now, now + 1)?;
-    let (flow, _) = segment_in(sent.load)?;
+    let (flow, _) = segment_in(sent.origin.load())?;
     Some(flow)
 }
 
@@ -316,13 +316,13 @@ fn header_of(traffic: &Traffic, number: FlowNumber) -> Option<SendSpec> {
     Some(traffic.header_at(&found))
 }
 
-/// Returns true if a plain packet of 1000 bytes with this header was sent.
-fn is_thousand(sent: Option<Sending>, header: Option<SendSpec>) -> bool {
-    let Some(Sending { load, send }) = sent else {
+/// Returns true if a packet of 1000 bytes with this header was sent by a train.
+fn is_thousand(sent: Option<Sending>, header: Option<SendSpec>, train: FlowNumber) -> bool {
+    let Some(Sending { origin, send }) = sent else {
         return false;
     };
     let size = send.size.get();
-    header == Some(send) && load == Load::Plain && size == 1000
+    header == Some(send) && origin == Origin::ByTrain(train) && size == 1000
 }
 
 /// Checks that a packet of a train, whose number is the smallest, is due and sent now.
@@ -334,7 +334,7 @@ fn thousand_is_sent(rt: &impl Abort, traffic: &mut Traffic, now: u64, number: Fl
     assert_same(rt, (due.moment, due.source.number), (now, number_of));
     let header = header_of(traffic, number);
     let sent = sends(traffic, now, 20);
-    assert_same(rt, (now, is_thousand(sent, header)), (now, true));
+    assert_same(rt, (now, is_thousand(sent, header, number)), (now, true));
 }
 
 // Checks the example of a train of three packets, 5 ns apart.

@@ -18,7 +18,16 @@ pub fn parcel(alloc: Global, name: u32) -> Option<Parcel<ListMail>> {
     let Ok(mail) = ListMail::new(alloc) else {
         return None;
     };
-    match Parcel::open(alloc, name, Spec { seed: 0, budget }, mail) {
+    match Parcel::open(
+        alloc,
+        name,
+        Spec {
+            seed: 0,
+            budget,
+            traced: false,
+        },
+        mail,
+    ) {
         Ok(parcel) => Some(parcel),
         Err(_) => None,
     }

@@ -23,8 +23,8 @@ returns-in_default-clause-ok g c =
     (sent-none (emission c.args.at c.args.source) p old old.traffic r.housed
     (λ m. subst (λ (t : KeptTraffic). emission c.args.at c.args.source (with_traffic t m) ≡ with_traffic t m) same (c.in_default.ensures.still c.args.at m)))
 
-pub emit_at-load-requires-clause-may : goal.emit_at-load-requires-clause-may
-emit_at-load-requires-clause-may g c =
+pub emit_at-origin-requires-clause-may : goal.emit_at-origin-requires-clause-may
+emit_at-origin-requires-clause-may g c =
     let first : c.self.inside.traffic ≡ c.args.self.now.traffic = ap (λ (m : KeptNet). m.traffic) c.self.view_is in
     let tr : c.self-2.inside.traffic ≡ c.args.self.now.traffic = ap (λ (m : KeptNet). m.traffic) c.self-2.view_is ∙ ap (λ (m : KeptNet). m.traffic) c.make_ready.ensures.rest in
     record {
@@ -37,7 +37,7 @@ pub make-requires-clause-ready : goal.make-requires-clause-ready
 make-requires-clause-ready g c =
     let n = the_view c.self-2.inside in
     let send : SendSpec = c.header_at-send.result in
-    as-make n (record n { traffic = c.emit_at-load.new.self }) (roomy-same n _ refl (omega arith) refl refl) send c.in_ok-lookup.lookup
+    as-make n (record n { traffic = c.emit_at-origin.new.self }) (roomy-same n _ refl (omega arith) refl refl) send c.in_ok-lookup.lookup
     (subst (λ (m : KeptNet). CanMake send c.in_ok-lookup.lookup m) (sym c.self-2.view_is) c.in_ok-lookup.ensures.ready)
 
 pub returns-clause-ok : goal.returns-clause-ok
@@ -52,5 +52,5 @@ returns-clause-ok g c =
     ap (λ (t : KeptTraffic). next_send c.args.source (with_traffic t (net_of p n))) (tr ∙ sym first) ∙ c.header_at-send.ensures c.args.source (net_of p n) before in
     let r = readied c.requires.stands.housed c.make_ready.ensures.still (c.make_ready.ensures.pockets c.args.owner ∙ c.put_ready.ensures.pockets c.args.owner) c.self-2.view_is in
     from_readied r (emission c.args.at c.args.source) 1 _ _
-    (sent-one (emission c.args.at c.args.source) p n c.emit_at-load.new.self _ c.make.new.self _
-    (c.emit_at-load.ensures.emission c.args.at c.args.source (net_of p n) c.header_at-send.result refl there sends) c.make.ensures.becomes)
+    (sent-one (emission c.args.at c.args.source) p n c.emit_at-origin.new.self _ c.make.new.self _
+    (c.emit_at-origin.ensures.emission c.args.at c.args.source (net_of p n) c.header_at-send.result refl there sends) c.make.ensures.becomes)

@@ -1,5 +1,5 @@
 use Rattle.std.proofs.Common.{◌≡◌, sym, ◌∙◌, subst}
-use Rattle.emu_model.specs.declared.packets.Load.TheVariants.{Plain}
+use Rattle.emu_model.specs.declared.packets.Origin.TheVariants.{ByCommand}
 use Rattle.emu_model.specs.declared.commands.Command.TheVariants.{Inject}
 use Rattle.emu_model.specs.Net.{make}
 use Rattle.emu_model.specs.Commands.{obey}
@@ -16,8 +16,8 @@ returns-clause-ok g c =
     let p = g.S.Shelf.pocket c.inject_ready.new.shelf c.args.owner in
     let same : p ≡ o = c.inject_ready.ensures.pockets c.args.owner ∙ c.put_ready.ensures.pockets c.args.owner in
     let q = g.S.Shelf.pocket c.make.new.shelf c.args.owner in
-    let made : Becomes 1 (make c.args.at Plain c.args.send.now (net_of p c.note_done.new.self)) p q c.note_done.new.self c.make.new.self =
-    subst (λ (s : Sending). Becomes 1 (make c.args.at s.load s.send (net_of p c.note_done.new.self)) p q c.note_done.new.self c.make.new.self) c.plain_sending-sending.ensures c.make.ensures.becomes in
+    let made : Becomes 1 (make c.args.at (ByCommand c.args.number) c.args.send.now (net_of p c.note_done.new.self)) p q c.note_done.new.self c.make.new.self =
+    subst (λ (s : Sending). Becomes 1 (make c.args.at s.origin s.send (net_of p c.note_done.new.self)) p q c.note_done.new.self c.make.new.self) c.injection-sending.ensures c.make.ensures.becomes in
     subst (λ (x : Pocket). Becomes 1 (obey c.args.at c.args.number (Inject c.args.send.now) (net_of x c.args.self.now)) x q c.args.self.now c.make.new.self) same
     (injected c.args.at c.args.number c.args.send.now p q c.args.self.now c.inject_ready.new.self c.note_done.new.self c.make.new.self
     (subst (λ (x : Pocket). IsHoused x c.args.self.now) (sym same) c.requires.stands.housed) c.inject_ready.ensures.still c.note_done.ensures made)

@@ -1,4 +1,4 @@
-use Rattle.emu_model.specs.Net.{make as made_of}
+use Rattle.emu_model.specs.Net.{load_by, make as made_of}
 use Rattle.network.specs.Kept.{KeptNet, net_of, Stands}
 use Rattle.network.specs.declared.flow_cache.Lookup.{Lookup}
 use Rattle.network.specs.Ready.{HasRoute, CanGo, CanMake}
@@ -18,7 +18,7 @@ pass_by_route-requires-clause-ready g c =
     let line = c.in-Cached.line in
     let held = c.in-Some.held.now in
     let known : HasRoute x line c.note_made.new.self =
-    packet-known c.args.sending.now.load c.args.sending.now.send c.self.inside.made line x n c.note_made.new.self
+    packet-known (load_by c.args.sending.now.origin) c.args.sending.now.send c.self.inside.made line x n c.note_made.new.self
     (subst (λ (o : KeptNet). IsRoomy n o) (sym c.note_made.ensures.rest) (roomy-same n _ refl (omega arith) refl refl)) c.packet_of-packet.ensures
     (subst (λ (w : Lookup). CanMake c.args.sending.now.send w n) c.in-Cached.is
     (at_view (CanMake c.args.sending.now.send c.args.lookup.now) _ _ c.self.view_is c.requires.ready)) in
@@ -29,7 +29,7 @@ pass_by_route-requires-clause-ready g c =
 pub pass_rules-requires-clause-ready : goal.pass_rules-requires-clause-ready
 pass_rules-requires-clause-ready g c =
     let n = the_view c.self.inside in
-    packet-ready c.args.sending.now.load c.args.sending.now.send c.self.inside.made c.packet_of-packet.result n c.note_made.new.self
+    packet-ready (load_by c.args.sending.now.origin) c.args.sending.now.send c.self.inside.made c.packet_of-packet.result n c.note_made.new.self
     (subst (λ (m : KeptNet). IsRoomy n m) (sym c.note_made.ensures.rest) (roomy-same n _ refl (omega arith) refl refl)) c.packet_of-packet.ensures
     (subst (λ (w : Lookup). CanMake c.args.sending.now.send w n) c.in-Searched.is
     (at_view (CanMake c.args.sending.now.send c.args.lookup.now) _ _ c.self.view_is c.requires.ready))
@@ -44,14 +44,14 @@ returns-in-Some-clause-becomes g c =
     let held = c.in-Some.held.now in
     let stands : Stands c.args.at p n = at_view (Stands c.args.at p) _ _ c.self.view_is c.requires.stands in
     let known : HasRoute x line c.note_made.new.self =
-    packet-known c.args.sending.now.load c.args.sending.now.send c.self.inside.made line x n c.note_made.new.self
+    packet-known (load_by c.args.sending.now.origin) c.args.sending.now.send c.self.inside.made line x n c.note_made.new.self
     (subst (λ (o : KeptNet). IsRoomy n o) (sym c.note_made.ensures.rest) (roomy-same n _ refl (omega arith) refl refl)) c.packet_of-packet.ensures
     (subst (λ (w : Lookup). CanMake c.args.sending.now.send w n) c.in-Cached.is
     (at_view (CanMake c.args.sending.now.send c.args.lookup.now) _ _ c.self.view_is c.requires.ready)) in
     let go : CanGo 0 x held.route m =
     on-line x line held m c.self-in-Cached.invariant (at_view (HasRoute x line) m _ c.self-in-Cached.view_is known) c.in-Some.ensures.some in
-    from_view 1 (λ m. made_of c.args.at c.args.sending.now.load c.args.sending.now.send (net_of p m)) p _ _ _ _ c.self.view_is
-    (made-passes c.keys_say_all.ensures.packets c.args.at p n c.args.sending.now.load c.args.sending.now.send x
+    from_view 1 (λ m. made_of c.args.at c.args.sending.now.origin c.args.sending.now.send (net_of p m)) p _ _ _ _ c.self.view_is
+    (made-passes c.keys_say_all.ensures.packets c.args.at p n c.args.sending.now.origin c.args.sending.now.send x
     stands.housed c.packet_of-packet.ensures _ _ _ c.note_made.ensures
     (omega (arith, c.if-count-get.false, c.count.ensures.value, c.get.ensures.value))
     (c.pass_by_route.ensures.becomes 0 (subst (λ (o : KeptNet). CanGo 0 x held.route o) c.self-in-Cached.view_is go)))
@@ -61,8 +61,8 @@ returns-in-Searched-clause-becomes g c =
     let p = g.S.Shelf.pocket c.args.shelf.now c.args.owner in
     let n = the_view c.self.inside in
     let stands : Stands c.args.at p n = at_view (Stands c.args.at p) _ _ c.self.view_is c.requires.stands in
-    from_view 1 (λ m. made_of c.args.at c.args.sending.now.load c.args.sending.now.send (net_of p m)) p _ _ _ _ c.self.view_is
-    (made-passes c.keys_say_all.ensures.packets c.args.at p n c.args.sending.now.load c.args.sending.now.send c.packet_of-packet.result
+    from_view 1 (λ m. made_of c.args.at c.args.sending.now.origin c.args.sending.now.send (net_of p m)) p _ _ _ _ c.self.view_is
+    (made-passes c.keys_say_all.ensures.packets c.args.at p n c.args.sending.now.origin c.args.sending.now.send c.packet_of-packet.result
     stands.housed c.packet_of-packet.ensures _ _ _ c.note_made.ensures
     (omega (arith, c.if-count-get.false, c.count.ensures.value, c.get.ensures.value)) c.pass_rules.ensures.becomes)
 
@@ -71,7 +71,7 @@ returns-then-count-get-clause-becomes g c =
     let p = g.S.Shelf.pocket c.args.shelf.now c.args.owner in
     let n = the_view c.self.inside in
     let stands : Stands c.args.at p n = at_view (Stands c.args.at p) _ _ c.self.view_is c.requires.stands in
-    from_view 1 (λ m. made_of c.args.at c.args.sending.now.load c.args.sending.now.send (net_of p m)) p _ _ _ _ c.self.view_is
-    (made-dropped c.keys_say_all.ensures.packets c.args.at p n c.args.sending.now.load c.args.sending.now.send c.packet_of-packet.result
+    from_view 1 (λ m. made_of c.args.at c.args.sending.now.origin c.args.sending.now.send (net_of p m)) p _ _ _ _ c.self.view_is
+    (made-dropped c.keys_say_all.ensures.packets c.args.at p n c.args.sending.now.origin c.args.sending.now.send c.packet_of-packet.result
     stands.housed c.packet_of-packet.ensures _ _ c.note_made.ensures
     (omega (arith, c.if-count-get.true, c.count.ensures.value, c.get.ensures.value)) c.drop_packet.ensures)

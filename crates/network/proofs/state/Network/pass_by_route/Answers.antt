@@ -17,7 +17,7 @@ arrive_at-answer-requires-clause-named g c =
     let y = the_view c.self-2.inside in
     let stands : Stands c.args.at p n = at_view (Stands c.args.at p) n _ c.self.view_is c.requires.stands in
     pipes-named p y (at_view (IsHoused p) y _ c.self-2.view_is
-    (housed-logged p n c.note_arrival.new.self c.count_at.new.self stands.housed c.note_arrival.ensures.rest))
+    (housed-logged p n c.note_arrival_by_route.new.self c.count_at.new.self stands.housed c.note_arrival_by_route.ensures.rest))
 
 pub returns-in-Some-clause-becomes : goal.returns-in-Some-clause-becomes
 returns-in-Some-clause-becomes g c = λ start go.
@@ -29,13 +29,13 @@ returns-in-Some-clause-becomes g c = λ start go.
     let sent = record x { place = w.place } in
     let stands : Stands c.args.at p n = at_view (Stands c.args.at p) n _ c.self.view_is c.requires.stands in
     let can : CanGo start x w n = at_view (CanGo start x w) n _ c.self.view_is go in
-    let same : y.table ≡ n.table = ap (λ (m : KeptNet). m.table) (c.self-2.view_is ∙ c.note_arrival.ensures.rest) in
+    let same : y.table ≡ n.table = ap (λ (m : KeptNet). m.table) (c.self-2.view_is ∙ c.note_arrival_by_route.ensures.rest) in
     let housed : IsHoused p y = at_view (IsHoused p) y _ c.self-2.view_is
-    (housed-logged p n c.note_arrival.new.self c.count_at.new.self stands.housed c.note_arrival.ensures.rest) in
+    (housed-logged p n c.note_arrival_by_route.new.self c.count_at.new.self stands.housed c.note_arrival_by_route.ensures.rest) in
     let there : StandsAt w.number w.pipe y.table.pipes = subst (λ (t : Table). StandsAt w.number w.pipe t.pipes) (sym same) can.route.routed.stands in
     from_view 0 (λ m. pass_rules_from c.args.at start x (net_of p m)) p _ n _ _ c.self.view_is
-    (passes-by-route c.args.at p _ n c.note_arrival.new.self c.drop_packet.new.self start x sent w c.count_at.new.self
-    stands.housed can.route c.count_at.ensures refl c.note_arrival.ensures.rest (c.note_arrival.ensures.records p)
+    (passes-by-route c.args.at p _ n c.note_arrival_by_route.new.self c.drop_packet.new.self start x sent w c.count_at.new.self
+    stands.housed can.route c.count_at.ensures refl c.note_arrival_by_route.ensures.rest (c.note_arrival_by_route.ensures.records p)
     (from_view 0 (λ m. enters_pipe c.args.at w.number sent (net_of p m)) p _ y _ _ c.self-2.view_is
     (turned-away c.args.at p _ y c.arrive_at-answer.new.self w.number c.args.at.now sent
     housed c.arrive_at-answer.ensures.keys c.arrive_at-answer.ensures.seed c.in-Some.cause _
@@ -51,13 +51,13 @@ returns-in_default-clause-becomes g c = λ start go.
     let sent = record x { place = w.place } in
     let stands : Stands c.args.at p n = at_view (Stands c.args.at p) n _ c.self.view_is c.requires.stands in
     let can : CanGo start x w n = at_view (CanGo start x w) n _ c.self.view_is go in
-    let same : y.table ≡ n.table = ap (λ (m : KeptNet). m.table) (c.self-2.view_is ∙ c.note_arrival.ensures.rest) in
+    let same : y.table ≡ n.table = ap (λ (m : KeptNet). m.table) (c.self-2.view_is ∙ c.note_arrival_by_route.ensures.rest) in
     let housed : IsHoused p y = at_view (IsHoused p) y _ c.self-2.view_is
-    (housed-logged p n c.note_arrival.new.self c.count_at.new.self stands.housed c.note_arrival.ensures.rest) in
+    (housed-logged p n c.note_arrival_by_route.new.self c.count_at.new.self stands.housed c.note_arrival_by_route.ensures.rest) in
     let there : StandsAt w.number w.pipe y.table.pipes = subst (λ (t : Table). StandsAt w.number w.pipe t.pipes) (sym same) can.route.routed.stands in
     from_view 0 (λ m. pass_rules_from c.args.at start x (net_of p m)) p _ n _ _ c.self.view_is
-    (passes-by-route c.args.at p _ n c.note_arrival.new.self _ start x sent w c.count_at.new.self
-    stands.housed can.route c.count_at.ensures refl c.note_arrival.ensures.rest (c.note_arrival.ensures.records p)
+    (passes-by-route c.args.at p _ n c.note_arrival_by_route.new.self _ start x sent w c.count_at.new.self
+    stands.housed can.route c.count_at.ensures refl c.note_arrival_by_route.ensures.rest (c.note_arrival_by_route.ensures.records p)
     (from_view 0 (λ m. enters_pipe c.args.at w.number sent (net_of p m)) p _ y _ _ c.self-2.view_is
     (taken-in c.args.at p _ y c.arrive_at-answer.new.self w.number c.args.at.now sent
     housed c.arrive_at-answer.ensures.keys c.arrive_at-answer.ensures.seed

@@ -2,7 +2,7 @@ use Rattle.std.proofs.Common.{◌≡◌, true, nat_lt, set, sym, ◌∙◌, ap}
 use Rattle.std.specs.Prelude.{Some, option_map}
 use Rattle.std.specs.Option.{option_map_or}
 use Rattle.std.proofs.lemmas.Bool.{ltb-true}
-use Rattle.emu_model.specs.declared.packets.Load.TheVariants.{Ack}
+use Rattle.emu_model.specs.declared.packets.Origin.TheVariants.{ByReceiver}
 use Rattle.emu_model.specs.Reno.{with_segment, missing}
 use Rattle.emu_model.specs.Net.{FlowState, put_flow, make, ack_send, take_segment}
 use Rattle.traffic.specs.declared.sends.Sending.{Sending}
@@ -56,9 +56,9 @@ returns-clause-taken c = λ at' n.
     let e = c.take.ensures.flow in
     let number : c.take.new.self.state.number ≡ c.args.number = ap (λ (s : FlowState). s.number) e ∙ at.number in
     ap (λ o. option_map_or (take_segment at' c.args.first m) o m) (at.found n)
-    ∙ ap (make at' (Ack f.state.number (missing f.state.flow.smss came)) (ack_send f.state.flow))
+    ∙ ap (make at' (ByReceiver f.state.number (missing f.state.flow.smss came)) (ack_send f.state.flow))
     (ap (λ s. put_flow s m) (sym e) ∙ at.put c.take.new.self n number)
-    ∙ ap (λ (s : Sending). make at' s.load s.send new) (sym c.take.ensures.result)
+    ∙ ap (λ (s : Sending). make at' s.origin s.send new) (sym c.take.ensures.result)
 
 pub returns-clause-header : goal.returns-clause-header
 returns-clause-header c = λ n.

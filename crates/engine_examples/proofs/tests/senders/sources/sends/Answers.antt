@@ -20,8 +20,8 @@ overflow_cast-due c =
     let fits : IsNumber c.earliest-due.result.source.number = (c.earliest-due.ensures.numbered (command_numbered _ _ c.command.ensures)).1 c.in-Emission.is in
     omega (arith, fits)
 
-pub emit_at-load-requires-clause-may : goal.emit_at-load-requires-clause-may
-emit_at-load-requires-clause-may c =
+pub emit_at-origin-requires-clause-may : goal.emit_at-origin-requires-clause-may
+emit_at-origin-requires-clause-may c =
     let may = c.earliest-due.ensures.allowed (command_allowed _ _ _ c.command.ensures) c.in-Emission.is in
     record {
       number = c.in_ok-number.number;
