@@ -31,6 +31,9 @@ use Rattle.emu_model.specs.contracts.packets.ProtocolPartialEq.TheImpl as proto_
 use Rattle.emu_model.specs.declared.packets.Load.{Load}
 use Rattle.emu_model.specs.declared.packets.Load.TheVariants as loads
 use Rattle.emu_model.specs.contracts.packets.LoadPartialEq.TheImpl as load_eq
+use Rattle.emu_model.specs.declared.packets.Origin.{Origin}
+use Rattle.emu_model.specs.declared.packets.Origin.TheVariants as origins
+use Rattle.emu_model.specs.contracts.packets.OriginPartialEq.TheImpl as origin_eq
 use Rattle.emu_model.specs.declared.sources.SendSpec.{SendSpec}
 use Rattle.emu_model.specs.contracts.sources.SendSpecPartialEq.TheImpl as send_eq
 use Rattle.emu_model.specs.declared.sources.TrainSpec.{TrainSpec}
@@ -128,6 +131,16 @@ load_decides (loads.Seg x0 x1) _ = (λ e. cc, λ e. cc)
 load_decides (loads.Ack x0 x1) (loads.Ack y0 y1) = search (rules)
 load_decides (loads.Ack x0 x1) _ = (λ e. cc, λ e. cc)
 
+pub origin_decides : (a b : Origin) → Decides ((origin_eq.eq-value).it a b) (a ≡ b)
+origin_decides (origins.ByCommand x0) (origins.ByCommand y0) = search (rules)
+origin_decides (origins.ByCommand x0) _ = (λ e. cc, λ e. cc)
+origin_decides (origins.ByTrain x0) (origins.ByTrain y0) = search (rules)
+origin_decides (origins.ByTrain x0) _ = (λ e. cc, λ e. cc)
+origin_decides (origins.BySender x0 x1) (origins.BySender y0 y1) = search (rules)
+origin_decides (origins.BySender x0 x1) _ = (λ e. cc, λ e. cc)
+origin_decides (origins.ByReceiver x0 x1) (origins.ByReceiver y0 y1) = search (rules)
+origin_decides (origins.ByReceiver x0 x1) _ = (λ e. cc, λ e. cc)
+
 pub send_decides : (a b : SendSpec) → Decides ((send_eq.eq-value).it a b) (a ≡ b)
 send_decides a b = search (rules, proto_decides)
 
@@ -221,7 +234,7 @@ news_decides (newss.CommandRefused x0 x1 x2) (newss.CommandRefused y0 y1 y2) = s
 news_decides (newss.CommandRefused x0 x1 x2) _ = (λ e. cc, λ e. cc)
 news_decides (newss.PacketMade x0 x1 x2 x3 x4 x5 x6 x7 x8) (newss.PacketMade y0 y1 y2 y3 y4 y5 y6 y7 y8) =
     Decides-like _ (λ h. cc) (λ e. (cc, (cc, (cc, (cc, (cc, (cc, (cc, (cc, cc)))))))))
-    (Decides-and _ _ (Decides-eqb x0 y0) (Decides-and _ _ (Decides-eqb x1 y1) (Decides-and _ _ (load_decides x2 y2)
+    (Decides-and _ _ (Decides-eqb x0 y0) (Decides-and _ _ (Decides-eqb x1 y1) (Decides-and _ _ (origin_decides x2 y2)
     (Decides-and _ _ (proto_decides x3 y3) (Decides-and _ _ (Decides-eqb x4 y4) (Decides-and _ _ (Decides-eqb x5 y5)
     (Decides-and _ _ (Decides-eqb x6 y6) (Decides-and _ _ (Decides-eqb x7 y7) (Decides-eqb x8 y8)))))))))
 news_decides (newss.PacketMade x0 x1 x2 x3 x4 x5 x6 x7 x8) _ = (λ e. cc, λ e. cc)

@@ -3,6 +3,7 @@ use Rattle.std.specs.Prelude.{◌≡◌, refl, [], ◌∷◌, None, Some, true, 
 use Rattle.std.specs.Fmt.{digits}
 use Rattle.emu_model.specs.declared.packets.Protocol.TheVariants.{Udp}
 use Rattle.emu_model.specs.declared.packets.Load.TheVariants.{Plain, Seg, Ack}
+use Rattle.emu_model.specs.declared.packets.Origin.TheVariants.{ByCommand}
 use Rattle.emu_model.specs.declared.rules.Action.TheVariants.{SkipTo, Pipe}
 use Rattle.emu_model.specs.declared.rules.ProtocolMatch.TheVariants.{AnyProtocol, OnlyUdp}
 use Rattle.emu_model.specs.declared.pipes.QueueLimit.TheVariants.{Slots, KBytes}
@@ -61,7 +62,7 @@ unfolding digits
 passed = refl
 
 -- from 10.0.0.1 to 10.0.0.2
-made : line_of (PacketMade 5 0 Plain Udp 167772161 1000 167772162 2000 1000)
+made : line_of (PacketMade 5 0 (ByCommand 0) Udp 167772161 1000 167772162 2000 1000)
     ≡ codes "5 make 0 plain udp 10.0.0.1 1000 10.0.0.2 2000 1000\n"
 unfolding digits
 made = refl

@@ -1,15 +1,15 @@
 -- Runs of records: where a record of them is stored, and what more records and an equal listing make of them.
 use Rattle.std.proofs.Common.{◌≡◌, ℕ, zero, suc, ◌+◌, ◌-◌, ◌<◌, ◌≤◌, List, [], ◌∷◌, ◌++◌, length, get_or, take, drop, refl, sym, ap, ◌∙◌, subst, append_assoc, append-nil, arith}
-use Rattle.std.specs.Prelude.{slice_index_or, map}
-use Rattle.std.specs.List.{flat_map}
-use Rattle.std.proofs.lemmas.List.{take-append-le, drop-append-le, get_or-take, get_or-drop, get_or_append_left, get_or-append_right, take_all, take-append-drop, drop_all, length-take, length-drop, length-append, length-take-le, drop-map, take-map}
+use Rattle.std.specs.Prelude.{Option, None, Some, IfSome, false, true, slice_index_or, map}
+use Rattle.std.specs.List.{All, flat_map}
+use Rattle.std.proofs.lemmas.List.{length-map, take-append-le, drop-append-le, get_or-take, get_or-drop, get_or_append_left, get_or-append_right, take_all, take-append-drop, drop_all, length-drop, length-append, length-take-le, drop-map, take-map}
 use Rattle.std.proofs.lemmas.List.Concat.{flat_map-append}
 use Rattle.emu_model.specs.declared.records.Record.{Record}
 use Rattle.emu_model.specs.declared.records.Record.TheVariants.{StepsSpent}
-use Rattle.report.specs.Archive.{Names, IsEntry, IsEntryOfKind, entry_of, entry_of_kind, parts_in, record_of}
+use Rattle.report.specs.Archive.{Names, made_as, is_elsewhere, IsEntry, IsEntryOfKind, entry_of, entry_of_kind, parts_in, record_of}
 use Rattle.report.specs.Orders.{AreRuns, in_order, run_of}
 use Rattle.report.specs.declared.packed.Kind.{Kind}
-use Rattle.report.specs.declared.packed.Kind.TheVariants.{Whole, Done, Arrived, Finished, Delivered, Segment, Acknowledged, Passed, Dropped, Window, Expired}
+use Rattle.report.specs.declared.packed.Kind.TheVariants.{Whole, Done, Arrived, Finished, Delivered, Segment, Acknowledged, Passed, Dropped, Window, Expired, Made}
 use Rattle.report.specs.declared.archive.Run.{Run}
 use Rattle.report.specs.declared.packed.Packed.{Packed}
 
@@ -192,7 +192,24 @@ words_same entry ws before last size ends same =
     ∙ ap (map entry) (same ∙ take_all size (drop last ws) (omega (arith, ends, length-drop last ws)))
     ∙ sym (drop-map entry last ws)
 
--- a word that refers to a whole record, and one that has the parts of a common one
+-- the place of a record is one of its word
+pub place_inside : (entry : Packed → Record) (ws : List Packed) (tail closed : ℕ) (runs : List Run) (place : ℕ) →
+    tail ≤ length ws → AreRuns tail 0 closed runs → place < length (in_order runs tail (map entry ws)) → place < closed + (length ws - tail)
+place_inside entry ws tail closed runs place few are inside =
+    let long = length-map ws entry in
+    omega (arith, long, in_order_length (map entry ws) tail closed runs (omega (arith, long, few)) are, inside)
+
+-- the word that was found at a place is that of the record there
+pub found_at : (os : List Record) (ws items : List Packed) (runs : List Run) (tail place : ℕ) (w : Packed) (listed : List Record) →
+    ws ≡ items → All (IsEntry os) items → in_order runs tail (map (entry_of os) items) ≡ listed →
+    ((rs : List Record) → All (IsEntry rs) ws →
+    IsEntry rs w × (entry_of rs w ≡ slice_index_or (in_order runs tail (map (entry_of rs) ws)) place (StepsSpent 0))) →
+    IsEntry os w × (entry_of os w ≡ slice_index_or listed place (StepsSpent 0))
+found_at os ws items runs tail place w listed same sound view found =
+    let at = found os (subst (All (IsEntry os)) (sym same) sound) in
+    (at.0, at.1 ∙ (λ i. slice_index_or ((ap (λ l. in_order runs tail (map (entry_of os) l)) same ∙ view) i) place (StepsSpent 0)))
+
+-- a word that refers to a whole record, one of a packet created as another one, and one that has the parts of a common one
 pub whole_entry : (os : List Record) (w : Packed) → (parts_in w).kind ≡ Whole → IsEntry os w →
     (w.high < length os) × (entry_of os w ≡ slice_index_or os w.high (StepsSpent 0))
 whole_entry os w is stands = (
@@ -200,22 +217,62 @@ whole_entry os w is stands = (
   ap (λ (k : Kind). entry_of_kind k os w) is,
 )
 
-pub common_entry : (os : List Record) (w : Packed) → ((parts_in w).kind ≡ Whole → ⊥) → IsEntry os w →
+pub made_entry : (os : List Record) (w : Packed) → (parts_in w).kind ≡ Made → IsEntry os w →
+    ((parts_in w).tag < length os) × (entry_of os w ≡ made_as (slice_index_or os (parts_in w).tag (StepsSpent 0)) (parts_in w))
+made_entry os w is stands = (
+  subst (λ (k : Kind). IsEntryOfKind k os w) is stands,
+  ap (λ (k : Kind). entry_of_kind k os w) is,
+)
+
+pub settled : (k : Kind) → (k ≡ Whole → ⊥) → (k ≡ Made → ⊥) → is_elsewhere k ≡ false
+settled Whole isnt unmade = absurd (isnt refl)
+settled Made isnt unmade = absurd (unmade refl)
+settled Done isnt unmade = refl
+settled Arrived isnt unmade = refl
+settled Finished isnt unmade = refl
+settled Delivered isnt unmade = refl
+settled Segment isnt unmade = refl
+settled Acknowledged isnt unmade = refl
+settled Passed isnt unmade = refl
+settled Dropped isnt unmade = refl
+settled Window isnt unmade = refl
+settled Expired isnt unmade = refl
+
+pub is_whole : (k : Kind) → is_elsewhere k ≡ true → (k ≡ Made → ⊥) → k ≡ Whole
+is_whole Whole elsewhere unmade = refl
+is_whole Made elsewhere unmade = absurd (unmade refl)
+is_whole Done elsewhere unmade = absurd (cc elsewhere)
+is_whole Arrived elsewhere unmade = absurd (cc elsewhere)
+is_whole Finished elsewhere unmade = absurd (cc elsewhere)
+is_whole Delivered elsewhere unmade = absurd (cc elsewhere)
+is_whole Segment elsewhere unmade = absurd (cc elsewhere)
+is_whole Acknowledged elsewhere unmade = absurd (cc elsewhere)
+is_whole Passed elsewhere unmade = absurd (cc elsewhere)
+is_whole Dropped elsewhere unmade = absurd (cc elsewhere)
+is_whole Window elsewhere unmade = absurd (cc elsewhere)
+is_whole Expired elsewhere unmade = absurd (cc elsewhere)
+
+pub if_some : (o : Option ℕ) {P Q : ℕ → Type 0} → ((n : ℕ) → P n → Q n) → IfSome o P → IfSome o Q
+if_some None f h = h
+if_some (Some n) f h = f n h
+
+pub common_entry : (os : List Record) (w : Packed) → is_elsewhere (parts_in w).kind ≡ false → IsEntry os w →
     (entry_of os w ≡ record_of (parts_in w)) × Names (parts_in w).kind (parts_in w).tag (parts_in w).number
-common_entry os w isnt stands = by (parts_in w).kind isnt stands
+common_entry os w here stands = by (parts_in w).kind here stands
   where
-    by : (k : Kind) → (k ≡ Whole → ⊥) → IsEntryOfKind k os w → (entry_of_kind k os w ≡ record_of (parts_in w)) × Names k (parts_in w).tag (parts_in w).number
-    by Whole isnt h = absurd (isnt refl)
-    by Done isnt h = (refl, h)
-    by Arrived isnt h = (refl, h)
-    by Finished isnt h = (refl, h)
-    by Delivered isnt h = (refl, h)
-    by Segment isnt h = (refl, h)
-    by Acknowledged isnt h = (refl, h)
-    by Passed isnt h = (refl, h)
-    by Dropped isnt h = (refl, h)
-    by Window isnt h = (refl, h)
-    by Expired isnt h = (refl, h)
+    by : (k : Kind) → is_elsewhere k ≡ false → IsEntryOfKind k os w → (entry_of_kind k os w ≡ record_of (parts_in w)) × Names k (parts_in w).tag (parts_in w).number
+    by Whole here h = absurd (cc here)
+    by Made here h = absurd (cc here)
+    by Done here h = (refl, h)
+    by Arrived here h = (refl, h)
+    by Finished here h = (refl, h)
+    by Delivered here h = (refl, h)
+    by Segment here h = (refl, h)
+    by Acknowledged here h = (refl, h)
+    by Passed here h = (refl, h)
+    by Dropped here h = (refl, h)
+    by Window here h = (refl, h)
+    by Expired here h = (refl, h)
 
 pub map_at : (entry : Packed → Record) (ws : List Packed) (k : ℕ) (w : Packed) (d : Record) → k < length ws → w ≡ slice_index_or ws k w →
     slice_index_or (map entry ws) k d ≡ entry w

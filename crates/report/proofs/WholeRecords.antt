@@ -7,9 +7,9 @@ use Rattle.std.proofs.lemmas.List.{get_or_append_left, length-append, length-map
 use Rattle.std.proofs.lemmas.List.Elements.{All-head, All-tail, All-nil, All-cons, All-append}
 use Rattle.emu_model.specs.declared.records.Record.{Record}
 use Rattle.emu_model.specs.declared.records.Record.TheVariants.{StepsSpent}
-use Rattle.report.specs.Archive.{parts_in, entry_of, entry_of_kind, IsEntry, IsEntryOfKind}
+use Rattle.report.specs.Archive.{made_as, parts_in, entry_of, entry_of_kind, IsEntry, IsEntryOfKind}
 use Rattle.report.specs.declared.packed.Kind.{Kind}
-use Rattle.report.specs.declared.packed.Kind.TheVariants.{Whole, Done, Arrived, Finished, Delivered, Segment, Acknowledged, Passed, Dropped, Window, Expired}
+use Rattle.report.specs.declared.packed.Kind.TheVariants.{Whole, Done, Arrived, Finished, Delivered, Segment, Acknowledged, Passed, Dropped, Window, Expired, Made}
 use Rattle.report.specs.declared.packed.Packed.{Packed}
 
 module _ (os : List Record) (r : Record) where
@@ -25,6 +25,7 @@ module _ (os : List Record) (r : Record) where
   same_kind Dropped b h = refl
   same_kind Window b h = refl
   same_kind Expired b h = refl
+  same_kind Made b h = ap (λ (q : Record). made_as q (parts_in b)) (get_or_append_left os (r ∷ []) (StepsSpent 0) (parts_in b).tag h)
 
   still_kind : (k : Kind) (b : Packed) → IsEntryOfKind k os b → IsEntryOfKind k (os ++ r ∷ []) b
   still_kind Whole b h = omega (arith, h, length-append os (r ∷ []))
@@ -38,6 +39,7 @@ module _ (os : List Record) (r : Record) where
   still_kind Dropped b h = h
   still_kind Window b h = h
   still_kind Expired b h = h
+  still_kind Made b h = omega (arith, h, length-append os (r ∷ []))
 
   still : (ws : List Packed) → All (IsEntry os) ws → All (IsEntry (os ++ r ∷ [])) ws
   still ws all = λ k d inside. still_kind _ _ (all k d inside)

@@ -1,12 +1,14 @@
 -- Records in sixteen bytes each. Those that don't fit, or are rare, are stored whole in a second list (our choice).
-use Rattle.std.specs.Prelude.{ℕ, zero, suc, ◌+◌, ◌*◌, ◌/◌, ◌%◌, ◌^◌, ◌<◌, List, length, slice_index_or}
+use Rattle.std.specs.Prelude.{ℕ, Bool, true, false, zero, suc, ◌+◌, ◌*◌, ◌/◌, ◌%◌, ◌^◌, ◌<◌, List, length, slice_index_or}
 use Rattle.emu_model.specs.declared.packets.Load.TheVariants.{Plain, Seg, Ack}
+use Rattle.emu_model.specs.declared.packets.Origin.{Origin}
+use Rattle.emu_model.specs.declared.packets.Origin.TheVariants.{ByCommand, ByTrain, BySender, ByReceiver}
 use Rattle.emu_model.specs.declared.records.DropCause.{DropCause}
 use Rattle.emu_model.specs.declared.records.DropCause.TheVariants.{Denied, NoPipe, NoInstance, Lost, Full, Codel, Deleted, Budget}
 use Rattle.emu_model.specs.declared.records.Record.{Record}
-use Rattle.emu_model.specs.declared.records.Record.TheVariants.{CommandDone, PacketArrived, PacketFinished, PacketDelivered, PacketPassed, PacketDropped, AckTaken, TimerExpired, StepsSpent}
+use Rattle.emu_model.specs.declared.records.Record.TheVariants.{CommandDone, PacketMade, PacketArrived, PacketFinished, PacketDelivered, PacketPassed, PacketDropped, AckTaken, TimerExpired, StepsSpent}
 use Rattle.report.specs.declared.packed.Kind.{Kind}
-use Rattle.report.specs.declared.packed.Kind.TheVariants.{Whole, Done, Arrived, Finished, Delivered, Segment, Acknowledged, Passed, Dropped, Window, Expired}
+use Rattle.report.specs.declared.packed.Kind.TheVariants.{Whole, Done, Arrived, Finished, Delivered, Segment, Acknowledged, Passed, Dropped, Window, Expired, Made}
 use Rattle.report.specs.declared.packed.Parts.{Parts}
 use Rattle.report.specs.declared.packed.Packed.{Packed}
 
@@ -22,6 +24,7 @@ rank Passed = 7
 rank Dropped = 8
 rank Window = 9
 rank Expired = 10
+rank Made = 11
 
 abbrev pub kind_at : ℕ → Kind
 kind_at zero = Whole
@@ -35,7 +38,8 @@ kind_at (suc (suc (suc (suc (suc (suc (suc zero))))))) = Passed
 kind_at (suc (suc (suc (suc (suc (suc (suc (suc zero)))))))) = Dropped
 kind_at (suc (suc (suc (suc (suc (suc (suc (suc (suc zero))))))))) = Window
 kind_at (suc (suc (suc (suc (suc (suc (suc (suc (suc (suc zero)))))))))) = Expired
-kind_at (suc (suc (suc (suc (suc (suc (suc (suc (suc (suc (suc n))))))))))) = Whole
+kind_at (suc (suc (suc (suc (suc (suc (suc (suc (suc (suc (suc zero))))))))))) = Made
+kind_at (suc (suc (suc (suc (suc (suc (suc (suc (suc (suc (suc (suc n)))))))))))) = Whole
 
 abbrev pub cause_at : ℕ → DropCause
 cause_at zero = Denied
@@ -76,9 +80,16 @@ record_of_kind Passed moment tag packet number = PacketPassed moment packet tag 
 record_of_kind Dropped moment tag packet number = PacketDropped moment packet Plain (cause_at tag)
 record_of_kind Window moment tag packet number = AckTaken moment tag packet number
 record_of_kind Expired moment tag packet number = TimerExpired moment tag packet number
+record_of_kind Made moment tag packet number = StepsSpent moment
 
 abbrev pub record_of : Parts → Record
 record_of p = record_of_kind p.kind p.moment p.tag p.packet p.number
+
+-- a record of this kind isn't in its two words alone
+abbrev pub is_elsewhere : Kind → Bool
+is_elsewhere Whole = true
+is_elsewhere Made = true
+is_elsewhere _ = false
 
 -- the ranges of a kind's tag and number: flows and pipes are numbered from 1, and instances up to 255
 abbrev pub Names : Kind → ℕ → ℕ → Type 0
@@ -93,10 +104,25 @@ Names Passed tag number = (0 < tag) × (number < 256)
 Names Dropped tag number = Unit {0}
 Names Window tag number = 0 < tag
 Names Expired tag number = 0 < tag
+Names Made tag number = ⊥
 
--- the record in two words, or the whole record at the place that they contain
+-- an origin with another number: that of a command, a first byte or an acknowledged number
+abbrev pub origin_with : Origin → ℕ → Origin
+origin_with (ByCommand command) number = ByCommand number
+origin_with (ByTrain train) number = ByTrain train
+origin_with (BySender flow first) number = BySender flow number
+origin_with (ByReceiver flow upto) number = ByReceiver flow number
+
+-- a packet that was created as another one, with these parts' number, time and packet
+abbrev pub made_as : Record → Parts → Record
+made_as (PacketMade moment packet origin proto src sport dst dport size) p =
+    PacketMade p.moment p.packet (origin_with origin p.number) proto src sport dst dport size
+made_as r p = r
+
+-- the record in two words, the whole record at the place that they contain, or a packet created as the whole one at their tag
 abbrev pub entry_of_kind : Kind → List Record → Packed → Record
 entry_of_kind Whole others w = slice_index_or others w.high (StepsSpent 0)
+entry_of_kind Made others w = made_as (slice_index_or others (parts_in w).tag (StepsSpent 0)) (parts_in w)
 entry_of_kind kind others w = record_of (parts_in w)
 
 abbrev pub entry_of : List Record → Packed → Record
@@ -105,6 +131,7 @@ entry_of others w = entry_of_kind (parts_in w).kind others w
 -- the words have parts in range, or the place of a whole record
 abbrev pub IsEntryOfKind : Kind → List Record → Packed → Type 0
 IsEntryOfKind Whole others w = w.high < length others
+IsEntryOfKind Made others w = (parts_in w).tag < length others
 IsEntryOfKind kind others w = Names kind (parts_in w).tag (parts_in w).number
 
 abbrev pub IsEntry : List Record → Packed → Type 0

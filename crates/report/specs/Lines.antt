@@ -2,20 +2,22 @@
 -- fields of a line are separated by one space, and a line ends with LF.
 use Rattle.std.specs.Prelude.{ℕ, Bool, true, false, List, [], ◌∷◌, ◌++◌, if◌then◌else◌, codes, decimal, filter}
 use Rattle.std.specs.List.{join_with_byte, flat_map}
+use Rattle.emu_model.specs.declared.packets.Load.TheVariants.{Plain}
 use Rattle.emu_model.specs.declared.records.Record.{Record}
 use Rattle.emu_model.specs.declared.records.Record.TheVariants.{CommandDone, CommandRefused, PacketMade, PacketArrived, InstanceIdentified, PacketFinished, PacketDelivered, PacketPassed, PacketDropped, AckTaken, TimerExpired, StepsSpent, RuleLine, PipeLine, InstanceLine}
 use Rattle.emu_model.specs.declared.records.Counters.{Counters}
+use Rattle.emu_model.specs.Net.{load_by}
 use Rattle.report.specs.Words.{places, instance_name, load_of, header_of, cause_of, code_of, action_of, protocol_of, end_of, queue_of, mask_of, discipline_of}
 
 abbrev pub fields_of : Record → List (List ℕ)
 fields_of (CommandDone moment command) = decimal moment ∷ codes "ok" ∷ decimal command ∷ []
 fields_of (CommandRefused moment command refusal) =
     decimal moment ∷ codes "refused" ∷ decimal command ∷ decimal (code_of refusal) ∷ []
-fields_of (PacketMade moment packet load proto src sport dst dport size) =
+fields_of (PacketMade moment packet origin proto src sport dst dport size) =
     decimal moment
     ∷ codes "make"
     ∷ decimal packet
-    ∷ load_of load
+    ∷ load_of (load_by origin)
     ∷ header_of proto src sport dst dport size
     ∷ []
 fields_of (PacketArrived moment packet pipe instance) =
@@ -104,17 +106,17 @@ abbrev pub report_of : List ℕ → List Record → Counters → List ℕ
 report_of name records counters =
     heading_of name ++ flat_map line_of records ++ counters_of counters
 
--- the common records: events of packets and senders, and commands that were executed
-abbrev pub is_event : Record → Bool
-is_event (CommandDone moment command) = true
-is_event (PacketArrived moment packet pipe instance) = true
-is_event (PacketFinished moment packet pipe instance) = true
-is_event (PacketDelivered moment packet load) = true
-is_event (PacketPassed moment packet pipe instance) = true
-is_event (PacketDropped moment packet load cause) = true
-is_event (AckTaken moment flow cwnd ssthresh) = true
-is_event (TimerExpired moment flow cwnd ssthresh) = true
-is_event _ = false
+-- the common records: events of packets and senders, and commands that were executed; a drop only of a packet of no flow
+abbrev pub is_common : Record → Bool
+is_common (CommandDone moment command) = true
+is_common (PacketArrived moment packet pipe instance) = true
+is_common (PacketFinished moment packet pipe instance) = true
+is_common (PacketDelivered moment packet load) = true
+is_common (PacketPassed moment packet pipe instance) = true
+is_common (PacketDropped moment packet Plain cause) = true
+is_common (AckTaken moment flow cwnd ssthresh) = true
+is_common (TimerExpired moment flow cwnd ssthresh) = true
+is_common _ = false
 
 abbrev pub is_rule_line : Record → Bool
 is_rule_line (RuleLine rule packets bytes) = true

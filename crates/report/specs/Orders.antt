@@ -4,9 +4,6 @@ use Rattle.std.specs.Prelude.{◌≡◌, ℕ, ◌+◌, ◌-◌, ◌≤◌, List,
 use Rattle.std.specs.List.{flat_map}
 use Rattle.emu_model.specs.declared.records.Record.{Record}
 use Rattle.report.specs.declared.archive.Run.{Run}
-use Rattle.report.specs.declared.archive.Stored.{Stored}
-use Rattle.report.specs.declared.archive.Stored.TheVariants.{Whole, Common}
-use Rattle.report.specs.Archive.{Names, record_of}
 
 -- the records of a run
 abbrev pub run_of : List Record → Run → List Record
@@ -20,8 +17,3 @@ in_order runs tail stored = flat_map (run_of stored) runs ++ drop tail stored
 abbrev pub AreRuns : ℕ → ℕ → ℕ → List Run → Type 0
 AreRuns tail first all [] = first ≡ all
 AreRuns tail first all (r ∷ rs) = (r.first ≡ first) × (r.from ≤ r.end) × (r.end ≤ tail) × AreRuns tail (first + (r.end - r.from)) all rs
-
--- a record is stored so: whole, or as these parts
-abbrev pub IsStored : Stored → Record → Type 0
-IsStored (Whole entry) r = entry.now ≡ r
-IsStored (Common parts) r = (record_of parts ≡ r) × Names parts.kind parts.tag parts.number

@@ -7,6 +7,8 @@ use Rattle.emu_model.specs.declared.packets.Protocol.{Protocol}
 use Rattle.emu_model.specs.declared.packets.Protocol.TheVariants.{Tcp, Udp}
 use Rattle.emu_model.specs.declared.packets.Load.{Load}
 use Rattle.emu_model.specs.declared.packets.Load.TheVariants.{Plain, Seg, Ack}
+use Rattle.emu_model.specs.declared.packets.Origin.{Origin}
+use Rattle.emu_model.specs.declared.packets.Origin.TheVariants.{ByCommand, ByTrain, BySender, ByReceiver}
 use Rattle.emu_model.specs.declared.records.DropCause.{DropCause}
 use Rattle.emu_model.specs.declared.records.DropCause.TheVariants.{Denied, NoPipe, NoInstance, Lost, Full, Codel, Deleted, Budget}
 use Rattle.emu_model.specs.declared.records.Record.{Record}
@@ -53,6 +55,17 @@ load_row first moment packet (Seg flow byte) =
 load_row first moment packet (Ack flow upto) =
     record (row_at (first + 2) moment) { packet = fitted 32 packet; source = flow; number = fitted 32 upto }
 
+-- the row of a packet's creation: its kind tells a command, a train, a sender and a receiver apart
+abbrev pub origin_row : ℕ → ℕ → Origin → Row
+origin_row moment packet (ByCommand command) =
+    record (row_at 2 moment) { packet = fitted 32 packet; source = fitted 32 command }
+origin_row moment packet (ByTrain train) =
+    record (row_at 3 moment) { packet = fitted 32 packet; source = train }
+origin_row moment packet (BySender flow byte) =
+    record (row_at 4 moment) { packet = fitted 32 packet; source = flow; number = fitted 32 byte }
+origin_row moment packet (ByReceiver flow upto) =
+    record (row_at 5 moment) { packet = fitted 32 packet; source = flow; number = fitted 32 upto }
+
 -- the row of a sender's window (bytes)
 abbrev pub window_row : ℕ → ℕ → ℕ → ℕ → ℕ → Row
 window_row kind moment flow cwnd ssthresh =
@@ -80,15 +93,15 @@ cause_number Budget = 8
 abbrev pub row_of : Record → Row
 row_of (CommandDone moment command) = command_row 0 moment command
 row_of (CommandRefused moment command refusal) = record (command_row 1 moment command) { code = code_of refusal }
-row_of (PacketMade moment packet load proto src sport dst dport size) = record (load_row 2 moment packet load) {
+row_of (PacketMade moment packet origin proto src sport dst dport size) = record (origin_row moment packet origin) {
   more = ports_in_one sport dport;
   src = src;
   dst = dst;
   size = size;
   code = ip_number proto;
 }
-row_of (PacketArrived moment packet pipe instance) = instance_row 6 moment packet pipe instance
-row_of (InstanceIdentified moment pipe instance proto src dst sport dport) = record (row_at 5 moment) {
+row_of (PacketArrived moment packet pipe instance) = instance_row 7 moment packet pipe instance
+row_of (InstanceIdentified moment pipe instance proto src dst sport dport) = record (row_at 6 moment) {
   more = ports_in_one sport dport;
   src = src;
   dst = dst;
@@ -96,17 +109,17 @@ row_of (InstanceIdentified moment pipe instance proto src dst sport dport) = rec
   instance = instance;
   code = proto;
 }
-row_of (PacketFinished moment packet pipe instance) = instance_row 7 moment packet pipe instance
-row_of (PacketPassed moment packet pipe instance) = instance_row 8 moment packet pipe instance
-row_of (PacketDelivered moment packet load) = load_row 9 moment packet load
-row_of (PacketDropped moment packet load cause) = record (load_row 12 moment packet load) { code = cause_number cause }
-row_of (AckTaken moment flow cwnd ssthresh) = window_row 15 moment flow cwnd ssthresh
-row_of (TimerExpired moment flow cwnd ssthresh) = window_row 16 moment flow cwnd ssthresh
-row_of (StepsSpent moment) = row_at 17 moment
+row_of (PacketFinished moment packet pipe instance) = instance_row 8 moment packet pipe instance
+row_of (PacketPassed moment packet pipe instance) = instance_row 9 moment packet pipe instance
+row_of (PacketDelivered moment packet load) = load_row 10 moment packet load
+row_of (PacketDropped moment packet load cause) = record (load_row 13 moment packet load) { code = cause_number cause }
+row_of (AckTaken moment flow cwnd ssthresh) = window_row 16 moment flow cwnd ssthresh
+row_of (TimerExpired moment flow cwnd ssthresh) = window_row 17 moment flow cwnd ssthresh
+row_of (StepsSpent moment) = row_at 18 moment
 row_of (RuleLine rule packets bytes) =
-    record (row_at 18 0) { source = rule.number; number = fitted 32 packets; more = fitted 32 bytes }
-row_of (PipeLine pipe config) = record (row_at 19 0) { pipe = pipe }
-row_of (InstanceLine pipe instance waiting bytes busy in_flight drawn) = record (row_at 20 0) {
+    record (row_at 19 0) { source = rule.number; number = fitted 32 packets; more = fitted 32 bytes }
+row_of (PipeLine pipe config) = record (row_at 20 0) { pipe = pipe }
+row_of (InstanceLine pipe instance waiting bytes busy in_flight drawn) = record (row_at 21 0) {
   packet = fitted 32 in_flight;
   source = fitted 32 drawn;
   number = fitted 32 waiting;
@@ -118,7 +131,7 @@ row_of (InstanceLine pipe instance waiting bytes busy in_flight drawn) = record 
 
 -- the last row of an experiment; its drops are counted by their rows
 abbrev pub counters_row : Counters → Row
-counters_row c = record (row_at 21 0) {
+counters_row c = record (row_at 22 0) {
   packet = fitted 32 c.made;
   source = fitted 32 c.held;
   number = fitted 32 c.delivered;

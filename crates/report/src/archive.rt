@@ -1,9 +1,9 @@
 //! The records of an experiment in sixteen bytes each, until its report is written (our choice).
 
-ghost use Rattle.std.specs.Prelude.{◌≡◌, ◌+◌, ◌-◌, ◌^◌, ◌<◌, ◌≤◌, ◌∷◌, ◌++◌, [], drop, length, map, slice_index_or, take, vec_len, vec_capacity, ℕ, List, IfSome, IsTrue, OnOk, OnErr};
+ghost use Rattle.std.specs.Prelude.{◌≡◌, ◌+◌, ◌-◌, ◌^◌, ◌<◌, ◌≤◌, ◌∷◌, ◌++◌, [], drop, false, length, map, slice_index_or, take, vec_len, vec_capacity, ℕ, List, IfSome, IsTrue, OnOk, OnErr};
 ghost use Rattle.std.specs.List.{All};
 ghost use Rattle.report.specs.Archive.{entry_of, IsEntry};
-ghost use Rattle.report.specs.Orders.{AreRuns, IsStored, in_order};
+ghost use Rattle.report.specs.Orders.{AreRuns, in_order};
 ghost use Rattle.report.specs.Room.{spare};
 ghost use Rattle.report.specs.Rows.{record_bytes};
 ghost use Rattle.emu_model.specs.declared.records.Record.{Record};
@@ -11,8 +11,9 @@ ghost use Rattle.emu_model.specs.declared.records.Record.TheVariants.{StepsSpent
 
 use crate::clock::Clock;
 use crate::events::put_parts;
+use crate::made::{Firsts, made_as};
 use crate::packed::{Kind, Packed, Parts, pack, parts_of, place_mark, record_of, unpack};
-use crate::rows::{self, put_whole};
+use crate::rows::{self, put_made, put_whole};
 use crate::source::Source;
 use emu_model::Record;
 use std::alloc::{AllocError, Global};
@@ -22,8 +23,9 @@ use std::marker::Model;
 #[derive(Drop)]
 pub struct Archive {
     words: Vec<Packed>,
-    // The records that don't fit into a word, or that are rare.
+    // The records that don't fit into a word, or that are rare, and the first of each source's packets.
     others: Vec<Record>,
+    firsts: Firsts,
     order: Order,
     listings: Listings,
 }
@@ -121,6 +123,7 @@ fn same_at(words: &[Packed], others: &[Record], place: usize, entry: &Record) ->
 fn note(
     words: &mut Vec<Packed>,
     others: &mut Vec<Record>,
+    firsts: &mut Firsts,
     listings: &mut Listings,
     entry: &Record,
 ) -> Result<(), AllocError>
@@ -139,15 +142,16 @@ fn note(
             return Ok(());
         }
     }
-    note_whole(words, others, listings, entry)
+    note_rare(words, others, firsts, listings, entry)
 }
 
-// Appends a record like `note`, as a whole.
+// Appends a record like `note`, by its difference from another one or as a whole.
 #[tactic(auto, unfolding(crate::specs::Room::spare))]
 #[inline(never)]
-fn note_whole(
+fn note_rare(
     words: &mut Vec<Packed>,
     others: &mut Vec<Record>,
+    firsts: &mut Firsts,
     listings: &mut Listings,
     entry: &Record,
 ) -> Result<(), AllocError>
@@ -160,6 +164,10 @@ fn note_whole(
     ensures sound { All (IsEntry others.new.items) words.new.items }
     ensures room { spare words.old ≤ spare words.new + 1 }
 {
+    if let Some(word) = firsts.word_of(others.as_slice(), entry) {
+        words.push_reserved(word);
+        return Ok(());
+    }
     if is_listed(entry) {
         let place = listings.advance(words.len());
         if let Some(word) = same_at(words.as_slice(), others.as_slice(), place, entry) {
@@ -168,6 +176,7 @@ fn note_whole(
         }
     }
     others.reserve(1)?;
+    firsts.register(entry, others.len());
     words.push_reserved(place_mark(others.len()));
     others.push_reserved(*entry);
     Ok(())
@@ -179,6 +188,7 @@ fn note_whole(
 fn note_all(
     words: &mut Vec<Packed>,
     others: &mut Vec<Record>,
+    firsts: &mut Firsts,
     listings: &mut Listings,
     records: &[Record],
 ) -> Result<(), AllocError>
@@ -192,7 +202,7 @@ fn note_all(
 {
     let mut done = 0;
     while done < records.len() {
-        note(words, others, listings, &records[done])?;
+        note(words, others, firsts, listings, &records[done])?;
         done += 1;
     }
     Ok(())
@@ -254,6 +264,21 @@ fn word_of(order: &Order, stored: usize, place: usize) -> usize
     run.from + (place - run.first)
 }
 
+// Returns the word of a record.
+#[inline(always)]
+fn word_at(words: &[Packed], order: &Order, place: usize) -> Packed
+    requires runs { AreRuns order.now.tail 0 order.now.closed order.now.runs.items }
+    requires few { (order.now.tail ≤ length words.now)
+        × (order.now.closed + (length words.now - order.now.tail) < 2 ^ 64) }
+    requires inside { place < order.now.closed + (length words.now - order.now.tail) }
+    ensures { (os : List Record) → All (IsEntry os) words.now → IsEntry os result
+        × (entry_of os result
+        ≡ slice_index_or (in_order order.now.runs.items order.now.tail
+        (map (entry_of os) words.now)) place (StepsSpent 0)) }
+{
+    words[word_of(order, words.len(), place)]
+}
+
 // Stores the last listing as a run of the words of the listing before it, if both are equal and it
 // ends the archive. There must be room for two runs.
 fn fold(words: &mut Vec<Packed>, order: &mut Order, listings: &mut Listings)
@@ -309,6 +334,7 @@ impl Archive {
         Archive {
             words: Vec::new(alloc),
             others: Vec::new(alloc),
+            firsts: Firsts::new(alloc),
             order: Order {
                 runs: Vec::new(alloc),
                 closed: 0,
@@ -340,6 +366,7 @@ impl Archive {
         let Ok(()) = note_all(
             &mut self.words,
             &mut self.others,
+            &mut self.firsts,
             &mut self.listings,
             records,
         ) else {
@@ -351,28 +378,9 @@ impl Archive {
     }
 }
 
-/// A record as it is stored: whole, or as the parts of a common one.
-pub(crate) enum Stored<'a> {
-    Whole(&'a Record),
-    Common(Parts),
-}
-
 impl Archive {
-    // Returns the record at a place.
-    #[inline(always)]
-    fn stored(&self, place: usize) -> Stored<'_>
-        requires { place < length self.now }
-        ensures { IsStored result (slice_index_or self.now place (StepsSpent 0)) }
-    {
-        let word = self.words[word_of(&self.order, self.words.len(), place)];
-        let parts = unpack(word);
-        match parts.kind {
-            Kind::Whole => Stored::Whole(&self.others[word.high as usize]),
-            _ => Stored::Common(parts),
-        }
-    }
-
-    /// Writes the row of the record at a place.
+    /// Writes the row of the record at a place. A common record is written where it is found, by one
+    /// choice among all kinds.
     #[inline(always)]
     pub(crate) fn put_row(&self, page: &mut [u8], at: usize, experiment: u8, place: usize)
         requires room { at + 40 ≤ length page.old }
@@ -380,19 +388,23 @@ impl Archive {
         ensures { let entry = slice_index_or self.now place (StepsSpent 0) in
             take (at + 40) page.new ≡ take at page.old ++ record_bytes experiment entry }
     {
-        match self.stored(place) {
-            Stored::Whole(entry) => put_whole(page, at, experiment, entry),
-            Stored::Common(parts) => rows::put_parts(page, at, experiment, parts),
+        let word = word_at(self.words.as_slice(), &self.order, place);
+        let parts = unpack(word);
+        if rows::put_parts(page, at, experiment, parts) {
+            return;
+        }
+        match parts.kind {
+            Kind::Made => {
+                let first = &self.others[usize::from(parts.tag)];
+                put_made(page, at, experiment, first, parts);
+            }
+            _ => put_whole(page, at, experiment, &self.others[word.high as usize]),
         }
     }
 }
 
 impl Source for Archive {
-    ghost use Rattle.std.specs.Prelude.{true};
-
     ghost list = { λ a. a };
-
-    ghost leaves = { λ r. true };
 
     #[inline(always)]
     fn len(&self) -> usize {
@@ -401,17 +413,18 @@ impl Source for Archive {
 
     #[inline(always)]
     fn record(&self, place: usize) -> Record {
-        match self.stored(place) {
-            Stored::Whole(entry) => *entry,
-            Stored::Common(parts) => record_of(parts),
+        let word = word_at(self.words.as_slice(), &self.order, place);
+        let parts = unpack(word);
+        match parts.kind {
+            Kind::Whole => self.others[word.high as usize],
+            Kind::Made => made_as(&self.others[usize::from(parts.tag)], parts),
+            _ => record_of(parts),
         }
     }
 
     #[inline(always)]
     fn put(&self, clock: &mut Clock, text: &mut [u8], at: usize, place: usize) -> Option<usize> {
-        match self.stored(place) {
-            Stored::Whole(_) => None,
-            Stored::Common(parts) => Some(put_parts(clock, text, at, parts)),
-        }
+        let word = word_at(self.words.as_slice(), &self.order, place);
+        put_parts(clock, text, at, unpack(word))
     }
 }

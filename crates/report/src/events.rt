@@ -1,16 +1,15 @@
 //! The lines of events, each written after the text before a place.
 
-ghost use Rattle.std.specs.Prelude.{◌≡◌, ◌+◌, ◌≤◌, ◌++◌, codes, decimal, false, length, take, IfSome, None};
-ghost use Rattle.report.specs.Archive.{Names, record_of};
+ghost use Rattle.std.specs.Prelude.{◌≡◌, ◌+◌, ◌≤◌, ◌++◌, None, codes, decimal, false, length, take, true, IfSome};
+ghost use Rattle.report.specs.Archive.{Names, is_elsewhere, record_of};
 ghost use Rattle.report.specs.Words.{instance_name, load_of, cause_of};
-ghost use Rattle.report.specs.Lines.{line_of, is_event};
+ghost use Rattle.report.specs.Lines.{line_of};
 
 use crate::clock::Clock;
 use crate::digits::{put_number, put_small};
 use crate::forward::{put_byte, put_cause, put_instance, put_load, put_next, put_word};
 use crate::packed::{Kind, Parts, cause_at, flow_of, pipe_of};
-use emu_model::{DropCause, Load, PipeNumber, Record};
-use unchecked::unreachable_unchecked;
+use emu_model::{DropCause, Load, PipeNumber};
 
 /// Writes a time, an event and a number, and returns the end of the number.
 #[inline(always)]
@@ -96,9 +95,9 @@ fn put_delivery(
     put_byte(text, at, b'\n')
 }
 
-// Writes that a packet was dropped, and the cause.
+/// Writes that a packet was dropped, and the cause.
 #[inline(never)]
-fn put_drop(
+pub(crate) fn put_drop(
     clock: &mut Clock,
     text: &mut [u8],
     at: usize,
@@ -152,127 +151,21 @@ fn put_window(
     put_byte(text, at, b'\n')
 }
 
-/// Writes the line of an event, and returns its end, or `None` if the record isn't an event.
-// The function is so large that only a single call of it is inlined.
+/// Writes the line of a common record, and returns its end, or `None` if the record is stored
+/// elsewhere.
 #[inline(always)]
-pub fn put_line(clock: &mut Clock, text: &mut [u8], at: usize, line: &Record) -> Option<usize>
-    requires { at + 256 ≤ length text.old }
-    ensures some { IfSome result
-        (λ end. (at ≤ end) × (end ≤ at + 128)
-        × (take end text.new ≡ take at text.old ++ line_of line.now)) }
-    ensures none { result ≡ None → (is_event line.now ≡ false) × (text.new ≡ text.old) }
-{
-    let end = match *line {
-        Record::CommandDone { moment, command } => put_done(clock, text, at, moment, command),
-        Record::PacketArrived {
-            moment,
-            packet,
-            pipe,
-            instance,
-        } => put_at_instance(
-            clock,
-            text,
-            at,
-            moment,
-            b" arrive ",
-            8,
-            packet,
-            pipe,
-            instance,
-        ),
-        Record::PacketFinished {
-            moment,
-            packet,
-            pipe,
-            instance,
-        } => put_at_instance(
-            clock,
-            text,
-            at,
-            moment,
-            b" finish ",
-            8,
-            packet,
-            pipe,
-            instance,
-        ),
-        Record::PacketDelivered {
-            moment,
-            packet,
-            load,
-        } => put_delivery(clock, text, at, moment, packet, load),
-        Record::PacketPassed {
-            moment,
-            packet,
-            pipe,
-            instance,
-        } => put_at_instance(
-            clock,
-            text,
-            at,
-            moment,
-            b" pass   ",
-            6,
-            packet,
-            pipe,
-            instance,
-        ),
-        Record::PacketDropped {
-            moment,
-            packet,
-            load,
-            cause,
-        } => put_drop(clock, text, at, moment, packet, load, cause),
-        Record::AckTaken {
-            moment,
-            flow,
-            cwnd,
-            ssthresh,
-        } => {
-            let flow = u64::from(flow.get());
-            put_window(
-                clock,
-                text,
-                at,
-                moment,
-                b" ack    ",
-                5,
-                flow,
-                cwnd,
-                ssthresh,
-            )
-        }
-        Record::TimerExpired {
-            moment,
-            flow,
-            cwnd,
-            ssthresh,
-        } => {
-            let flow = u64::from(flow.get());
-            put_window(
-                clock,
-                text,
-                at,
-                moment,
-                b" expire ",
-                8,
-                flow,
-                cwnd,
-                ssthresh,
-            )
-        }
-        _ => return None,
-    };
-    Some(end)
-}
-
-/// Writes the line of a common record, and returns its end.
-#[inline(always)]
-pub(crate) fn put_parts(clock: &mut Clock, text: &mut [u8], at: usize, parts: Parts) -> usize
+pub(crate) fn put_parts(
+    clock: &mut Clock,
+    text: &mut [u8],
+    at: usize,
+    parts: Parts,
+) -> Option<usize>
     requires room { at + 256 ≤ length text.old }
-    requires names { Names parts.kind parts.tag parts.number }
-    ensures end { (at ≤ result) × (result ≤ at + 128) }
-    ensures items { take result text.new ≡ take at text.old ++ line_of (record_of parts) }
+    requires names { is_elsewhere parts.kind ≡ false → Names parts.kind parts.tag parts.number }
+    ensures some { IfSome result (λ end. (is_elsewhere parts.kind ≡ false)
+        × (at ≤ end) × (end ≤ at + 128)
+        × (take end text.new ≡ take at text.old ++ line_of (record_of parts))) }
+    ensures none { result ≡ None → (is_elsewhere parts.kind ≡ true) × (text.new ≡ text.old) }
 {
     let Parts {
         kind,
@@ -281,8 +174,8 @@ pub(crate) fn put_parts(clock: &mut Clock, text: &mut [u8], at: usize, parts: Pa
         packet,
         number,
     } = parts;
-    match kind {
-        Kind::Whole => unreachable_unchecked!(),
+    let end = match kind {
+        Kind::Whole | Kind::Made => return None,
         Kind::Finished => {
             let (pipe, instance) = (pipe_of(tag), number as u8);
             put_at_instance(
@@ -367,5 +260,6 @@ pub(crate) fn put_parts(clock: &mut Clock, text: &mut [u8], at: usize, parts: Pa
             )
         }
         Kind::Done => put_done(clock, text, at, moment, number),
-    }
+    };
+    Some(end)
 }

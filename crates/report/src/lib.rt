@@ -7,6 +7,7 @@ mod digits;
 mod events;
 mod forward;
 mod lines;
+mod made;
 mod moments;
 mod packed;
 mod pieces;

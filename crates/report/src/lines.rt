@@ -5,15 +5,14 @@ ghost use Rattle.std.specs.Prelude.{◌≡◌, ◌+◌, ◌≤◌, ◌++◌, len
 ghost use Rattle.report.specs.Room.{spare, Appends};
 ghost use Rattle.report.specs.Words.{load_of};
 ghost use Rattle.std.specs.List.{flat_map};
-ghost use Rattle.report.specs.Lines.{spaced, fields_of, line_of, is_event, heading_of, behind_space, counters_of};
+ghost use Rattle.report.specs.Lines.{spaced, fields_of, line_of, is_common, heading_of, behind_space, counters_of};
 ghost use Rattle.emu_model.specs.declared.records.Record.TheVariants.{RuleLine, PipeLine};
 
-use crate::events::put_event;
+use crate::events::{put_drop, put_event, put_parts};
 use crate::forward::put_load;
 use crate::moments::Moments;
+use crate::packed::parts_of;
 use crate::pieces::{append, append_labelled, append_number, append_places};
-use crate::runs::put_lines;
-use crate::source::Listed;
 use crate::words::{
     append_action, append_discipline, append_end, append_header, append_instance, append_mask,
     append_protocol, append_queue, refusal_code,
@@ -73,9 +72,9 @@ fn append_made(out: &mut Vec<u8>, moments: &mut Moments, moment: u64, packet: u6
     append(out, &moments.page[..end]);
 }
 
-// Appends the line of a record that is not an event, or of a rare event.
+// Appends the line of a record that isn't common.
 fn append_other(out: &mut Vec<u8>, moments: &mut Moments, line: &Record)
-    requires { (400 ≤ spare out.old) × (is_event line.now ≡ false) }
+    requires { (400 ≤ spare out.old) × (is_common line.now ≡ false) }
     ensures { Appends (line_of line.now) 400 out.old out.new }
 {
     match *line {
@@ -92,7 +91,7 @@ fn append_other(out: &mut Vec<u8>, moments: &mut Moments, line: &Record)
         Record::PacketMade {
             moment,
             packet,
-            load,
+            origin,
             proto,
             src,
             sport,
@@ -108,7 +107,7 @@ fn append_other(out: &mut Vec<u8>, moments: &mut Moments, line: &Record)
                 dport,
                 size,
             };
-            append_made(out, moments, moment, packet, load);
+            append_made(out, moments, moment, packet, origin.load());
             append(out, b" ");
             append_header(out, &send);
             append(out, b"\n");
@@ -136,6 +135,16 @@ fn append_other(out: &mut Vec<u8>, moments: &mut Moments, line: &Record)
             };
             append_mask(out, id);
             append(out, b"\n");
+        }
+        Record::PacketDropped {
+            moment,
+            packet,
+            load,
+            cause,
+        } => {
+            let (clock, text) = (&mut moments.clock, &mut moments.page);
+            let end = put_drop(clock, text, 0, moment, packet, load, cause);
+            append(out, &moments.page[..end]);
         }
         Record::StepsSpent { moment } => {
             append_number(out, moment);
@@ -180,11 +189,12 @@ fn append_line(out: &mut Vec<u8>, moments: &mut Moments, line: &Record)
     requires { 400 ≤ spare out.old }
     ensures { Appends (line_of line.now) 400 out.old out.new }
 {
-    let one = [*line];
-    let (count, end) = put_lines(moments, &Listed { records: &one }, 0);
-    if count == 0 {
+    let Some(parts) = parts_of(line) else {
         return append_other(out, moments, line);
-    }
+    };
+    let Some(end) = put_parts(&mut moments.clock, &mut moments.page, 0, parts) else {
+        unreachable_unchecked!()
+    };
     append(out, &moments.page[..end]);
 }
 

@@ -1,14 +1,17 @@
 //! Common records, each in two words of eight bytes (our choice).
 
-ghost use Rattle.std.specs.Prelude.{◌≡◌, ◌<◌, IfSome};
+ghost use Rattle.std.specs.Prelude.{◌≡◌, ◌<◌, false, IfSome, None};
 ghost use Rattle.emu_model.specs.declared.records.Record.TheVariants.{PacketDelivered};
+ghost use Rattle.report.specs.Lines.{is_common};
+ghost use Rattle.report.specs.Rows.{cause_number};
 ghost use Rattle.report.specs.Archive.{Names, cause_at, kind_at, parts_in, rank, record_of};
 ghost use Rattle.report.specs.declared.packed.Kind.TheVariants.{Whole};
 
 use emu_model::{DropCause, FlowNumber, Load, PipeNumber, Record};
 use unchecked::unreachable_unchecked;
 
-/// The kind of a record that fits into sixteen bytes; a `Whole` record is stored elsewhere.
+/// The kind of a record that fits into sixteen bytes; a `Whole` record is stored elsewhere, and the
+/// header of a `Made` one.
 #[derive(Clone, Copy)]
 pub(crate) enum Kind {
     Whole,
@@ -22,6 +25,7 @@ pub(crate) enum Kind {
     Dropped,
     Window,
     Expired,
+    Made,
 }
 
 /// The parts of a common record: its kind; its time (ns); its flow, its pipe, or the cause of a
@@ -71,6 +75,7 @@ fn rank(kind: Kind) -> u64
         Kind::Dropped => 8,
         Kind::Window => 9,
         Kind::Expired => 10,
+        Kind::Made => 11,
     }
 }
 
@@ -92,7 +97,7 @@ fn kind_at(rank: u64) -> Kind
         8 => Kind::Dropped,
         9 => Kind::Window,
         10 => Kind::Expired,
-        11 => Kind::Whole,
+        11 => Kind::Made,
         12 => Kind::Whole,
         13 => Kind::Whole,
         14 => Kind::Whole,
@@ -117,25 +122,20 @@ pub(crate) fn cause_at(number: u16) -> DropCause
     }
 }
 
-fn number_of(cause: DropCause) -> u16
-    ensures { cause_at result ≡ cause }
+/// Returns the number of a cause, which its definition in `emu_model` has.
+pub(crate) fn number_of(cause: DropCause) -> u8
+    ensures number { result ≡ cause_number cause }
+    ensures back { cause_at result ≡ cause }
 {
-    match cause {
-        DropCause::Denied => 1,
-        DropCause::NoPipe => 2,
-        DropCause::NoInstance => 3,
-        DropCause::Lost => 4,
-        DropCause::Full => 5,
-        DropCause::Codel => 6,
-        DropCause::Deleted => 7,
-        DropCause::Budget => 8,
-    }
+    cause as u8
 }
 
 /// Returns the parts of a common record, or `None` if the record isn't common.
 #[inline(always)]
 pub(crate) fn parts_of(entry: &Record) -> Option<Parts>
-    ensures { IfSome result (λ p. (record_of p ≡ entry.now) × Names p.kind p.tag p.number) }
+    ensures some { IfSome result
+        (λ p. (record_of p ≡ entry.now) × Names p.kind p.tag p.number) }
+    ensures none { result ≡ None → is_common entry.now ≡ false }
 {
     let parts = match *entry {
         Record::PacketFinished {
@@ -169,7 +169,7 @@ pub(crate) fn parts_of(entry: &Record) -> Option<Parts>
         } => Parts {
             kind: Kind::Dropped,
             moment,
-            tag: number_of(cause),
+            tag: u16::from(number_of(cause)),
             packet,
             number: 0,
         },
@@ -273,7 +273,7 @@ pub(crate) fn record_of(parts: Parts) -> Record
         number,
     } = parts;
     match kind {
-        Kind::Whole => unreachable_unchecked!(),
+        Kind::Whole | Kind::Made => unreachable_unchecked!(),
         Kind::Done => Record::CommandDone {
             moment,
             command: number,

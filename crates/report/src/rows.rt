@@ -1,15 +1,18 @@
 //! Records as rows of 40 bytes, which NumPy reads without parsing (our choice).
 
-ghost use Rattle.std.specs.Prelude.{◌≡◌, ◌+◌, ◌*◌, ◌^◌, ◌≤◌, ◌<◌, ◌++◌, drop, length, take, IfOk, OnOk};
+ghost use Rattle.std.specs.Prelude.{◌≡◌, ◌+◌, ◌*◌, ◌^◌, ◌≤◌, ◌<◌, ◌++◌, drop, false, length, take, true, IfOk, OnOk};
 ghost use Rattle.std.specs.List.{flat_map};
-ghost use Rattle.report.specs.Archive.{Names, record_of};
+ghost use Rattle.report.specs.Archive.{Names, is_elsewhere, made_as, record_of};
+ghost use Rattle.emu_model.specs.declared.records.Record.TheVariants.{PacketMade};
+ghost use Rattle.report.specs.Lines.{is_common};
 ghost use Rattle.report.specs.Rows as rows;
 
 use crate::archive::Archive;
 use crate::forward::put_bytes;
-use crate::packed::{Kind, Parts, cause_at, flow_of, pipe_of};
+use crate::made::with_number;
+use crate::packed::{Kind, Parts, cause_at, flow_of, number_of, parts_of, pipe_of};
 use crate::source::Source;
-use emu_model::{Counters, DropCause, FlowNumber, Load, PipeNumber, Protocol, Record};
+use emu_model::{Counters, FlowNumber, Load, Origin, PipeNumber, Protocol, Record, SendSpec};
 use itoa::Buffer;
 use std::alloc::{AllocError, Global};
 use unchecked::unreachable_unchecked;
@@ -28,33 +31,39 @@ const DONE: u8 = 0;
 
 const REFUSED: u8 = 1;
 
-const MADE: u8 = 2;
+const INJECTED: u8 = 2;
 
-const IDENTIFIED: u8 = 5;
+const EMITTED: u8 = 3;
 
-const ARRIVED: u8 = 6;
+const SENT: u8 = 4;
 
-const FINISHED: u8 = 7;
+const REPLIED: u8 = 5;
 
-const PASSED: u8 = 8;
+const IDENTIFIED: u8 = 6;
 
-const DELIVERED: u8 = 9;
+const ARRIVED: u8 = 7;
 
-const DROPPED: u8 = 12;
+const FINISHED: u8 = 8;
 
-const WINDOW: u8 = 15;
+const PASSED: u8 = 9;
 
-const EXPIRED: u8 = 16;
+const DELIVERED: u8 = 10;
 
-const SPENT: u8 = 17;
+const DROPPED: u8 = 13;
 
-const RULE: u8 = 18;
+const WINDOW: u8 = 16;
 
-const PIPE: u8 = 19;
+const EXPIRED: u8 = 17;
 
-const INSTANCE: u8 = 20;
+const SPENT: u8 = 18;
 
-const COUNTERS: u8 = 21;
+const RULE: u8 = 19;
+
+const PIPE: u8 = 20;
+
+const INSTANCE: u8 = 21;
+
+const COUNTERS: u8 = 22;
 
 /// The columns of a row but the number of its experiment. Their meaning depends on the kind.
 #[derive(Clone, Copy)]
@@ -143,6 +152,24 @@ fn load_row(first: u8, moment: u64, packet: u64, load: Load) -> Row
     }
 }
 
+// Returns the row of a packet's creation, without its header.
+fn origin_row(moment: u64, packet: u64, origin: Origin) -> Row
+    ensures { result ≡ rows.origin_row moment packet origin }
+{
+    let (kind, source, number) = match origin {
+        Origin::ByCommand(command) => (INJECTED, fitted(command), 0),
+        Origin::ByTrain(train) => (EMITTED, u32::from(train.get()), 0),
+        Origin::BySender { flow, first } => (SENT, u32::from(flow.get()), fitted(first)),
+        Origin::ByReceiver { flow, upto } => (REPLIED, u32::from(flow.get()), fitted(upto)),
+    };
+    Row {
+        packet: fitted(packet),
+        source,
+        number,
+        ..row_at(kind, moment)
+    }
+}
+
 #[inline(always)]
 fn window_row(kind: u8, moment: u64, flow: FlowNumber, cwnd: u64, ssthresh: u64) -> Row
     ensures { result ≡ rows.window_row kind moment flow cwnd ssthresh }
@@ -170,18 +197,29 @@ fn ip_number(proto: Protocol) -> u8
     }
 }
 
-fn cause_number(cause: DropCause) -> u8
-    ensures { result ≡ rows.cause_number cause }
+// Returns the row of a packet's creation.
+#[inline(always)]
+fn made_row(moment: u64, packet: u64, origin: Origin, header: &SendSpec) -> Row
+    ensures { let h = header.now in
+        result ≡ rows.row_of
+        (PacketMade moment packet origin h.proto h.src h.sport h.dst h.dport h.size) }
 {
-    cause as u8
+    Row {
+        more: ports_in_one(header.sport, header.dport),
+        src: header.src,
+        dst: header.dst,
+        size: header.size.get(),
+        code: ip_number(header.proto),
+        ..origin_row(moment, packet, origin)
+    }
 }
 
-// Returns the row of a record.
+// Returns the row of a record that isn't common.
 fn row_of(entry: &Record) -> Row
+    requires { is_common entry.now ≡ false }
     ensures { result ≡ rows.row_of entry.now }
 {
     match *entry {
-        Record::CommandDone { moment, command } => command_row(DONE, moment, command),
         Record::CommandRefused {
             moment,
             command,
@@ -193,27 +231,24 @@ fn row_of(entry: &Record) -> Row
         Record::PacketMade {
             moment,
             packet,
-            load,
+            origin,
             proto,
             src,
             sport,
             dst,
             dport,
             size,
-        } => Row {
-            more: ports_in_one(sport, dport),
-            src,
-            dst,
-            size: size.get(),
-            code: ip_number(proto),
-            ..load_row(MADE, moment, packet, load)
-        },
-        Record::PacketArrived {
-            moment,
-            packet,
-            pipe,
-            instance,
-        } => instance_row(ARRIVED, moment, packet, pipe, instance),
+        } => {
+            let header = SendSpec {
+                proto,
+                src,
+                sport,
+                dst,
+                dport,
+                size,
+            };
+            made_row(moment, packet, origin, &header)
+        }
         Record::InstanceIdentified {
             moment,
             pipe,
@@ -232,44 +267,15 @@ fn row_of(entry: &Record) -> Row
             code: proto,
             ..row_at(IDENTIFIED, moment)
         },
-        Record::PacketFinished {
-            moment,
-            packet,
-            pipe,
-            instance,
-        } => instance_row(FINISHED, moment, packet, pipe, instance),
-        Record::PacketDelivered {
-            moment,
-            packet,
-            load,
-        } => load_row(DELIVERED, moment, packet, load),
-        Record::PacketPassed {
-            moment,
-            packet,
-            pipe,
-            instance,
-        } => instance_row(PASSED, moment, packet, pipe, instance),
         Record::PacketDropped {
             moment,
             packet,
             load,
             cause,
         } => Row {
-            code: cause_number(cause),
+            code: number_of(cause),
             ..load_row(DROPPED, moment, packet, load)
         },
-        Record::AckTaken {
-            moment,
-            flow,
-            cwnd,
-            ssthresh,
-        } => window_row(WINDOW, moment, flow, cwnd, ssthresh),
-        Record::TimerExpired {
-            moment,
-            flow,
-            cwnd,
-            ssthresh,
-        } => window_row(EXPIRED, moment, flow, cwnd, ssthresh),
         Record::StepsSpent { moment } => row_at(SPENT, moment),
         Record::RuleLine {
             rule,
@@ -303,6 +309,7 @@ fn row_of(entry: &Record) -> Row
             code: u8::from(busy),
             ..row_at(INSTANCE, 0)
         },
+        _ => unreachable_unchecked!(),
     }
 }
 
@@ -350,7 +357,46 @@ pub(crate) fn put_whole(page: &mut [u8], at: usize, experiment: u8, entry: &Reco
     requires { at + 40 ≤ length page.old }
     ensures { take (at + 40) page.new ≡ take at page.old ++ rows.record_bytes experiment entry.now }
 {
-    put_row(page, at, experiment, row_of(entry));
+    let Some(parts) = parts_of(entry) else {
+        return put_row(page, at, experiment, row_of(entry));
+    };
+    if !put_parts(page, at, experiment, parts) {
+        unreachable_unchecked!()
+    }
+}
+
+/// Writes the row of a packet that was created as another one, with the number, the time and the
+/// packet in these parts.
+#[inline(always)]
+pub(crate) fn put_made(page: &mut [u8], at: usize, experiment: u8, first: &Record, parts: Parts)
+    requires { at + 40 ≤ length page.old }
+    ensures { take (at + 40) page.new ≡ take at page.old
+        ++ rows.record_bytes experiment (made_as first.now parts) }
+{
+    let Record::PacketMade {
+        origin,
+        proto,
+        src,
+        sport,
+        dst,
+        dport,
+        size,
+        ..
+    } = *first
+    else {
+        return put_whole(page, at, experiment, first);
+    };
+    let header = SendSpec {
+        proto,
+        src,
+        sport,
+        dst,
+        dport,
+        size,
+    };
+    let origin = with_number(origin, parts.number);
+    let row = made_row(parts.moment, parts.packet, origin, &header);
+    put_row(page, at, experiment, row);
 }
 
 // Writes the row of an event of a packet at an instance.
@@ -371,7 +417,7 @@ fn put_instance(page: &mut [u8], at: usize, experiment: u8, kind: u8, parts: Par
 fn put_delivery(page: &mut [u8], at: usize, experiment: u8, parts: Parts, load: Load)
     requires { at + 40 ≤ length page.old }
     ensures { take (at + 40) page.new ≡ take at page.old
-        ++ rows.row_bytes experiment (rows.load_row 9 parts.moment parts.packet load) }
+        ++ rows.row_bytes experiment (rows.load_row 10 parts.moment parts.packet load) }
 {
     let row = load_row(DELIVERED, parts.moment, parts.packet, load);
     put_row(page, at, experiment, row);
@@ -390,17 +436,20 @@ fn put_window(page: &mut [u8], at: usize, experiment: u8, kind: u8, parts: Parts
     put_row(page, at, experiment, row);
 }
 
-/// Writes the row of a common record at a place. Each kind writes its own, so that the columns that
-/// it doesn't use cost nothing.
+/// Writes the row of a common record at a place, and returns true, or does nothing and returns false
+/// if the record is stored elsewhere. Each kind writes its own row, so that the columns that it
+/// doesn't use cost nothing.
 #[inline(always)]
-pub(crate) fn put_parts(page: &mut [u8], at: usize, experiment: u8, parts: Parts)
+pub(crate) fn put_parts(page: &mut [u8], at: usize, experiment: u8, parts: Parts) -> bool
     requires room { at + 40 ≤ length page.old }
-    requires names { Names parts.kind parts.tag parts.number }
-    ensures { take (at + 40) page.new ≡ take at page.old
-        ++ rows.record_bytes experiment (record_of parts) }
+    requires names { is_elsewhere parts.kind ≡ false → Names parts.kind parts.tag parts.number }
+    ensures written { result ≡ true → (is_elsewhere parts.kind ≡ false)
+        × (take (at + 40) page.new ≡ take at page.old
+        ++ rows.record_bytes experiment (record_of parts)) }
+    ensures left { result ≡ false → (is_elsewhere parts.kind ≡ true) × (page.new ≡ page.old) }
 {
     match parts.kind {
-        Kind::Whole => unreachable_unchecked!(),
+        Kind::Whole | Kind::Made => return false,
         Kind::Finished => put_instance(page, at, experiment, FINISHED, parts),
         Kind::Segment => {
             let load = Load::Seg {
@@ -421,7 +470,7 @@ pub(crate) fn put_parts(page: &mut [u8], at: usize, experiment: u8, parts: Parts
         Kind::Expired => put_window(page, at, experiment, EXPIRED, parts),
         Kind::Dropped => {
             let row = Row {
-                code: cause_number(cause_at(parts.tag)),
+                code: number_of(cause_at(parts.tag)),
                 ..load_row(DROPPED, parts.moment, parts.packet, Load::Plain)
             };
             put_row(page, at, experiment, row);
@@ -433,6 +482,7 @@ pub(crate) fn put_parts(page: &mut [u8], at: usize, experiment: u8, parts: Parts
             put_row(page, at, experiment, row);
         }
     }
+    true
 }
 
 /// Writes the rows of some records, as many as the page holds, and returns their number. The first

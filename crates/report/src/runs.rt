@@ -1,10 +1,9 @@
 //! The lines of many records. The lines of events are built on one page and appended together, so
 //! that the cost of an append isn't paid for each line.
 
-ghost use Rattle.std.specs.Prelude.{◌≡◌, ◌+◌, ◌-◌, ◌*◌, ◌<◌, ◌≤◌, ◌++◌, true, drop, length, take, slice_index_or, vec_len, vec_capacity, IfOk, IsOk, OnOk, OnErr};
+ghost use Rattle.std.specs.Prelude.{◌≡◌, ◌+◌, ◌-◌, ◌*◌, ◌<◌, ◌≤◌, ◌++◌, drop, length, take, slice_index_or, vec_len, vec_capacity, IfOk, IsOk, OnOk, OnErr};
 ghost use Rattle.std.specs.List.{flat_map};
 ghost use Rattle.report.specs.Lines.{line_of};
-ghost use Rattle.emu_model.specs.declared.records.Record.TheVariants.{StepsSpent};
 ghost use Rattle.report.specs.Room.{spare};
 
 use crate::lines::write_record;
@@ -13,13 +12,11 @@ use crate::source::{Listed, Source};
 use emu_model::Record;
 use std::alloc::AllocError;
 
-/// Writes lines on the page from a place on, until the page is full or the source leaves a line to
-/// its caller. Returns the number of lines, and their end.
-pub(crate) fn put_lines<S: Source>(moments: &mut Moments, source: &S, from: usize) -> (usize, usize)
+// Writes lines on the page from a place on, until the page is full or the source leaves a line to
+// its caller. Returns the number of lines, and their end.
+fn put_lines<S: Source>(moments: &mut Moments, source: &S, from: usize) -> (usize, usize)
     requires { from < length (S.list source.now) }
     ensures count { from + result.0 ≤ length (S.list source.now) }
-    ensures none { result.0 ≡ 0 →
-        S.leaves (slice_index_or (S.list source.now) from (StepsSpent 0)) ≡ true }
     ensures end { (result.1 ≤ 4224) × (result.1 ≤ 128 * result.0) }
     ensures items { take result.1 moments.new.page
         ≡ flat_map line_of (take result.0 (drop from (S.list source.now))) }

@@ -1,21 +1,19 @@
 //! The sources of a report's records.
 
-ghost use Rattle.std.specs.Prelude.{◌≡◌, ◌+◌, ◌<◌, ◌≤◌, ◌++◌, Bool, List, None, true, length, take, slice_index_or, IfSome};
+ghost use Rattle.std.specs.Prelude.{◌≡◌, ◌+◌, ◌<◌, ◌≤◌, ◌++◌, List, None, length, take, slice_index_or, IfSome};
 ghost use Rattle.emu_model.specs.declared.records.Record.{Record};
 ghost use Rattle.emu_model.specs.declared.records.Record.TheVariants.{StepsSpent};
 ghost use Rattle.report.specs.Lines.{line_of};
 
 use crate::clock::Clock;
-use crate::events::put_line;
+use crate::events::put_parts;
+use crate::packed::parts_of;
 use emu_model::Record;
 
 /// A sequence of records.
 pub trait Source {
     /// The records.
     ghost list: { Self → List Record };
-
-    /// True if the source may leave a record's line to its caller.
-    ghost leaves: { Record → Bool };
 
     /// Returns the number of records.
     fn len(&self) -> usize
@@ -27,15 +25,14 @@ pub trait Source {
         ensures { result ≡ slice_index_or (list self.now) place (StepsSpent 0) };
 
     /// Writes the line of the record at a place, and returns its end, or `None` if it leaves the
-    /// line to the caller.
+    /// line to the caller, because the record is rare.
     fn put(&self, clock: &mut Clock, text: &mut [u8], at: usize, place: usize) -> Option<usize>
         requires room { at + 256 ≤ length text.old }
         requires inside { place < length (list self.now) }
         ensures some { let line = slice_index_or (list self.now) place (StepsSpent 0) in
             IfSome result (λ end. (at ≤ end) × (end ≤ at + 128)
             × (take end text.new ≡ take at text.old ++ line_of line)) }
-        ensures none { let line = slice_index_or (list self.now) place (StepsSpent 0) in
-            result ≡ None → (leaves line ≡ true) × (text.new ≡ text.old) };
+        ensures none { result ≡ None → text.new ≡ text.old };
 }
 
 /// Records in a list.
@@ -45,12 +42,7 @@ pub(crate) struct Listed<'a> {
 }
 
 impl<'a> Source for Listed<'a> {
-    ghost use Rattle.std.specs.Prelude.{not};
-    ghost use Rattle.report.specs.Lines.{is_event};
-
     ghost list = { λ l. l.records.now };
-
-    ghost leaves = { λ r. not (is_event r) };
 
     #[inline(always)]
     fn len(&self) -> usize {
@@ -64,6 +56,7 @@ impl<'a> Source for Listed<'a> {
 
     #[inline(always)]
     fn put(&self, clock: &mut Clock, text: &mut [u8], at: usize, place: usize) -> Option<usize> {
-        put_line(clock, text, at, &self.records[place])
+        let parts = parts_of(&self.records[place])?;
+        put_parts(clock, text, at, parts)
     }
 }

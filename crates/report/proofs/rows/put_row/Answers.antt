@@ -1,4 +1,4 @@
-use Rattle.std.proofs.Common.{◌≡◌, ℕ, List, [], ◌++◌, take, ap, ◌∙◌}
+use Rattle.std.proofs.Common.{[], ◌++◌, take, ap, ◌∙◌}
 use Rattle.std.specs.Int.{w64, to_le_bytes}
 use Rattle.report.specs.Rows.{row_bytes}
 use Rattle.report.proofs.Behind.{five_put}

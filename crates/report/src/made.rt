@@ -1,0 +1,216 @@
+//! Packets that were created, each stored by its difference from an earlier one of the same source
+//! (our choice).
+
+ghost use Rattle.std.specs.Prelude.{◌≡◌, ◌^◌, ◌<◌, IfSome};
+ghost use Rattle.report.specs.Archive.{IsEntry, entry_of, made_as, origin_with};
+ghost use Rattle.report.specs.declared.packed.Kind.TheVariants.{Made};
+
+use crate::packed::{Kind, Packed, Parts, pack};
+use emu_model::{Origin, Record};
+use std::alloc::Global;
+
+/// The places of whole records from which the packets of a source differ only in time, packet and
+/// number. A place may be of any record: it is compared before it is used.
+#[derive(Drop)]
+pub(crate) struct Firsts {
+    places: Vec<u16>,
+}
+
+// The number of places for packets of commands, which are chosen by their headers.
+const COMMANDS: usize = 64;
+
+// Returns the key of a source, and of the direction of its packets.
+#[inline(always)]
+fn key_of(origin: Origin, src: u32, dst: u32, sport: u16, dport: u16) -> usize
+    ensures { result < 2 ^ 32 }
+{
+    match origin {
+        Origin::ByCommand(_) => {
+            let ports = u32::from(sport) + u32::from(dport);
+            src.wrapping_add(dst).wrapping_add(ports) as usize % COMMANDS
+        }
+        Origin::ByTrain(train) => COMMANDS + 3 * usize::from(train.get()),
+        Origin::BySender { flow, .. } => COMMANDS + 3 * usize::from(flow.get()) + 1,
+        Origin::ByReceiver { flow, .. } => COMMANDS + 3 * usize::from(flow.get()) + 2,
+    }
+}
+
+// Returns the key of the source of a packet that was created.
+#[inline(always)]
+fn source_key(entry: &Record) -> Option<usize>
+    ensures { IfSome result (λ k. k < 2 ^ 32) }
+{
+    let Record::PacketMade {
+        origin,
+        src,
+        sport,
+        dst,
+        dport,
+        ..
+    } = *entry
+    else {
+        return None;
+    };
+    Some(key_of(origin, src, dst, sport, dport))
+}
+
+/// Returns an origin with another number: that of a command, a first byte or an acknowledged number.
+#[inline(always)]
+pub(crate) fn with_number(origin: Origin, number: u64) -> Origin
+    ensures { result ≡ origin_with origin number }
+{
+    match origin {
+        Origin::ByCommand(_) => Origin::ByCommand(number),
+        Origin::ByTrain(train) => Origin::ByTrain(train),
+        Origin::BySender { flow, .. } => Origin::BySender {
+            flow,
+            first: number,
+        },
+        Origin::ByReceiver { flow, .. } => Origin::ByReceiver { flow, upto: number },
+    }
+}
+
+/// Returns the record of a packet that was created as another one, with the number, the time and the
+/// packet in these parts.
+pub(crate) fn made_as(first: &Record, parts: Parts) -> Record
+    ensures { result ≡ made_as first.now parts }
+{
+    let Record::PacketMade {
+        origin,
+        proto,
+        src,
+        sport,
+        dst,
+        dport,
+        size,
+        ..
+    } = *first
+    else {
+        return *first;
+    };
+    Record::PacketMade {
+        moment: parts.moment,
+        packet: parts.packet,
+        origin: with_number(origin, parts.number),
+        proto,
+        src,
+        sport,
+        dst,
+        dport,
+        size,
+    }
+}
+
+// Returns the number of an origin that differs from another one in its number alone: that of a
+// command, a first byte or an acknowledged number.
+#[inline(always)]
+fn number_from(known: Origin, origin: Origin) -> Option<u64>
+    ensures { IfSome result (λ number. origin_with known number ≡ origin) }
+{
+    match origin {
+        Origin::ByCommand(command) => match known {
+            Origin::ByCommand(_) => Some(command),
+            _ => None,
+        },
+        Origin::ByTrain(train) => match known {
+            Origin::ByTrain(other) if other.get() == train.get() => Some(0),
+            _ => None,
+        },
+        Origin::BySender { flow, first } => match known {
+            Origin::BySender { flow: other, .. } if other.get() == flow.get() => Some(first),
+            _ => None,
+        },
+        Origin::ByReceiver { flow, upto } => match known {
+            Origin::ByReceiver { flow: other, .. } if other.get() == flow.get() => Some(upto),
+            _ => None,
+        },
+    }
+}
+
+// Returns the parts of a packet that was created as the record at a place, but for its number, its
+// time and its packet.
+#[inline(always)]
+fn parts_from(first: &Record, place: u16, entry: &Record) -> Option<Parts>
+    ensures { IfSome result
+        (λ p. (made_as first.now p ≡ entry.now) × (p.kind ≡ Made) × (p.tag ≡ place)) }
+{
+    let Record::PacketMade {
+        origin: known,
+        proto: known_proto,
+        src: known_src,
+        sport: known_sport,
+        dst: known_dst,
+        dport: known_dport,
+        size: known_size,
+        ..
+    } = *first
+    else {
+        return None;
+    };
+    let Record::PacketMade {
+        moment,
+        packet,
+        origin,
+        proto,
+        src,
+        sport,
+        dst,
+        dport,
+        size,
+    } = *entry
+    else {
+        return None;
+    };
+    if src != known_src || sport != known_sport || dst != known_dst || dport != known_dport {
+        return None;
+    }
+    if proto != known_proto || size.get() != known_size.get() {
+        return None;
+    }
+    let number = number_from(known, origin)?;
+    Some(Parts {
+        kind: Kind::Made,
+        moment,
+        tag: place,
+        packet,
+        number,
+    })
+}
+
+impl Firsts {
+    /// Creates an empty table. Does not allocate.
+    pub(crate) fn new(alloc: Global) -> Self {
+        Firsts {
+            places: Vec::new(alloc),
+        }
+    }
+
+    /// Returns the word of a packet that was created as an earlier one of the same source. Returns
+    /// `None` for any other record, and for one that doesn't fit.
+    #[inline(always)]
+    pub(crate) fn word_of(&self, others: &[Record], entry: &Record) -> Option<Packed>
+        ensures same { IfSome result (λ w. entry_of others.now w ≡ entry.now) }
+        ensures stands { IfSome result (IsEntry others.now) }
+    {
+        let place = *self.places.get(source_key(entry)?)?;
+        let first = others.get(usize::from(place))?;
+        pack(parts_from(first, place, entry)?)
+    }
+
+    /// Registers a whole record's place for the next packets of the same source, if it is of a packet
+    /// that was created. If memory runs out, or the place has more than sixteen bits, nothing
+    /// happens: these packets are then stored whole, too.
+    #[inline(never)]
+    pub(crate) fn register(&mut self, entry: &Record, place: usize) {
+        let Some(key) = source_key(entry) else {
+            return;
+        };
+        if place >= 65_536 {
+            return;
+        }
+        if key >= self.places.len() && self.places.resize(key + 1, 0).is_err() {
+            return;
+        }
+        self.places[key] = place as u16;
+    }
+}
