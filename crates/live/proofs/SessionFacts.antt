@@ -16,7 +16,9 @@ use Rattle.control.proofs.LinesRead.{with_last_is}
 use Rattle.control_lines.specs.Entries.{Entry, Nothing, Begins, Does, IsEntry, is_skipped}
 use Rattle.control_lines.specs.LinesSayOne.{LinesSayOne}
 use Rattle.control_words.specs.Text.{parts, words, is_word}
-use Rattle.live.specs.Requests.{Show, request_of}
+use Rattle.live.specs.Requests.{Asked, Until, UntilMine, UntilAny, Next, AddNext, Use, Show, Trace, Help, asked_of, request_of}
+use Rattle.live.specs.Tracing.{run_as, spec_as, command_as}
+use Rattle.control.specs.Traced.{traced_command}
 use Rattle.live.specs.Effects.{Moves, IsSaid, IsAdded}
 use Rattle.live.specs.Faults.{Answers, of_current, current_of}
 use Rattle.live.specs.declared.answer.Answer.{Answer}
@@ -25,7 +27,7 @@ use Rattle.live.specs.declared.open.Phase.{Phase}
 use Rattle.live.specs.declared.open.Phase.TheVariants.{Going, Over, Lost}
 use Rattle.live.specs.Lines.{answer_with, help_lines, fault_of}
 use Rattle.live.specs.Opens.{KeptOpen, IsTold, IsToldIn, MayCome, IsFault, IsSame, Tells}
-use Rattle.live.specs.Sessions.{KeptSession, Stand, IsSoFar, TellsAll, Grows, Hears, Takes, Piece, Told, Answered, AnsweredBoth, Helped, IsPlain, written, told}
+use Rattle.live.specs.Sessions.{KeptSession, Stand, IsSoFar, TellsAll, Grows, Asks, TurnsBy, TurnsIn, Hears, Takes, Piece, Told, Answered, AnsweredBoth, Helped, IsPlain, written, told}
 
 abbrev its : Stand → Experiment
 its x = x.experiment
@@ -60,16 +62,16 @@ split : (xs : List Stand) → (xs ≡ []) ⊎ ((first : List Stand) × (x : Stan
 split [] = inl refl
 split (x ∷ xs) = inr (split_more x xs)
 
-by-split : (old new : KeptSession) (o p : KeptOpen) (bytes : List ℕ) (f : Experiment → Experiment) (more : List Experiment → List Experiment) →
-    new.opened ≡ set old.opened old.current p → new.current ≡ old.current → old.current < length old.opened → get_or old.opened old.current o ≡ o →
-    ((x : Stand) → x.kept ≡ o → IsSoFar x → IsSoFar (record { experiment = f x.experiment; text = x.text ++ bytes; kept = p })) →
+by-split : (on : Bool) (old new : KeptSession) (o p : KeptOpen) (bytes : List ℕ) (f : Experiment → Experiment) (more : List Experiment → List Experiment) →
+    new.opened ≡ set old.opened old.current p → new.current ≡ old.current → new.traces ≡ old.traces → old.current < length old.opened → get_or old.opened old.current o ≡ o →
+    ((x : Stand) → x.kept ≡ o → IsSoFar on x → IsSoFar on (record { experiment = f x.experiment; text = x.text ++ bytes; kept = p })) →
     ((done : List Experiment) (e : Experiment) → more (done ++ e ∷ []) ≡ done ++ f e ∷ []) →
-    (es : List Experiment) (text : List ℕ) (h : TellsAll es text old) → (h.stands ≡ []) ⊎ ((first : List Stand) × (x : Stand) × (h.stands ≡ first ++ x ∷ [])) →
-    TellsAll (more es) (text ++ bytes) new
-by-split old new o p bytes f more opened current within found so_far law es text h (inl none) =
+    (es : List Experiment) (text : List ℕ) (h : TellsAll on es text old) → (h.stands ≡ []) ⊎ ((first : List Stand) × (x : Stand) × (h.stands ≡ first ++ x ∷ [])) →
+    TellsAll on (more es) (text ++ bytes) new
+by-split on old new o p bytes f more opened current traces within found so_far law es text h (inl none) =
     let len : length old.opened ≡ 0 = ap length h.opened_are ∙ length-map h.stands kept_of ∙ ap length none in
     absurd (omega (arith, within, len))
-by-split old new o p bytes f more opened current within found so_far law es text h (inr (first, x, is)) =
+by-split on old new o p bytes f more opened current traces within found so_far law es text h (inr (first, x, is)) =
     let y : Stand = record { experiment = f x.experiment; text = x.text ++ bytes; kept = p } in
     let all : List Stand = first ++ y ∷ [] in
     let keeps : old.opened ≡ map kept_of first ++ x.kept ∷ [] = h.opened_are ∙ ap (map kept_of) is ∙ map-app kept_of first (x ∷ []) in
@@ -87,67 +89,92 @@ by-split old new o p bytes f more opened current within found so_far law es text
           ∙ sym (flat_map-append text_of first (y ∷ []));
       opened_are = opened ∙ ap (λ (l : List KeptOpen). set l old.current p) keeps ∙ ap (λ n. set (map kept_of first ++ x.kept ∷ []) n p) place
           ∙ set-append_seam (map kept_of first) x.kept [] p ∙ sym (map-app kept_of first (y ∷ []));
-      each = let was : AllByRecursion IsSoFar (first ++ x ∷ []) = subst (AllByRecursion IsSoFar) is h.each in
-          push_all IsSoFar first y (first_all IsSoFar first x was) (so_far x there (last_all IsSoFar first x was));
+      each = let was : AllByRecursion (IsSoFar on) (first ++ x ∷ []) = subst (AllByRecursion (IsSoFar on)) is h.each in
+          push_all (IsSoFar on) first y (first_all (IsSoFar on) first x was) (so_far x there (last_all (IsSoFar on) first x was));
       last = let now = length-append first (y ∷ []) in let was = h.last in omega (arith, current, was, many, now);
+      traces = traces ∙ h.traces;
     }
 
 -- the last experiment went on
 pub grows-last : (old new : KeptSession) (o p : KeptOpen) (bytes : List ℕ) (f : Experiment → Experiment) (more : List Experiment → List Experiment) →
-    new.opened ≡ set old.opened old.current p → new.current ≡ old.current → old.current < length old.opened → get_or old.opened old.current o ≡ o →
-    ((x : Stand) → x.kept ≡ o → IsSoFar x → IsSoFar (record { experiment = f x.experiment; text = x.text ++ bytes; kept = p })) →
+    new.opened ≡ set old.opened old.current p → new.current ≡ old.current → new.traces ≡ old.traces → old.current < length old.opened → get_or old.opened old.current o ≡ o →
+    ((on : Bool) (x : Stand) → x.kept ≡ o → IsSoFar on x → IsSoFar on (record { experiment = f x.experiment; text = x.text ++ bytes; kept = p })) →
     ((done : List Experiment) (e : Experiment) → more (done ++ e ∷ []) ≡ done ++ f e ∷ []) →
     Grows more bytes old new
-grows-last old new o p bytes f more opened current within found so_far law es text h =
-    by-split old new o p bytes f more opened current within found so_far law es text h (split h.stands)
+grows-last old new o p bytes f more opened current traces within found so_far law on es text h =
+    by-split on old new o p bytes f more opened current traces within found (so_far on) law es text h (split h.stands)
 
 -- an experiment began
-pub grows-begun : (old new : KeptSession) (o : KeptOpen) (bytes : List ℕ) (e : Experiment) →
-    new.opened ≡ old.opened ++ o ∷ [] → new.current ≡ length old.opened → IsSoFar (record { experiment = e; text = bytes; kept = o }) →
-    Grows (λ es. es ++ e ∷ []) bytes old new
-grows-begun old new o bytes e opened current so_far es text h =
+begun-so-far : (on : Bool) (o : KeptOpen) (bytes name : List ℕ) (spec : Spec) → o.name ≡ name → o.traced ≡ on → o.run.experiment.spec ≡ spec_as on spec → IsTold [] bytes o →
+    IsSoFar on (record { experiment = begun name spec; text = bytes; kept = o })
+begun-so-far true o bytes name spec named traced is told = record { name = named; traced = traced; spec = is; told = told }
+begun-so-far false o bytes name spec named traced is told = record { name = named; traced = traced; spec = is; told = told }
+
+pub grows-begun : (old new : KeptSession) (o : KeptOpen) (bytes name : List ℕ) (spec : Spec) →
+    new.opened ≡ old.opened ++ o ∷ [] → new.current ≡ length old.opened → new.traces ≡ old.traces →
+    o.name ≡ name → o.traced ≡ old.traces → o.run.experiment.spec ≡ spec_as old.traces spec → IsTold [] bytes o →
+    Grows (λ es. es ++ begun name spec ∷ []) bytes old new
+grows-begun old new o bytes name spec opened current traces named traced is told on es text h =
+    let e : Experiment = begun name spec in
     let y : Stand = record { experiment = e; text = bytes; kept = o } in
+    let so_far : IsSoFar on y = begun-so-far on o bytes name spec named (traced ∙ h.traces) (is ∙ ap (λ (b : Bool). spec_as b spec) h.traces) told in
     record {
       stands = h.stands ++ y ∷ [];
       experiments_are = ap (λ (l : List Experiment). l ++ e ∷ []) h.experiments_are ∙ sym (map-app its h.stands (y ∷ []));
       text_is = ap (λ (l : List ℕ). l ++ bytes) h.text_is ∙ ap (λ (l : List ℕ). flat_map text_of h.stands ++ l) (sym (append-nil bytes))
           ∙ sym (flat_map-append text_of h.stands (y ∷ []));
       opened_are = opened ∙ ap (λ (l : List KeptOpen). l ++ o ∷ []) h.opened_are ∙ sym (map-app kept_of h.stands (y ∷ []));
-      each = push_all IsSoFar h.stands y h.each so_far;
+      each = push_all (IsSoFar on) h.stands y h.each so_far;
       last = let now = length-append h.stands (y ∷ []) in let len : length old.opened ≡ length h.stands = ap length h.opened_are ∙ length-map h.stands kept_of in omega (arith, current, now, len);
+      traces = traces ∙ h.traces;
     }
+
+-- the commands of an experiment as it runs, and its spec, by one more command
+commands-as : (on : Bool) (e : Experiment) (c : Timed) → (run_as on e).commands ++ command_as on c ∷ [] ≡ (run_as on (with_command e c)).commands
+commands-as true e c = sym (map-app traced_command e.commands (c ∷ []))
+commands-as false e c = refl
+
+specs-as : (on : Bool) (e : Experiment) (c : Timed) → (run_as on e).spec ≡ (run_as on (with_command e c)).spec
+specs-as true e c = refl
+specs-as false e c = refl
 
 -- a command came to the last experiment
 pub grows-command : (old new : KeptSession) (o p : KeptOpen) (bytes : List ℕ) (c : Timed) →
-    new.opened ≡ set old.opened old.current p → new.current ≡ old.current → old.current < length old.opened → get_or old.opened old.current o ≡ o →
-    IsSame o p → Tells (c ∷ []) bytes o p → Grows (λ es. with_last es c) bytes old new
-grows-command old new o p bytes c opened current within found same tells =
-    grows-last old new o p bytes (λ e. with_command e c) (λ es. with_last es c) opened current within found
-    (λ x is was. record {
+    new.opened ≡ set old.opened old.current p → new.current ≡ old.current → new.traces ≡ old.traces → old.current < length old.opened → get_or old.opened old.current o ≡ o →
+    IsSame o p → Tells (command_as o.traced c ∷ []) bytes o p → Grows (λ es. with_last es c) bytes old new
+grows-command old new o p bytes c opened current traces within found same tells =
+    grows-last old new o p bytes (λ e. with_command e c) (λ es. with_last es c) opened current traces within found
+    (λ on x is was.
+    let traced : o.traced ≡ on = ap (λ (k : KeptOpen). k.traced) (sym is) ∙ was.traced in
+    record {
       name = same.name ∙ ap (λ (k : KeptOpen). k.name) (sym is) ∙ was.name;
-      spec = same.spec ∙ ap (λ (k : KeptOpen). k.run.experiment.spec) (sym is) ∙ was.spec;
-      told = tells x.experiment.commands x.text (subst (IsTold x.experiment.commands x.text) is was.told);
+      traced = same.traced ∙ traced;
+      spec = same.spec ∙ ap (λ (k : KeptOpen). k.run.experiment.spec) (sym is) ∙ was.spec ∙ specs-as on x.experiment c;
+      told = subst (λ (cs : List Timed). IsTold cs (x.text ++ bytes) p)
+          (ap (λ (b : Bool). (run_as on x.experiment).commands ++ command_as b c ∷ []) traced ∙ commands-as on x.experiment c)
+          (tells (run_as on x.experiment).commands x.text (subst (IsTold (run_as on x.experiment).commands x.text) is was.told));
     })
     (λ done e. with_last_is done e c)
 
 -- time passed in the last experiment
 pub grows-time : (old new : KeptSession) (o p : KeptOpen) (bytes : List ℕ) →
-    new.opened ≡ set old.opened old.current p → new.current ≡ old.current → old.current < length old.opened → get_or old.opened old.current o ≡ o →
+    new.opened ≡ set old.opened old.current p → new.current ≡ old.current → new.traces ≡ old.traces → old.current < length old.opened → get_or old.opened old.current o ≡ o →
     IsSame o p → Tells [] bytes o p → Grows (λ es. es) bytes old new
-grows-time old new o p bytes opened current within found same tells =
-    grows-last old new o p bytes (λ e. e) (λ es. es) opened current within found
-    (λ x is was. record {
+grows-time old new o p bytes opened current traces within found same tells =
+    grows-last old new o p bytes (λ e. e) (λ es. es) opened current traces within found
+    (λ on x is was. record {
       name = same.name ∙ ap (λ (k : KeptOpen). k.name) (sym is) ∙ was.name;
+      traced = same.traced ∙ ap (λ (k : KeptOpen). k.traced) (sym is) ∙ was.traced;
       spec = same.spec ∙ ap (λ (k : KeptOpen). k.run.experiment.spec) (sym is) ∙ was.spec;
-      told = subst (λ (cs : List Timed). IsTold cs (x.text ++ bytes) p) (append-nil x.experiment.commands)
-          (tells x.experiment.commands x.text (subst (IsTold x.experiment.commands x.text) is was.told));
+      told = subst (λ (cs : List Timed). IsTold cs (x.text ++ bytes) p) (append-nil (run_as on x.experiment).commands)
+          (tells (run_as on x.experiment).commands x.text (subst (IsTold (run_as on x.experiment).commands x.text) is was.told));
     })
     (λ done e. refl)
 
 -- nothing was told
 pub grows-none : (old new : KeptSession) → new ≡ old → Grows (λ es. es) [] old new
-grows-none old new same es text h =
-    subst (TellsAll es (text ++ [])) (sym same) (subst (λ (l : List ℕ). TellsAll es l old) (sym (append-nil text)) h)
+grows-none old new same on es text h =
+    subst (TellsAll on es (text ++ [])) (sym same) (subst (λ (l : List ℕ). TellsAll on es l old) (sym (append-nil text)) h)
 
 pub by-fault : (a : Answer) (A : Type 0) → (IsFault a → A) → ((IsFault a → ⊥) → A) → A
 by-fault answers.Done A f g = g (λ h. h)
@@ -164,10 +191,10 @@ shows-all false other = absurd (other refl)
 
 -- what was told of an experiment stays so where something of it is set
 pub grows-set : (old new : KeptSession) (o p q : KeptOpen) → p ≡ q → IsSame o q → ((came : List Timed) (text : List ℕ) → IsTold came text o → IsTold came text q) →
-    new.opened ≡ set old.opened old.current p → new.current ≡ old.current → old.current < length old.opened → get_or old.opened old.current o ≡ o →
+    new.opened ≡ set old.opened old.current p → new.current ≡ old.current → new.traces ≡ old.traces → old.current < length old.opened → get_or old.opened old.current o ≡ o →
     Grows (λ es. es) [] old new
-grows-set old new o p q is same stays opened current within found =
-    grows-time old new o q [] (opened ∙ ap (λ (k : KeptOpen). set old.opened old.current k) is) current within found same
+grows-set old new o p q is same stays opened current traces within found =
+    grows-time old new o q [] (opened ∙ ap (λ (k : KeptOpen). set old.opened old.current k) is) current traces within found same
     (λ came text h. subst (λ (l : List ℕ). IsTold (came ++ []) l q) (sym (append-nil text))
     (subst (λ (cs : List Timed). IsTold cs text q) (sym (append-nil came)) (stays came text h)))
 
@@ -189,11 +216,11 @@ shown Over came text o h = λ rest may. h rest (comes o (record o { run = record
 shown Lost came text o h = h
 
 pub grows-shown : (old new : KeptSession) (o p : KeptOpen) (all : Bool) → p ≡ record o { run = record o.run { shows_all = all } } → all ≡ true →
-    new.opened ≡ set old.opened old.current p → new.current ≡ old.current → old.current < length old.opened → get_or old.opened old.current o ≡ o →
+    new.opened ≡ set old.opened old.current p → new.current ≡ old.current → new.traces ≡ old.traces → old.current < length old.opened → get_or old.opened old.current o ≡ o →
     Grows (λ es. es) [] old new
-grows-shown old new o p all is every opened current within found =
+grows-shown old new o p all is every opened current traces within found =
     grows-set old new o p (record o { run = record o.run { shows_all = true } }) (is ∙ ap (λ b. record o { run = record o.run { shows_all = b } }) every)
-    (record { name = refl; spec = refl }) (λ came text h. shown o.phase came text o h) opened current within found
+    (record { name = refl; spec = refl; traced = refl }) (λ came text h. shown o.phase came text o h) opened current traces within found
 
 -- the answer to `next` is added to others, or no longer
 added : (p : Phase) (came : List Timed) (text : List ℕ) (o : KeptOpen) (on : Bool) → IsToldIn p came text o → IsToldIn p came text (record o { adds_next = on })
@@ -203,11 +230,11 @@ added Over came text o on h = λ rest may. h rest (comes o (record o { adds_next
 added Lost came text o on h = h
 
 pub grows-added : (old new : KeptSession) (o p : KeptOpen) (on : Bool) → p ≡ record o { adds_next = on } →
-    new.opened ≡ set old.opened old.current p → new.current ≡ old.current → old.current < length old.opened → get_or old.opened old.current o ≡ o →
+    new.opened ≡ set old.opened old.current p → new.current ≡ old.current → new.traces ≡ old.traces → old.current < length old.opened → get_or old.opened old.current o ≡ o →
     Grows (λ es. es) [] old new
-grows-added old new o p on is opened current within found =
-    grows-set old new o p (record o { adds_next = on }) is (record { name = refl; spec = refl }) (λ came text h. added o.phase came text o on h)
-    opened current within found
+grows-added old new o p on is opened current traces within found =
+    grows-set old new o p (record o { adds_next = on }) is (record { name = refl; spec = refl; traced = refl }) (λ came text h. added o.phase came text o on h)
+    opened current traces within found
 
 -- what was told, and a line that tells nothing of a report
 answered-by : (old new : KeptSession) (p : Piece) → told p ≡ [] → (more : List Experiment → List Experiment) (first mid last : List ℕ) →
@@ -227,45 +254,99 @@ pub answered-grows : (old new : KeptSession) (a : Answer) (add : Option Answer) 
 answered-grows old new a None more first mid last (bytes, is, grows) e fine = answered-by old new (Answered a) refl more first mid last (bytes, is, grows fine) e
 answered-grows old new a (Some b) more first mid last (bytes, is, grows) e fine = answered-by old new (AnsweredBoth a b) refl more first mid last (bytes, is, grows fine) e
 
+-- a request that changes neither what is told nor tracing
+abbrev pub IsQuiet : Asked → Type 0
+IsQuiet (Show all) = all ≡ true
+IsQuiet (Trace on) = ⊥
+IsQuiet _ = Unit {0}
+
+quiet-turns : (q : Asked) (was on : Bool) → IsQuiet q → TurnsBy (Ok q) was on → was ≡ on
+quiet-turns (Until limit) was on quiet turns = turns
+quiet-turns (UntilMine limit hold) was on quiet turns = turns
+quiet-turns (UntilAny limit hold) was on quiet turns = turns
+quiet-turns Next was on quiet turns = turns
+quiet-turns (AddNext add) was on quiet turns = turns
+quiet-turns (Use name) was on quiet turns = turns
+quiet-turns (Show true) was on quiet turns = turns
+quiet-turns (Show false) was on quiet turns = absurd turns
+quiet-turns (Trace new) was on quiet turns = absurd quiet
+quiet-turns Help was on quiet turns = turns
+
+pub asks-quiet : (q : Asked) (bytes : List ℕ) (old new : KeptSession) → IsQuiet q → Grows (λ es. es) bytes old new → Asks (Ok q) bytes old new
+asks-quiet q bytes old new quiet grows was on es text turns early h =
+    subst (λ (b : Bool). TellsAll b es (text ++ bytes) new) (quiet-turns q was on quiet turns) (grows was es text h)
+
+-- what is shown is all, or else what was told before need not go on
+pub asks-show : (all : Bool) (old new : KeptSession) → ((all ≡ false → ⊥) → Grows (λ es. es) [] old new) → Asks (Ok (Show all)) [] old new
+asks-show true old new grows = asks-quiet (Show true) [] old new refl (grows (λ is. absurd (cc)))
+asks-show false old new grows = λ was on es text turns early h. absurd turns
+
+-- tracing is turned on or off
+no-stands : (xs : List Stand) → [] ≡ map its xs → xs ≡ []
+no-stands [] is = refl
+no-stands (x ∷ xs) is = absurd (cc)
+
+traced-tells : (was on : Bool) (es : List Experiment) (text : List ℕ) (old new : KeptSession) → new ≡ record old { traces = on } → (was ≡ on) ⊎ (es ≡ []) → TellsAll was es text old →
+    TellsAll on es text new
+traced-tells was on es text old new is (inl same) h = subst (TellsAll on es text) (sym is) (record {
+  stands = h.stands;
+  experiments_are = h.experiments_are;
+  text_is = h.text_is;
+  opened_are = h.opened_are;
+  each = subst (λ (b : Bool). AllByRecursion (IsSoFar b) h.stands) same h.each;
+  last = h.last;
+  traces = refl;
+})
+traced-tells was on es text old new is (inr none) h = subst (TellsAll on es text) (sym is) (record {
+  stands = h.stands;
+  experiments_are = h.experiments_are;
+  text_is = h.text_is;
+  opened_are = h.opened_are;
+  each = subst (AllByRecursion (IsSoFar on)) (sym (no-stands h.stands (sym none ∙ h.experiments_are))) tt;
+  last = h.last;
+  traces = refl;
+})
+
+pub asks-trace : (on : Bool) (old new : KeptSession) → new ≡ record old { traces = on } → Asks (Ok (Trace on)) [] old new
+asks-trace on old new is was next es text turns early h =
+    subst (λ (l : List ℕ). TellsAll next es l new) (sym (append-nil text))
+    (traced-tells was next es text old new (is ∙ ap (λ (b : Bool). record old { traces = b }) turns) early h)
+
 -- what can be asked is told
 pub helped : (old : KeptSession) (first last : List ℕ) → last ≡ first ++ help_lines → (ps : List Piece) × (last ≡ first ++ flat_map written ps) × Grows (λ es. es) (flat_map told ps) old old
 helped old first last is = (Helped ∷ [], is ∙ ap (λ (l : List ℕ). first ++ l) (sym (append-nil help_lines)), grows-none old old refl)
 
 -- what an experiment told
-pub asked-told : (P : Type 0) (old new : KeptSession) (first last : List ℕ) (r : Result Answer AllocError) →
+pub asked-told : (q : Asked) (old new : KeptSession) (first last : List ℕ) (r : Result Answer AllocError) → IsQuiet q →
     IfOk r (λ a. (bytes : List ℕ) × (last ≡ first ++ bytes) × Grows (λ es. es) bytes old new) →
-    IfOk r (λ a. (ps : List Piece) × (last ≡ first ++ flat_map written ps) × ((IsFault a → ⊥) → AllByRecursion IsPlain ps → P → Grows (λ es. es) (flat_map told ps) old new))
-asked-told P old new first last (Ok a) (bytes, is, grows) = (
+    IfOk r (λ a. (ps : List Piece) × (last ≡ first ++ flat_map written ps) × ((IsFault a → ⊥) → AllByRecursion IsPlain ps → Asks (Ok q) (flat_map told ps) old new))
+asked-told q old new first last (Ok a) quiet (bytes, is, grows) = (
   Told bytes ∷ [],
   is ∙ ap (λ (l : List ℕ). first ++ l) (sym (append-nil bytes)),
-  λ fine plain p. subst (λ (l : List ℕ). Grows (λ es. es) l old new) (sym (append-nil bytes)) grows,
+  λ fine plain. asks-quiet q (bytes ++ []) old new quiet (subst (λ (l : List ℕ). Grows (λ es. es) l old new) (sym (append-nil bytes)) grows),
 )
-asked-told P old new first last (Err e) h = h
+asked-told q old new first last (Err e) quiet h = h
 
 requested-by : (old new : KeptSession) (p : Piece) → told p ≡ [] → (asked first mid last : List ℕ) →
-    ((ps : List Piece) × (mid ≡ first ++ flat_map written ps) × (AllByRecursion IsPlain ps →
-    (request_of asked ≡ Ok (Show false) → ⊥) → Grows (λ es. es) (flat_map told ps) old new)) →
+    ((ps : List Piece) × (mid ≡ first ++ flat_map written ps) × (AllByRecursion IsPlain ps → Asks (request_of asked) (flat_map told ps) old new)) →
     last ≡ mid ++ written p →
-    (ps : List Piece) × (last ≡ first ++ flat_map written ps) × (AllByRecursion IsPlain ps →
-    (request_of asked ≡ Ok (Show false) → ⊥) → Grows (λ es. es) (flat_map told ps) old new)
+    (ps : List Piece) × (last ≡ first ++ flat_map written ps) × (AllByRecursion IsPlain ps → Asks (request_of asked) (flat_map told ps) old new)
 requested-by old new p silent asked first mid last (ps, is, grows) e = (
   ps ++ p ∷ [],
   e ∙ ap (λ (l : List ℕ). l ++ written p) is ∙ append_assoc first (flat_map written ps) (written p)
       ∙ ap (λ (l : List ℕ). first ++ (flat_map written ps ++ l)) (sym (append-nil (written p)))
       ∙ ap (λ (l : List ℕ). first ++ l) (sym (flat_map-append written ps (p ∷ []))),
-  λ plain other.
-      subst (λ (l : List ℕ). Grows (λ es. es) l old new)
+  λ plain.
+      subst (λ (l : List ℕ). Asks (request_of asked) l old new)
       (sym (append-nil (flat_map told ps)) ∙ ap (λ (l : List ℕ). flat_map told ps ++ (l ++ [])) (sym silent) ∙ sym (flat_map-append told ps (p ∷ [])))
-      (grows (first_all IsPlain ps p plain) other),
+      (grows (first_all IsPlain ps p plain)),
 )
 
 -- a request's line that answers
 pub requested : (old new : KeptSession) (a : Answer) (add : Option Answer) (asked first mid last : List ℕ) →
-    ((ps : List Piece) × (mid ≡ first ++ flat_map written ps) × ((IsFault a → ⊥) → AllByRecursion IsPlain ps →
-    (request_of asked ≡ Ok (Show false) → ⊥) → Grows (λ es. es) (flat_map told ps) old new)) →
+    ((ps : List Piece) × (mid ≡ first ++ flat_map written ps) × ((IsFault a → ⊥) → AllByRecursion IsPlain ps → Asks (request_of asked) (flat_map told ps) old new)) →
     last ≡ mid ++ answer_with a add → (IsFault a → ⊥) →
-    (ps : List Piece) × (last ≡ first ++ flat_map written ps) × (AllByRecursion IsPlain ps →
-    (request_of asked ≡ Ok (Show false) → ⊥) → Grows (λ es. es) (flat_map told ps) old new)
+    (ps : List Piece) × (last ≡ first ++ flat_map written ps) × (AllByRecursion IsPlain ps → Asks (request_of asked) (flat_map told ps) old new)
 requested old new a None asked first mid last (ps, is, grows) e fine = requested-by old new (Answered a) refl asked first mid last (ps, is, grows fine) e
 requested old new a (Some b) asked first mid last (ps, is, grows) e fine = requested-by old new (AnsweredBoth a b) refl asked first mid last (ps, is, grows fine) e
 
@@ -313,13 +394,13 @@ get-some xs i x within is = slice_get-get_or xs i x within ∙ ap Some is
 
 -- the experiment that lines are for became another
 pub moves : (P : Answer → KeptOpen → KeptOpen → Type 0) (a : Answer) (old new : KeptSession) (o p : KeptOpen) →
-    new.opened ≡ set old.opened old.current p → new.current ≡ old.current → new.left ≡ old.left → old.current < length old.opened → get_or old.opened old.current o ≡ o →
+    new.opened ≡ set old.opened old.current p → new.current ≡ old.current → new.left ≡ old.left → new.traces ≡ old.traces → old.current < length old.opened → get_or old.opened old.current o ≡ o →
     P a o p → Moves P a old new
-moves P a old new o p opened current left within found by = record {
+moves P a old new o p opened current left traces within found by = record {
   before = o;
   after = p;
   current = get-some old.opened old.current o within found;
-  moved = λ i. record { opened = opened i; current = current i; left = left i };
+  moved = λ i. record { opened = opened i; current = current i; left = left i; traces = traces i };
   by = by;
 }
 
@@ -329,14 +410,14 @@ same-by (Some c) a P Q g h = (h.0, g h.1)
 
 -- a fault of the experiment that lines are for
 pub current-fault : (f : KeptOpen → Option Cause) (a : Answer) (old : KeptSession) (o p : KeptOpen) (kept : Type 0) → old.current < length old.opened → get_or old.opened old.current o ≡ o →
-    Answers (f o) a ((p ≡ o) × kept) → Answers (of_current f (current_of old)) a ((record { opened = set old.opened old.current p; current = old.current; left = old.left } ≡ old) × kept)
+    Answers (f o) a ((p ≡ o) × kept) → Answers (of_current f (current_of old)) a ((record { opened = set old.opened old.current p; current = old.current; left = old.left; traces = old.traces } ≡ old) × kept)
 current-fault f a old o p kept within found h =
-    let back : p ≡ o → record { opened = set old.opened old.current p; current = old.current; left = old.left } ≡ old = λ same.
-    ap (λ (l : List KeptOpen). record { opened = l; current = old.current; left = old.left })
+    let back : p ≡ o → record { opened = set old.opened old.current p; current = old.current; left = old.left; traces = old.traces } ≡ old = λ same.
+    ap (λ (l : List KeptOpen). record { opened = l; current = old.current; left = old.left; traces = old.traces })
     (ap (λ (q : KeptOpen). set old.opened old.current q) (same ∙ sym found) ∙ set-get_or old.opened old.current o) in
-    subst (λ (c : Option KeptOpen). Answers (of_current f c) a ((record { opened = set old.opened old.current p; current = old.current; left = old.left } ≡ old) × kept))
+    subst (λ (c : Option KeptOpen). Answers (of_current f c) a ((record { opened = set old.opened old.current p; current = old.current; left = old.left; traces = old.traces } ≡ old) × kept))
     (sym (get-some old.opened old.current o within found))
-    (same-by (f o) a ((p ≡ o) × kept) ((record { opened = set old.opened old.current p; current = old.current; left = old.left } ≡ old) × kept) (λ (x : (p ≡ o) × kept). (back x.0, x.1)) h)
+    (same-by (f o) a ((p ≡ o) × kept) ((record { opened = set old.opened old.current p; current = old.current; left = old.left; traces = old.traces } ≡ old) × kept) (λ (x : (p ≡ o) × kept). (back x.0, x.1)) h)
 
 -- what is said where a line is taken
 abbrev pub Says : Answer → KeptSession → List ℕ → List ℕ → Type 0
@@ -357,19 +438,19 @@ does-said f a s first mid last P did is says none =
 
 -- ---- what a line says
 pub hears-nothing : (line : List ℕ) (s : KeptSession) → IsEntry line Nothing → Hears line [] s s
-hears-nothing line s is e before text says h =
-    subst (λ (x : Entry). TellsAll (experiments (x ∷ before)) (text ++ []) s) (sym (is.only e says))
-    (subst (λ (l : List ℕ). TellsAll (experiments before) l s) (sym (append-nil text)) h)
+hears-nothing line s is on e before text says h =
+    subst (λ (x : Entry). TellsAll on (experiments (x ∷ before)) (text ++ []) s) (sym (is.only e says))
+    (subst (λ (l : List ℕ). TellsAll on (experiments before) l s) (sym (append-nil text)) h)
 
 hears-begin : (line name : List ℕ) (spec : Spec) (bytes : List ℕ) (old new : KeptSession) → IsEntry line (Begins name spec) →
     Grows (λ es. es ++ begun name spec ∷ []) bytes old new → Hears line bytes old new
-hears-begin line name spec bytes old new is grows e before text says h =
-    subst (λ (x : Entry). TellsAll (experiments (x ∷ before)) (text ++ bytes) new) (sym (is.only e says)) (grows (experiments before) text h)
+hears-begin line name spec bytes old new is grows on e before text says h =
+    subst (λ (x : Entry). TellsAll on (experiments (x ∷ before)) (text ++ bytes) new) (sym (is.only e says)) (grows on (experiments before) text h)
 
 hears-command : (line : List ℕ) (c : Timed) (bytes : List ℕ) (old new : KeptSession) → IsEntry line (Does c) →
     Grows (λ es. with_last es c) bytes old new → Hears line bytes old new
-hears-command line c bytes old new is grows e before text says h =
-    subst (λ (x : Entry). TellsAll (experiments (x ∷ before)) (text ++ bytes) new) (sym (is.only e says)) (grows (experiments before) text h)
+hears-command line c bytes old new is grows on e before text says h =
+    subst (λ (x : Entry). TellsAll on (experiments (x ∷ before)) (text ++ bytes) new) (sym (is.only e says)) (grows on (experiments before) text h)
 
 pub heard-begin : {T : Type 0} (P : T → Type 0) (line name : List ℕ) (spec : Spec) (old new : KeptSession) (first last : List ℕ) (r : Result T AllocError) → IsEntry line (Begins name spec) →
     IfOk r (λ f. P f → (ps : List Piece) × (last ≡ first ++ flat_map written ps) × (AllByRecursion IsPlain ps → Grows (λ es. es ++ begun name spec ∷ []) (flat_map told ps) old new)) →
@@ -396,22 +477,30 @@ some_part (x ∷ xs) = made (eqb x 32) x (parts 32 xs)
 skipped : (rest : List ℕ) → is_skipped (words (35 ∷ 62 ∷ rest)) ≡ true
 skipped rest = let p = some_part rest in ap (λ (ps : List (List ℕ)). is_skipped (filter is_word (onto_first 35 (onto_first 62 ps)))) p.2
 
-pub taken-request : LinesSayOne → (line asked : List ℕ) (old new : KeptSession) (first last : List ℕ) → line ≡ codes "#>" ++ asked →
-    ((ps : List Piece) × (last ≡ first ++ flat_map written ps) × (AllByRecursion IsPlain ps →
-    (request_of asked ≡ Ok (Show false) → ⊥) → Grows (λ es. es) (flat_map told ps) old new)) →
+pub taken-request : LinesSayOne → (line asked : List ℕ) (old new : KeptSession) (first last : List ℕ) → line ≡ codes "#>" ++ asked → Some asked ≡ asked_of line →
+    ((ps : List Piece) × (last ≡ first ++ flat_map written ps) × (AllByRecursion IsPlain ps → Asks (request_of asked) (flat_map told ps) old new)) →
     (ps : List Piece) × (last ≡ first ++ flat_map written ps) × Takes line ps old new
-taken-request one line asked old new first last is (ps, wrote, grows) = (
+taken-request one line asked old new first last is asks (ps, wrote, grows) = (
   ps,
   wrote,
   record {
-    hears = λ plain other e before text says h.
-        subst (λ (x : Entry). TellsAll (experiments (x ∷ before)) (text ++ flat_map told ps) new)
+    hears = λ plain was on e before text turns early says h.
+        subst (λ (x : Entry). TellsAll on (experiments (x ∷ before)) (text ++ flat_map told ps) new)
         (one line Nothing e (inl (ap (λ (l : List ℕ). is_skipped (words l)) is ∙ skipped asked, refl)) says)
-        (grows plain (λ m. other (asked, is, m)) (experiments before) text h);
+        (grows plain was on (experiments before) text (subst (λ (o : Option (List ℕ)). TurnsIn o was on) (sym asks) turns) early h);
   },
 )
 
-pub taken-line : (line : List ℕ) (old new : KeptSession) (first last : List ℕ) →
+pub taken-line : (line : List ℕ) (old new : KeptSession) (first last : List ℕ) → None ≡ asked_of line →
     ((ps : List Piece) × (last ≡ first ++ flat_map written ps) × (AllByRecursion IsPlain ps → Hears line (flat_map told ps) old new)) →
     (ps : List Piece) × (last ≡ first ++ flat_map written ps) × Takes line ps old new
-taken-line line old new first last (ps, wrote, hears) = (ps, wrote, record { hears = λ plain other. hears plain })
+taken-line line old new first last asks (ps, wrote, hears) = (
+  ps,
+  wrote,
+  record {
+    hears = λ plain was on e before text turns early says h.
+        subst (λ (b : Bool). TellsAll b (experiments (e ∷ before)) (text ++ flat_map told ps) new)
+        (subst (λ (o : Option (List ℕ)). TurnsIn o was on) (sym asks) turns)
+        (hears plain was e before text says h);
+  },
+)

@@ -22,7 +22,8 @@ use Rattle.live.specs.Runs.{KeptRun, Forgets, Takes, IsQuiet, state_of, made_of,
 use Rattle.live.specs.Stops.{StopsAt}
 use Rattle.live.specs.Opens.{KeptOpen, stand_of}
 use Rattle.live.specs.Lines.{answer_with, help_lines}
-use Rattle.live.specs.Requests.{Asked, Until, UntilMine, UntilAny, Next, AddNext, Use, Show, Help, asked_of, request_of}
+use Rattle.live.specs.Requests.{Asked, Until, UntilMine, UntilAny, Next, AddNext, Use, Show, Trace, Help, asked_of, request_of}
+use Rattle.live.specs.Tracing.{spec_as, command_as}
 use Rattle.live.specs.Sessions.{KeptSession}
 use Rattle.live.specs.Faults.{current_of, left_after, place_named}
 
@@ -162,14 +163,16 @@ Obeys Next bytes a old new = (o : KeptOpen) × (current_of old ≡ Some o) × (n
 Obeys (AddNext on) bytes a old new = (bytes ≡ []) × Moves (λ a o p. (p ≡ record o { adds_next = on }) × (a ≡ answers.Done)) a old new
 Obeys (Show all) bytes a old new = (bytes ≡ []) × Moves (λ a o p. (p ≡ record o { run = record o.run { shows_all = all } }) × (a ≡ answers.Done)) a old new
 Obeys (Use name) bytes a old new = (place : ℕ) × (place_named name old.opened ≡ Some place) × (new ≡ record old { current = place }) × (bytes ≡ codes "#: " ++ name ++ codes "\n") × (a ≡ answers.Done)
+Obeys (Trace on) bytes a old new = (bytes ≡ []) × (new ≡ record old { traces = on }) × (a ≡ answers.Done)
 Obeys Help bytes a old new = (new ≡ old) × (bytes ≡ help_lines) × (a ≡ answers.Done)
 
--- an experiment begins: nothing has happened in it, and all records will be reported
+-- an experiment begins: nothing has happened in it, and all records will be reported; it runs traced if tracing is on
 pub record IsBegun (name : List ℕ) (spec : Spec) (bytes : List ℕ) (a : Answer) (old new : KeptSession) : Type 0 where
   pub opened : KeptOpen
   pub name_is : opened.name ≡ name
-  pub spec_is : opened.run.experiment.spec ≡ spec
-  pub state : state_of opened.run ≡ initial_state spec []
+  pub traced_is : opened.traced ≡ old.traces
+  pub spec_is : opened.run.experiment.spec ≡ spec_as old.traces spec
+  pub state : state_of opened.run ≡ initial_state (spec_as old.traces spec) []
   pub counts : Counts [] opened.run.report
   pub shows : opened.run.shows_all ≡ true
   pub mine : opened.run.mine ≡ []
@@ -179,12 +182,12 @@ pub record IsBegun (name : List ℕ) (spec : Spec) (bytes : List ℕ) (a : Answe
   pub phase : opened.phase ≡ phases.Going
   pub told : bytes ≡ heading_of name
   pub answer : a ≡ answers.Done
-  pub is : new ≡ record { opened = old.opened ++ opened ∷ []; current = length old.opened; left = left_after old.left spec.budget.steps }
+  pub is : new ≡ record { opened = old.opened ++ opened ∷ []; current = length old.opened; left = left_after old.left spec.budget.steps; traces = old.traces }
 
 abbrev pub Follows : Entry → List ℕ → Answer → KeptSession → KeptSession → Type 0
 Follows Nothing bytes a old new = ⊥
 Follows (Begins name spec) bytes a old new = IsBegun name spec bytes a old new
-Follows (Does c) bytes a old new = Moves (λ a o p. ObeysIn o.phase c bytes a o p) a old new
+Follows (Does c) bytes a old new = Moves (λ a o p. ObeysIn o.phase (command_as o.traced c) bytes a o p) a old new
 
 -- the output for an accepted line: what happened, and then the answer; a blank line or a comment has no output
 abbrev pub IsSaid : List ℕ → KeptSession → (List ℕ → Answer → Type 0) → Type 0

@@ -12,7 +12,7 @@ use Rattle.live.specs.declared.answer.Answer.TheVariants as answers
 use Rattle.live.specs.declared.open.Phase.{Phase}
 use Rattle.live.specs.declared.open.Phase.TheVariants.{Going, Over, Lost}
 use Rattle.live.specs.Opens.{KeptOpen, IsFault}
-use Rattle.live.specs.Requests.{Asked, Until, UntilMine, UntilAny, Next, AddNext, Use, Show, Help, asked_of, request_of}
+use Rattle.live.specs.Requests.{Asked, Until, UntilMine, UntilAny, Next, AddNext, Use, Show, Trace, Help, asked_of, request_of}
 use Rattle.live.specs.Sessions.{KeptSession}
 
 -- the cause of a fault that a line has by itself
@@ -73,6 +73,7 @@ request_fault s Next = of_current (λ o. None) (current_of s)
 request_fault s (AddNext on) = of_current (λ o. None) (current_of s)
 request_fault s (Show all) = of_current (λ o. None) (current_of s)
 request_fault s (Use name) = if is_some (place_named name s.opened) then None else Some NoExperiment
+request_fault s (Trace on) = None
 request_fault s Help = None
 
 -- the fault of the line of a request, if it has one

@@ -4,6 +4,7 @@ pub mod Runs
 pub mod Stops
 pub mod Lines
 pub mod Requests
+pub mod Tracing
 pub mod Opens
 pub mod RunLaws
 pub mod Sessions

@@ -69,5 +69,6 @@ help_lines =
     ++ codes "# #> next                    when the next event is due\n"
     ++ codes "# #> next on|off             other answers also say when the next event is due, or not\n"
     ++ codes "# #> show mine|all           tell what concerns injected packets, or all\n"
+    ++ codes "# #> trace on|off            later experiments are traced from their first event on, or not\n"
     ++ codes "# #> use NAME                the lines that follow are for this experiment\n"
     ++ codes "# other lines are those of a scenario: experiment NAME seed S budget B [steps N], @M COMMAND, @M end\n"

@@ -10,8 +10,8 @@ use Rattle.live.specs.declared.open.Phase.TheVariants.{Going, Over, Lost}
 use Rattle.live.specs.Runs.{KeptRun, IsAt, Forgets, closing_of}
 use Rattle.live.specs.RunLaws.{report_of_commands}
 
--- its name, its run, the time that it has reached, its phase, whether its `end` has arrived, and whether the answer to
--- `next` is added to others
+-- its name, its run, the time that it has reached, its phase, whether its `end` has arrived, whether the answer to `next` is
+-- added to others, and whether it runs traced
 pub record KeptOpen : Type 0 where
   pub name : List ℕ
   pub run : KeptRun
@@ -19,6 +19,7 @@ pub record KeptOpen : Type 0 where
   pub phase : Phase
   pub is_closed : Bool
   pub adds_next : Bool
+  pub traced : Bool
 
 -- a running experiment waits at this time, and everything that it has written was passed on
 abbrev pub IsOpen : Phase → ℕ → KeptRun → Bool → Type 0
@@ -71,10 +72,11 @@ IsTakenIn Lost came told o = ⊥
 abbrev pub Takes : Timed → List ℕ → KeptOpen → KeptOpen → Type 0
 Takes c bytes old new = (came : List Timed) (told : List ℕ) → IsTold came told old → IsTakenIn new.phase (came ++ c ∷ []) (told ++ bytes) new
 
--- the name and the spec of the experiment do not change
+-- the name and the spec of the experiment do not change, nor whether it runs traced
 pub record IsSame (old new : KeptOpen) : Type 0 where
   pub name : new.name ≡ old.name
   pub spec : new.run.experiment.spec ≡ old.run.experiment.spec
+  pub traced : new.traced ≡ old.traced
 
 -- the new records are reported, with the counters if the experiment has ended, and everything written is passed on
 pub record Settles (old new : KeptOpen) (bytes : List ℕ) : Type 0 where

@@ -20,6 +20,7 @@ pub data Asked : Type 0 where
   AddNext : Bool → Asked
   Use : List ℕ → Asked
   Show : Bool → Asked
+  Trace : Bool → Asked
   Help : Asked
 
 abbrev pub view_request : Request → Asked
@@ -30,6 +31,7 @@ view_request code.Next = Next
 view_request (code.AddNext on) = AddNext on
 view_request (code.Use name) = Use name.now
 view_request (code.Show all) = Show all
+view_request (code.Trace on) = Trace on
 view_request code.Help = Help
 
 abbrev pub view_raw : RawRequest → Asked
@@ -40,6 +42,7 @@ view_raw raw.Next = Next
 view_raw (raw.AddNext on) = AddNext on
 view_raw (raw.Use name) = Use name.now
 view_raw (raw.Show all) = Show all
+view_raw (raw.Trace on) = Trace on
 view_raw raw.Help = Help
 
 -- ---- the words
@@ -110,6 +113,14 @@ shown_of ws = do
       else if bytes_eq word.0 (codes "mine") then ended_of (Show false) word.1
       else None
 
+-- on, or off
+unfoldable pub trace_of : Words → Option Asked
+trace_of ws = do
+  word ← next ws
+  if bytes_eq word.0 (codes "on") then ended_of (Trace true) word.1
+      else if bytes_eq word.0 (codes "off") then ended_of (Trace false) word.1
+      else None
+
 unfoldable pub shape_of : Words → Option Asked
 shape_of ws = do
   word ← next ws
@@ -117,6 +128,7 @@ shape_of ws = do
       else if bytes_eq word.0 (codes "next") then next_of word.1
       else if bytes_eq word.0 (codes "use") then used_of word.1
       else if bytes_eq word.0 (codes "show") then shown_of word.1
+      else if bytes_eq word.0 (codes "trace") then trace_of word.1
       else if bytes_eq word.0 (codes "help") then ended_of Help word.1
       else None
 
@@ -141,6 +153,7 @@ asked_within Next = Some Next
 asked_within (AddNext on) = Some (AddNext on)
 asked_within (Use name) = Some (Use name)
 asked_within (Show all) = Some (Show all)
+asked_within (Trace on) = Some (Trace on)
 asked_within Help = Some Help
 
 abbrev pub ranged : Option Asked → Result Asked Cause

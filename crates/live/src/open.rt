@@ -12,6 +12,8 @@ ghost use Rattle.emu_model.specs.Step.{initial_state};
 ghost use Rattle.experiment.specs.Written.{CanWrite, Counts};
 ghost use Rattle.live.specs.Runs.{IsAt, state_of};
 ghost use Rattle.live.specs.Faults.{Answers, command_fault, time_fault};
+ghost use Rattle.control.specs.Traced.{traced_command};
+ghost use Rattle.live.specs.Tracing.{command_as, spec_as};
 ghost use Rattle.live.specs.Opens.{IsTold, Tells, Takes, Settles, IsSame, IsFault, stand_of};
 ghost use Rattle.live.specs.declared.answer.Answer.TheVariants as answers;
 ghost use Rattle.live.specs.declared.open.Phase.TheVariants.{Lost, Going, Over};
@@ -49,6 +51,8 @@ pub struct Open {
     is_closed: bool,
     // True if the answer to `next` is added to other answers.
     adds_next: bool,
+    // True if tracing is on from the first event, and never off.
+    traced: bool,
 }
 
 impl Model for Open {
@@ -63,6 +67,7 @@ impl Model for Open {
       phase = o.phase;
       is_closed = o.is_closed;
       adds_next = o.adds_next;
+      traced = o.traced;
     } };
 
     ghost invariant = { λ o. IsOpen o.phase o.reached o.run o.is_closed };
@@ -78,6 +83,38 @@ fn is_end(command: &Command) -> bool
     }
 }
 
+// Returns the spec of an experiment as it runs.
+fn spec_as(spec: Spec, traced: bool) -> Spec
+    ensures { result ≡ spec_as traced spec }
+{
+    let mut ran = spec;
+    if traced {
+        ran.traced = true;
+    }
+    ran
+}
+
+// Makes a `trace` command `trace 1`.
+fn trace(command: &mut Timed)
+    ensures { command.new ≡ traced_command command.old }
+{
+    if let Command::Trace(_) = command.command {
+        command.command = Command::Trace(true);
+    }
+}
+
+// Returns a command as an experiment obeys it.
+fn command_as(command: &Timed, traced: bool) -> Timed
+    ensures value { result ≡ command_as traced command.now }
+    ensures moment { result.moment ≡ command.now.moment }
+{
+    let mut obeyed = *command;
+    if traced {
+        trace(&mut obeyed);
+    }
+    obeyed
+}
+
 // Returns the answer to a command that was applied.
 fn answer_of(taken: Taken) -> Answer
     ensures value { result ≡ answer_of taken }
@@ -91,21 +128,25 @@ fn answer_of(taken: Taken) -> Answer
 }
 
 impl Open {
-    /// Creates an experiment that has no commands yet, and appends the line with its name.
+    /// Creates an experiment that has no commands yet, and appends the line with its name. If it is
+    /// `traced`, its packets are traced from the first event on.
     pub fn new(
         alloc: Global,
         name: &[u8],
         spec: Spec,
+        traced: bool,
         out: &mut Vec<u8>,
     ) -> Result<Self, AllocError>
         ensures told { IfOk result (λ o. (out.new.items ≡ out.old.items ++ heading_of name.now)
             × IsTold [] (heading_of name.now) o) }
-        ensures given { IfOk result (λ o. (o.name ≡ name.now) × (o.run.experiment.spec ≡ spec)
-            × (o.reached ≡ 0) × (o.phase ≡ Going) × (o.is_closed ≡ false) × (o.adds_next ≡ false)) }
-        ensures begins { IfOk result (λ o. (state_of o.run ≡ initial_state spec [])
+        ensures given { IfOk result (λ o. (o.name ≡ name.now)
+            × (o.run.experiment.spec ≡ spec_as traced spec)
+            × (o.reached ≡ 0) × (o.phase ≡ Going) × (o.is_closed ≡ false) × (o.adds_next ≡ false)
+            × (o.traced ≡ traced)) }
+        ensures begins { IfOk result (λ o. (state_of o.run ≡ initial_state (spec_as traced spec) [])
             × Counts [] o.run.report × (o.run.shows_all ≡ true) × (o.run.mine ≡ [])) }
     {
-        let mut run = Run::new(alloc, name, spec)?;
+        let mut run = Run::new(alloc, name, spec_as(spec, traced))?;
         run.hand_out(out)?;
         Ok(Open {
             name: Vec::from_slice(alloc, name)?,
@@ -114,6 +155,7 @@ impl Open {
             phase: Phase::Going,
             is_closed: false,
             adds_next: false,
+            traced,
         })
     }
 
@@ -298,10 +340,8 @@ impl Open {
         Answer::Over(self.reached)
     }
 
-    /// Processes a command: all events due before its time happen, and then the command is applied
-    /// or refused. A fault changes nothing. The command is a fault if `end` has already arrived, or
-    /// if its time is before the current time.
-    pub fn take(&mut self, command: &Timed, out: &mut Vec<u8>) -> Result<Answer, AllocError>
+    // Processes a command as `take` does, without changing it.
+    fn take_as_is(&mut self, command: &Timed, out: &mut Vec<u8>) -> Result<Answer, AllocError>
         requires { command.now.moment ≤ 10 ^ 15 }
         ensures told { IfOk result (λ a. ¬ IsFault a → (bytes : List ℕ)
             × (out.new.items ≡ out.old.items ++ bytes)
@@ -332,5 +372,25 @@ impl Open {
             return Ok(Answer::Over(self.reached));
         }
         Ok(answer_of(taken))
+    }
+
+    /// Processes a command: all events due before its time happen, and then the command is applied
+    /// or refused. In a traced experiment each `trace` command is applied as `trace 1`. A fault
+    /// changes nothing. The command is a fault if `end` has already arrived, or if its time is
+    /// before the current time.
+    pub fn take(&mut self, command: &Timed, out: &mut Vec<u8>) -> Result<Answer, AllocError>
+        requires { command.now.moment ≤ 10 ^ 15 }
+        ensures told { IfOk result (λ a. ¬ IsFault a → (bytes : List ℕ)
+            × (out.new.items ≡ out.old.items ++ bytes)
+            × Tells (command_as self.old.traced command.now ∷ []) bytes self.old self.new) }
+        ensures same { IfOk result (λ _. IsSame self.old self.new) }
+        ensures fault { IfOk result (λ a. Answers (command_fault self.old command.now.moment) a
+            ((self.new ≡ self.old) × (out.new.items ≡ out.old.items))) }
+        ensures obeys { IfOk result (λ a. ¬ IsFault a → (bytes : List ℕ)
+            × (out.new.items ≡ out.old.items ++ bytes)
+            × ObeysIn self.old.phase (command_as self.old.traced command.now) bytes a self.old self.new) }
+    {
+        let obeyed = command_as(command, self.traced);
+        self.take_as_is(&obeyed, out)
     }
 }

@@ -3,7 +3,7 @@
 
 ghost use Rattle.std.specs.Prelude.{◌≡◌, ◌≤◌, ◌^◌, ◌++◌, IfOk, IfSome, MatchResult, codes, option_map};
 ghost use Rattle.control_words.specs.Text.{words as words_of};
-ghost use Rattle.live.specs.Requests.{IsInRange, asked_of, hold_of, first_of, until_of, used_of, shown_of, next_of, ended_of, shape_of, asked_within, time_within, request_of, view_request, view_raw};
+ghost use Rattle.live.specs.Requests.{IsInRange, asked_of, hold_of, first_of, until_of, used_of, shown_of, next_of, trace_of, ended_of, shape_of, asked_within, time_within, request_of, view_request, view_raw};
 
 use control::Cause;
 use control_words::addresses::name as name_in;
@@ -30,6 +30,8 @@ pub enum Request<'a> {
     Use { name: &'a [u8] },
     /// `show all`, `show mine`: sets which records are reported from now on.
     Show { all: bool },
+    /// `trace on`, `trace off`: sets whether experiments that begin from now on are traced.
+    Trace { on: bool },
     /// `help`: lists the requests.
     Help,
 }
@@ -44,6 +46,7 @@ enum RawRequest<'a> {
     AddNext { on: bool },
     Use { name: &'a [u8] },
     Show { all: bool },
+    Trace { on: bool },
     Help,
 }
 
@@ -141,6 +144,20 @@ fn show_request<'a>(words: &mut Words<'a>) -> Option<RawRequest<'a>>
     Some(RawRequest::Show { all })
 }
 
+// Parses what follows `trace`.
+#[tactic(auto, unfolding(crate::specs::Requests::trace_of))]
+fn trace_request<'a>(words: &mut Words<'a>) -> Option<RawRequest<'a>>
+    ensures { option_map view_raw result ≡ trace_of (words_of words.old.rest.now) }
+{
+    let word = words.next_word()?;
+    let on = is(word, "on");
+    if !on && !is(word, "off") {
+        return None;
+    }
+    words.expect_end()?;
+    Some(RawRequest::Trace { on })
+}
+
 // Parses the end of a request that has only one word.
 #[tactic(auto, unfolding(crate::specs::Requests::ended_of))]
 fn word_request<'a>(words: &mut Words<'a>, request: RawRequest<'a>) -> Option<RawRequest<'a>>
@@ -165,6 +182,8 @@ fn shape<'a>(words: &mut Words<'a>) -> Option<RawRequest<'a>>
         use_request(words)
     } else if is(word, "show") {
         show_request(words)
+    } else if is(word, "trace") {
+        trace_request(words)
     } else if is(word, "help") {
         word_request(words, RawRequest::Help)
     } else {
@@ -209,6 +228,7 @@ fn in_ranges(request: RawRequest) -> Option<Request>
         RawRequest::AddNext { on } => Some(Request::AddNext { on }),
         RawRequest::Use { name } => Some(Request::Use { name }),
         RawRequest::Show { all } => Some(Request::Show { all }),
+        RawRequest::Trace { on } => Some(Request::Trace { on }),
         RawRequest::Help => Some(Request::Help),
     }
 }

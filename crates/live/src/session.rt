@@ -5,11 +5,11 @@ ghost use Rattle.std.specs.List.{AllByRecursion};
 ghost use Rattle.control.specs.Scenario.{begun, with_last};
 ghost use Rattle.live.specs.Lines.{fault_of, answer_with};
 ghost use Rattle.live.specs.Opens.{IsFault};
-ghost use Rattle.live.specs.Requests.{IsInRange, Asked, Next, AddNext, Show, Use, request_of, view_request};
+ghost use Rattle.live.specs.Requests.{IsInRange, Asked, Next, AddNext, Show, Use, Trace, request_of, view_request};
 ghost use Rattle.control_lines.specs.Entries.{Does};
 ghost use Rattle.live.specs.Effects.{PassesIn, Moves, Obeys, Follows, IsAdded, IsBegun, IsSaid, DoesBy, LineDoes};
 ghost use Rattle.live.specs.Faults.{Answers, IsFaultAlone, IsFaultOf, cause_of, place_named, current_of, of_current, begin_fault, command_fault, exceeds, left_after, time_fault, request_fault, asked_fault};
-ghost use Rattle.live.specs.Sessions.{Piece, IsPlain, Grows, Hears, Takes, written, told};
+ghost use Rattle.live.specs.Sessions.{Piece, IsPlain, Grows, Asks, Hears, Takes, written, told};
 
 use crate::answer::{Answer, put_answer_with};
 use crate::fates::Stop;
@@ -32,6 +32,7 @@ const HELP: &[u8] = b"\
 # #> next                    when the next event is due\n\
 # #> next on|off             other answers also say when the next event is due, or not\n\
 # #> show mine|all           tell what concerns injected packets, or all\n\
+# #> trace on|off            later experiments are traced from their first event on, or not\n\
 # #> use NAME                the lines that follow are for this experiment\n\
 # other lines are those of a scenario: experiment NAME seed S budget B [steps N], @M COMMAND, @M end\n";
 
@@ -43,6 +44,8 @@ pub struct Session {
     current: usize,
     // The steps that further experiments may take together, if there is a limit.
     left: Option<u64>,
+    // True if further experiments are traced.
+    traces: bool,
 }
 
 impl Model for Session {
@@ -50,7 +53,12 @@ impl Model for Session {
 
     ghost Value = { KeptSession };
 
-    ghost view = { λ s. record { opened = s.open.items; current = s.current; left = s.left } };
+    ghost view = { λ s. record {
+      opened = s.open.items;
+      current = s.current;
+      left = s.left;
+      traces = s.traces;
+    } };
 }
 
 // Returns the cause for a fault of a line.
@@ -75,15 +83,16 @@ fn steps_of(spec: &Spec) -> u64
 impl Session {
     /// Creates a session without experiments, whose experiments may take at most this many steps
     /// together, if there is a limit. A line that begins an experiment beyond it has the fault
-    /// `TooMany`. Does not allocate.
+    /// `TooMany`. Tracing is off. Does not allocate.
     pub fn new(alloc: Global, steps: Option<u64>) -> Self
-        ensures { result ≡ record { opened = []; current = 0; left = steps } }
+        ensures { result ≡ record { opened = []; current = 0; left = steps; traces = false } }
     {
         Session {
             alloc,
             open: Vec::new(alloc),
             current: 0,
             left: steps,
+            traces: false,
         }
     }
 
@@ -163,7 +172,7 @@ impl Session {
         if self.exceeds(steps) {
             return Ok(Answer::Fault(Cause::TooMany));
         }
-        let begun = Open::new(self.alloc, name, spec, out)?;
+        let begun = Open::new(self.alloc, name, spec, self.traces, out)?;
         self.left = self.left_after(steps);
         self.current = self.open.len();
         self.open.push(begun)?;
@@ -262,6 +271,16 @@ impl Session {
         Answer::Done
     }
 
+    // Sets whether experiments that begin from now on are traced.
+    fn trace(&mut self, on: bool) -> Answer
+        ensures asks { Asks (Ok (Trace on)) [] self.old self.new }
+        ensures traces { Obeys (Trace on) [] result self.old self.new }
+        ensures fine { ¬ IsFault result }
+    {
+        self.traces = on;
+        Answer::Done
+    }
+
     // Returns the time of the next event in the current experiment, as an answer.
     fn next(&self) -> Answer
         ensures fault { Answers (of_current (λ _. None) (current_of self.now)) result ⊤ }
@@ -279,8 +298,7 @@ impl Session {
         ensures grows { IfOk result (λ a. (ps : List Piece)
             × (out.new.items ≡ out.old.items ++ flat_map written ps)
             × (¬ IsFault a → AllByRecursion IsPlain ps →
-            ¬ (view_request request.entry ≡ Show false) →
-            Grows (λ es. es) (flat_map told ps) self.old self.new)) }
+            Asks (Ok (view_request request.entry)) (flat_map told ps) self.old self.new)) }
         ensures fault { IfOk result (λ a.
             Answers (request_fault self.old (view_request request.entry)) a
             ((self.new ≡ self.old) × (out.new.items ≡ out.old.items))) }
@@ -296,6 +314,7 @@ impl Session {
             Request::AddNext { on } => Ok(self.add_next(on)),
             Request::Use { name } => self.turn_to(name, out),
             Request::Show { all } => Ok(self.show(all)),
+            Request::Trace { on } => Ok(self.trace(on)),
             Request::Help => {
                 out.extend_from_slice(HELP)?;
                 Ok(Answer::Done)
@@ -308,8 +327,7 @@ impl Session {
         ensures grows { IfOk result (λ a. (ps : List Piece)
             × (out.new.items ≡ out.old.items ++ flat_map written ps)
             × (¬ IsFault a → AllByRecursion IsPlain ps →
-            ¬ (request_of asked.now ≡ Ok (Show false)) →
-            Grows (λ es. es) (flat_map told ps) self.old self.new)) }
+            Asks (request_of asked.now) (flat_map told ps) self.old self.new)) }
         ensures fault { IfOk result (λ a. Answers (asked_fault self.old (request_of asked.now)) a
             ((self.new ≡ self.old) × (out.new.items ≡ out.old.items))) }
         ensures obeys { IfOk result (λ a. ¬ IsFault a → (bytes : List ℕ)
@@ -330,8 +348,7 @@ impl Session {
         ensures grows { IfOk result (λ f. f ≡ None → (ps : List Piece)
             × (out.new.items ≡ out.old.items ++ flat_map written ps)
             × (AllByRecursion IsPlain ps →
-            ¬ (request_of asked.now ≡ Ok (Show false)) →
-            Grows (λ es. es) (flat_map told ps) self.old self.new)) }
+            Asks (request_of asked.now) (flat_map told ps) self.old self.new)) }
         ensures fault { IfOk result (λ f. (f ≡ asked_fault self.old (request_of asked.now))
             × (IsSome f → (self.new ≡ self.old) × (out.new.items ≡ out.old.items))) }
         ensures does { IfOk result (λ f. f ≡ None → (said : List ℕ)

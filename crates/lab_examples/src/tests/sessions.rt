@@ -110,6 +110,69 @@ fn adds_the_next_due_by_hand(rt: HostRuntime) {
     assert!(rt; written.as_slice() == ADDED_ANSWERED.as_bytes());
 }
 
+/// One packet in each experiment. Only the second one is traced: `trace on` changes none that has
+/// begun, and neither does `trace off`.
+const TRACED: &str = "experiment before seed 1 budget 1\n\
+    #> trace on\n\
+    @0 add 100 allow ip from any to any\n\
+    @0 inject udp 10.0.0.1 1000 10.0.0.2 2000 1000\n\
+    @1 trace 0\n\
+    @2 end\n\
+    experiment traced seed 1 budget 1\n\
+    #> next on\n\
+    #> trace off\n\
+    @0 trace 0\n\
+    @0 inject udp 10.0.0.1 1000 10.0.0.2 2000 1000\n\
+    @0 end\n\
+    #> trace\n\
+    #> trace onn\n\
+    experiment after seed 1 budget 1\n\
+    @0 inject udp 10.0.0.1 1000 10.0.0.2 2000 1000\n\
+    @0 end\n";
+
+const TRACED_ANSWERED: &str = "experiment before\n\
+    #< ok\n\
+    #< ok\n\
+    0 ok 0\n\
+    #< ok\n\
+    0 ok 1\n\
+    #< packet 0\n\
+    1 ok 2\n\
+    #< ok\n\
+    1 deliver 0 plain\n\
+    2 ok 3\n\
+    counters 1 1 0 0 0 0 0 0 0 0 0\n\
+    #< over 2\n\
+    experiment traced\n\
+    #< ok\n\
+    #< ok next none\n\
+    #< ok next none\n\
+    0 ok 0\n\
+    #< ok next none\n\
+    0 ok 1\n\
+    0 make 0 plain udp 10.0.0.1 1000 10.0.0.2 2000 1000\n\
+    0 drop 0 plain denied\n\
+    #< packet 0 next none\n\
+    0 ok 2\n\
+    counters 1 0 0 1 0 0 0 0 0 0 0\n\
+    #< over 0\n\
+    #< fault badword\n\
+    #< fault badword\n\
+    experiment after\n\
+    #< ok\n\
+    0 ok 0\n\
+    0 drop 0 plain denied\n\
+    #< packet 0\n\
+    0 ok 1\n\
+    counters 1 0 0 1 0 0 0 0 0 0 0\n\
+    #< over 0\n";
+
+#[test]
+fn traces_experiments_that_begin_later(rt: HostRuntime) {
+    let (_outcome, written) = talk(rt.alloc(), TRACED);
+    assert!(rt; written.as_slice() == TRACED_ANSWERED.as_bytes());
+}
+
 #[test]
 fn ends_as_a_text_does(rt: HostRuntime) {
     let (outcome, written) = talk(rt.alloc(), "experiment a seed 1 budget 1\n@0 end");

@@ -2,8 +2,8 @@
 
 use emu_model::{
     Action, Bandwidth, CodelTime, Counters, Delay, Discipline, DropCause, FlowNumber, KByteLimit,
-    Load, LossRate, Mask, PipeConfig, PipeNumber, PortRange, Prefix, PrefixLength, Protocol,
-    ProtocolMatch, QueueLimit, Record, Refusal, Rule, RuleNumber, Size, SlotLimit,
+    Load, LossRate, Mask, Origin, PipeConfig, PipeNumber, PortRange, Prefix, PrefixLength,
+    Protocol, ProtocolMatch, QueueLimit, Record, Refusal, Rule, RuleNumber, Size, SlotLimit,
 };
 use report::{
     Moments, pipe_listing, report_text, rule_listing, write_counters, write_heading, write_record,
@@ -416,7 +416,7 @@ fn lines_of_a_trace(rt: HostRuntime) {
         Record::PacketMade {
             moment: 0,
             packet: 0,
-            load: Load::Plain,
+            origin: Origin::ByCommand(0),
             proto: Protocol::Udp,
             src: 0,
             sport: 0,
@@ -427,7 +427,7 @@ fn lines_of_a_trace(rt: HostRuntime) {
         Record::PacketMade {
             moment: u64::MAX,
             packet: u64::MAX,
-            load: Load::Seg {
+            origin: Origin::BySender {
                 flow: last_flow,
                 first: u64::MAX,
             },
@@ -441,7 +441,7 @@ fn lines_of_a_trace(rt: HostRuntime) {
         Record::PacketMade {
             moment: 11200000,
             packet: 3,
-            load: Load::Ack {
+            origin: Origin::ByReceiver {
                 flow: first_flow,
                 upto: 1460,
             },

@@ -1,5 +1,6 @@
-use Rattle.std.proofs.Common.{◌∙◌, ap}
-use Rattle.std.specs.Prelude.{Ok}
+use Rattle.std.proofs.Common.{subst, sym}
+use Rattle.std.specs.Prelude.{flat_map}
+use Rattle.live.specs.Sessions.{Asks, told}
 use Rattle.live.specs.Requests.{view_request}
 use Rattle.live.proofs.SessionFacts.{if_ok}
 use Rattle.live.proofs.session.Session.answer.Goals as goal
@@ -10,4 +11,6 @@ returns-in-Ok-clause-obeys c =
 
 pub returns-in-Ok-clause-grows : goal.returns-in-Ok-clause-grows
 returns-in-Ok-clause-grows c =
-    if_ok _ _ c.obey.result (λ a h. (h.0, h.1, λ fine plain other. h.2 fine plain (λ e. other (c.in-Ok.ensures.value ∙ ap Ok e)))) c.obey.ensures.grows
+    if_ok _ _ c.obey.result
+    (λ a h. (h.0, h.1, λ fine plain. subst (λ r. Asks r (flat_map told h.0) c.args.self.now c.obey.new.self) (sym c.in-Ok.ensures.value) (h.2 fine plain)))
+    c.obey.ensures.grows

@@ -6,6 +6,7 @@ use Rattle.control.specs.Scenario.{with_last}
 use Rattle.live.proofs.SessionFacts.{by-fault, faulty, grows-command}
 use Rattle.control_lines.specs.Entries.{Does}
 use Rattle.live.specs.Effects.{Follows, ObeysIn}
+use Rattle.live.specs.Tracing.{command_as}
 use Rattle.live.proofs.SessionFacts.{moves}
 use Rattle.live.specs.Faults.{Answers, of_current, current_of, command_fault}
 use Rattle.live.proofs.SessionFacts.{current-fault}
@@ -15,7 +16,7 @@ pub returns-clause-grows : goal.returns-clause-grows
 returns-clause-grows c =
     let h = c.in_ok-answer.ensures in
     let old : KeptSession = the_view c.self.inside in
-    let new : KeptSession = record { opened = set old.opened old.current c.take.new.self; current = old.current; left = old.left } in
+    let new : KeptSession = record { opened = set old.opened old.current c.take.new.self; current = old.current; left = old.left; traces = old.traces } in
     by-fault c.in_ok-answer.answer _
     (λ fault. ([], (faulty _ c.in_ok-answer.answer _ h.fault fault).1 ∙ sym (append-nil _), λ fine. absurd (fine fault)))
     (λ fine.
@@ -23,7 +24,7 @@ returns-clause-grows c =
       t.0,
       t.1,
       λ still. subst (λ (s : KeptSession). Grows (λ es. with_last es c.args.command.now) t.0 s new) c.self.view_is
-          (grows-command old new c.index_mut.result.now c.take.new.self t.0 c.args.command.now refl refl
+          (grows-command old new c.index_mut.result.now c.take.new.self t.0 c.args.command.now refl refl refl
           (let none = c.if-place-len.false in let len = c.len.ensures in let ok = c.self.inside.open.ok.0 in omega (arith, none, len, ok)) (sym c.index_mut.ensures.value) h.same t.2),
     ))
 
@@ -32,18 +33,18 @@ returns-clause-obeys c fine =
     let h = c.in_ok-answer.ensures in
     let t = h.obeys fine in
     let old : KeptSession = the_view c.self.inside in
-    let new : KeptSession = record { opened = set old.opened old.current c.take.new.self; current = old.current; left = old.left } in (
+    let new : KeptSession = record { opened = set old.opened old.current c.take.new.self; current = old.current; left = old.left; traces = old.traces } in (
       t.0,
       t.1,
       subst (λ (s : KeptSession). Follows (Does c.args.command.now) t.0 c.in_ok-answer.answer s new) c.self.view_is
-          (moves (λ a o p. ObeysIn o.phase c.args.command.now t.0 a o p) c.in_ok-answer.answer old new c.index_mut.result.now c.take.new.self refl refl refl
+          (moves (λ a o p. ObeysIn o.phase (command_as o.traced c.args.command.now) t.0 a o p) c.in_ok-answer.answer old new c.index_mut.result.now c.take.new.self refl refl refl refl
           (let none = c.if-place-len.false in let len = c.len.ensures in let ok = c.self.inside.open.ok.0 in omega (arith, none, len, ok)) (sym c.index_mut.ensures.value) t.2),
     )
 
 pub returns-clause-fault : goal.returns-clause-fault
 returns-clause-fault c =
     let old : KeptSession = the_view c.self.inside in
-    let new : KeptSession = record { opened = set old.opened old.current c.take.new.self; current = old.current; left = old.left } in
+    let new : KeptSession = record { opened = set old.opened old.current c.take.new.self; current = old.current; left = old.left; traces = old.traces } in
     subst (λ (s : KeptSession). Answers (of_current (λ o. command_fault o c.args.command.now.moment) (current_of s)) c.in_ok-answer.answer ((new ≡ s) × (c.take.new.out.items ≡ c.args.out.now.items))) c.self.view_is
     (current-fault (λ o. command_fault o c.args.command.now.moment) c.in_ok-answer.answer old c.index_mut.result.now c.take.new.self _
     (let none = c.if-place-len.false in let len = c.len.ensures in let ok = c.self.inside.open.ok.0 in omega (arith, none, len, ok)) (sym c.index_mut.ensures.value) c.in_ok-answer.ensures.fault)

@@ -12,17 +12,17 @@ use Rattle.live.proofs.session.Session.show.Goals as goal
 pub returns-clause-grows : goal.returns-clause-grows
 returns-clause-grows c other =
     let old : KeptSession = the_view c.self.inside in
-    let new : KeptSession = record { opened = set old.opened old.current c.show.new.self; current = old.current; left = old.left } in
+    let new : KeptSession = record { opened = set old.opened old.current c.show.new.self; current = old.current; left = old.left; traces = old.traces } in
     subst (λ (s : KeptSession). Grows (λ es. es) [] s new) c.self.view_is
-    (grows-shown old new c.index_mut.result.now c.show.new.self c.args.all c.show.ensures (shows-all c.args.all other) refl refl
+    (grows-shown old new c.index_mut.result.now c.show.new.self c.args.all c.show.ensures (shows-all c.args.all other) refl refl refl
     (let none = c.if-place-len.false in let len = c.len.ensures in let ok = c.self.inside.open.ok.0 in omega (arith, none, len, ok)) (sym c.index_mut.ensures.value))
 
 pub returns-clause-shows : goal.returns-clause-shows
 returns-clause-shows c fine =
     let old : KeptSession = the_view c.self.inside in
-    let new : KeptSession = record { opened = set old.opened old.current c.show.new.self; current = old.current; left = old.left } in
+    let new : KeptSession = record { opened = set old.opened old.current c.show.new.self; current = old.current; left = old.left; traces = old.traces } in
     subst (λ (s : KeptSession). Obeys (Show c.args.all) [] Done s new) c.self.view_is (
       refl,
-      moves (λ a o p. (p ≡ record o { run = record o.run { shows_all = c.args.all } }) × (a ≡ Done)) Done old new c.index_mut.result.now c.show.new.self refl refl refl
+      moves (λ a o p. (p ≡ record o { run = record o.run { shows_all = c.args.all } }) × (a ≡ Done)) Done old new c.index_mut.result.now c.show.new.self refl refl refl refl
           (let none = c.if-place-len.false in let len = c.len.ensures in let ok = c.self.inside.open.ok.0 in omega (arith, none, len, ok)) (sym c.index_mut.ensures.value) (c.show.ensures, refl),
     )

@@ -10,7 +10,7 @@ returns-then-line-gt-MAX_LINE-clause-fault c = inl (let many = c.if-line-gt-MAX_
 pub returns-in-Some-clause-takes : goal.returns-in-Some-clause-takes
 returns-in-Some-clause-takes c =
     if_ok _ _ c.take_request.result
-    (λ f h none. taken-request c.lines_say_one.ensures c.args.line.now c.in-Some.asked.now c.args.self.now c.take_request.new.self _ _ c.in-Some.ensures.rest (h none))
+    (λ f h none. taken-request c.lines_say_one.ensures c.args.line.now c.in-Some.asked.now c.args.self.now c.take_request.new.self _ _ c.in-Some.ensures.rest c.in-Some.ensures.value (h none))
     c.take_request.ensures.grows
 
 pub returns-in-Some-clause-fault : goal.returns-in-Some-clause-fault
@@ -24,7 +24,7 @@ returns-in-Some-clause-same c = if_ok _ _ c.take_request.result (λ f h. h.1) c.
 
 pub returns-in-None-clause-takes : goal.returns-in-None-clause-takes
 returns-in-None-clause-takes c =
-    if_ok _ _ c.take_line.result (λ f h none. taken-line c.args.line.now c.args.self.now c.take_line.new.self _ _ (h none)) c.take_line.ensures.hears
+    if_ok _ _ c.take_line.result (λ f h none. taken-line c.args.line.now c.args.self.now c.take_line.new.self _ _ c.in-None.ensures.value (h none)) c.take_line.ensures.hears
 
 pub returns-in-None-clause-fault : goal.returns-in-None-clause-fault
 returns-in-None-clause-fault c =
