@@ -8,7 +8,7 @@ use Rattle.alone.specs.declared.whole.Tally.{Tally}
 use Rattle.experiment.specs.Written.{KeptReport, texts_of}
 use Rattle.alone.specs.declared.limits.Format.{Format}
 use Rattle.alone.specs.declared.limits.Format.TheVariants.{Text}
-use Rattle.alone.specs.Reports.{bytes_as, made_alone, output_as, reports, tally, tally_of, tally_line, Reads, Writes, WritesCut, Ends, writer_failed}
+use Rattle.alone.specs.Reports.{bytes_as, made_alone, output_as, scenario_as, reports, tally, tally_of, tally_line, Reads, Writes, WritesCut, Ends, writer_failed}
 use Rattle.alone.specs.declared.fault.RunFault.TheVariants.{Scenario, Read, Write, Memory, Strange, Gate}
 use Rattle.alone.specs.declared.limits.Limits.{Limits}
 use Rattle.alone.specs.declared.limits.Stop.{Stop}
@@ -26,8 +26,8 @@ unfolding Puts
 all-written a b kept bytes none f = writing_done a b bytes (subst (λ k. Puts a k b [] bytes) none f a [] (writing_none a))
 
 -- reports that were made before
-pub same-output : (format : Format) (es plans : List Experiment) (rs : List KeptReport) → plans ≡ es → rs ≡ map made_alone plans → bytes_as format rs ≡ output_as format es
-same-output format es plans rs are made = ap (bytes_as format) made ∙ made_as format plans ∙ ap (output_as format) are
+pub same-output : (format : Format) (es plans : List Experiment) (rs : List KeptReport) → plans ≡ scenario_as format es → rs ≡ map made_alone plans → bytes_as format rs ≡ output_as format es
+same-output format es plans rs are made = ap (bytes_as format) (made ∙ ap (map made_alone) are) ∙ made_as format es
 
 pub same-texts : (es plans : List Experiment) (rs : List KeptReport) → plans ≡ es → rs ≡ map made_alone plans → texts_of rs ≡ reports es
 same-texts es plans rs are made = same-output Text es plans rs are made

@@ -4,16 +4,18 @@ use Rattle.std.specs.Prelude.{flat_map, slice_index_or}
 use Rattle.std.proofs.lemmas.List.{take_more, take-append-drop}
 use Rattle.std.proofs.lemmas.List.Concat.{flat_map-append}
 use Rattle.control.specs.declared.scenario.Experiment.{Experiment}
+use Rattle.control.specs.Traced.{traced}
 use Rattle.alone.specs.Bytes.{Puts, Stops}
 use Rattle.experiment.specs.Written.{KeptReport, rows_from, text_of, texts_of}
 use Rattle.alone.specs.declared.limits.Format.{Format}
-use Rattle.alone.specs.declared.limits.Format.TheVariants.{Text, Npy}
-use Rattle.alone.specs.Reports.{bytes_as, made_alone, output_as, report_alone, reports}
+use Rattle.alone.specs.declared.limits.Format.TheVariants.{Text, TracedText, Npy}
+use Rattle.alone.specs.Reports.{bytes_as, made_alone, output_as, report_alone, reports, scenario_as}
 use Rattle.alone.proofs.Writing.{puts_both, stops_any, stops_before, stops_behind}
 use Rattle.emu_model.specs.declared.records.Record.{Record}
 use Rattle.report.specs.Lines.{line_of}
 use Rattle.report.specs.Rows.{record_bytes, rows_of}
 use Rattle.report.proofs.Taken.{flat_map_further}
+use Rattle.experiment.proofs.Rooms.{rows-next}
 
 -- pieces in their turns
 module _ {A : Type 0} (f : A → List ℕ) where
@@ -56,25 +58,12 @@ pub texts_alone : (es : List Experiment) → texts_of (map made_alone es) ≡ re
 texts_alone [] = refl
 texts_alone (e ∷ es) = ap (λ (l : List ℕ). report_alone e ++ l) (texts_alone es)
 
-pub made_as : (format : Format) (es : List Experiment) → bytes_as format (map made_alone es) ≡ output_as format es
+pub made_as : (format : Format) (es : List Experiment) → bytes_as format (map made_alone (scenario_as format es)) ≡ output_as format es
 made_as Text es = texts_alone es
+made_as TracedText es = texts_alone (map traced es)
 made_as Npy es = refl
 
--- the rows of one report more, and of all
-rows-more : (first : ℕ) (rs : List KeptReport) (i : ℕ) (r : KeptReport) → i < length rs → r ≡ slice_index_or rs i r →
-    rows_from first (take i rs) ++ rows_of (min (first + i) 255) r.records r.counters ≡ rows_from first (take (suc i) rs)
-rows-more first [] i r below is = absurd (omega (arith, below))
-rows-more first (x ∷ rs) zero r below is =
-    let same : first + 0 ≡ first = omega arith in
-    ap (λ (n : ℕ). rows_of (min n 255) r.records r.counters) same
-    ∙ ap (λ (y : KeptReport). rows_of (min first 255) y.records y.counters) is ∙ sym (append-nil (rows_of (min first 255) x.records x.counters))
-rows-more first (x ∷ rs) (suc i) r below is =
-    let mine : List ℕ = rows_of (min first 255) x.records x.counters in
-    let next : first + suc i ≡ first + 1 + i = omega arith in
-    ap (λ (n : ℕ). rows_from first (take (suc i) (x ∷ rs)) ++ rows_of (min n 255) r.records r.counters) next
-    ∙ append_assoc mine (rows_from (first + 1) (take i rs)) (rows_of (min (first + 1 + i) 255) r.records r.counters)
-    ∙ ap (λ (l : List ℕ). mine ++ l) (rows-more (first + 1) rs i r (omega (arith, below)) is)
-
+-- the rows of all reports
 rows-all : (first : ℕ) (rs : List KeptReport) (i : ℕ) → rows_from first (take i rs) ++ rows_from (first + i) (drop i rs) ≡ rows_from first rs
 rows-all first [] zero = refl
 rows-all first [] (suc i) = refl
@@ -87,14 +76,6 @@ rows-all first (x ∷ rs) (suc i) =
     append_assoc mine (rows_from (first + 1) (take i rs)) (rows_from (first + suc i) (drop i rs))
     ∙ ap (λ (n : ℕ). mine ++ (rows_from (first + 1) (take i rs) ++ rows_from n (drop i rs))) next
     ∙ ap (λ (l : List ℕ). mine ++ l) (rows-all (first + 1) rs i)
-
-rows-next : (rs : List KeptReport) (i : ℕ) (r : KeptReport) → i < length rs → r ≡ slice_index_or rs i r →
-    rows_from 0 (take i rs) ++ rows_of (min i 255) r.records r.counters ≡ rows_from 0 (take (i + 1) rs)
-rows-next rs i r below is =
-    let same : i ≡ 0 + i = omega arith in
-    let next : suc i ≡ i + 1 = omega arith in
-    ap (λ (n : ℕ). rows_from 0 (take i rs) ++ rows_of (min n 255) r.records r.counters) same ∙ rows-more 0 rs i r below is
-    ∙ ap (λ (n : ℕ). rows_from 0 (take n rs)) next
 
 pub rows_puts : (a b c : Option (List ℕ)) (k l m : List ℕ) (rs : List KeptReport) (i : ℕ) (r : KeptReport) → i < length rs → r ≡ slice_index_or rs i r →
     Puts a k b l (rows_from 0 (take i rs)) → Puts b l c m (rows_of (min i 255) r.records r.counters) → Puts a k c m (rows_from 0 (take (i + 1) rs))

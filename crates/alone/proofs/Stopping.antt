@@ -11,7 +11,7 @@ use Rattle.alone.specs.declared.limits.Stop.TheVariants.{Fault, Steps, Output}
 use Rattle.alone.specs.Bytes.{IsCut, IsRead}
 use Rattle.experiment.specs.Written.{KeptReport}
 use Rattle.alone.specs.declared.limits.Format.{Format}
-use Rattle.alone.specs.Reports.{bytes_as, made_alone, output_as, Calls, IsInputFault, IsOwnFault, IsTextFault, reader_failed}
+use Rattle.alone.specs.Reports.{bytes_as, made_alone, output_as, scenario_as, Calls, IsInputFault, IsOwnFault, IsTextFault, reader_failed}
 use Rattle.alone.specs.Within.{CallsWithin, FailsUnwritten, IsOutputStop, IsOwnStop, IsPast, IsStepsStop, IsUnlimited, IsWithin, MakesWithin, StopsUnwritten, WritesOut, done_of, leaves, steps_of}
 use Rattle.alone.proofs.Endings.{same-output}
 use Rattle.alone.proofs.ReadFacts.{read_spells, read_faults}
@@ -102,18 +102,18 @@ steps_own limits es (Steps number total) stop = tt
 steps_own limits es (Output bytes) stop = absurd stop
 
 -- reports past theirs
-pub output_stop : (limits : Limits) (text : List ℕ) (es plans : List Experiment) (format : Format) (rs : List KeptReport) (s : Stop) → Spells text es → plans ≡ es →
-    IsWithin limits.steps (steps_of plans) → rs ≡ map made_alone plans →
+pub output_stop : (limits : Limits) (text : List ℕ) (es plans : List Experiment) (format : Format) (rs : List KeptReport) (s : Stop) → Spells text es → plans ≡ scenario_as format es →
+    IsWithin limits.steps (steps_of es) → rs ≡ map made_alone plans →
     IsOutputStop limits.output (length (bytes_as format rs)) s → StopsUnwritten limits (output_as format) (Some text) s
 output_stop limits text es plans format rs (Fault e) spells are fits made stop = subst (FailsUnwritten (Some text)) (sym stop) tt
 output_stop limits text es plans format rs (Steps number total) spells are fits made stop = absurd stop
 output_stop limits text es plans format rs (Output bytes) spells are fits made stop = (
-  plans,
-  subst (Spells text) (sym are) spells,
+  es,
+  spells,
   record {
     steps = fits;
     output = subst (IsPast limits.output) (sym stop.1) stop.0;
-    counted = stop.1 ∙ ap length (same-output format plans plans rs refl made);
+    counted = stop.1 ∙ ap length (same-output format es plans rs are made);
   },
 )
 
@@ -128,13 +128,13 @@ output_unread T limit n (Steps number total) stop = absurd stop
 output_unread T limit n (Output bytes) stop = refl
 
 -- neither
-pub made_within : (limits : Limits) (text : List ℕ) (es plans : List Experiment) (format : Format) (rs : List KeptReport) → Spells text es → plans ≡ es →
-    IsWithin limits.steps (steps_of plans) → rs ≡ map made_alone plans →
+pub made_within : (limits : Limits) (text : List ℕ) (es plans : List Experiment) (format : Format) (rs : List KeptReport) → Spells text es → plans ≡ scenario_as format es →
+    IsWithin limits.steps (steps_of es) → rs ≡ map made_alone plans →
     IsWithin limits.output (length (bytes_as format rs)) → MakesWithin limits (output_as format) (Some text) (bytes_as format rs)
 made_within limits text es plans format rs spells are fits made few =
-    let same = same-output format plans plans rs refl made in (
-      plans,
-      subst (Spells text) (sym are) spells,
+    let same = same-output format es plans rs are made in (
+      es,
+      spells,
       record { steps = fits; output = subst (λ l. IsWithin limits.output (length l)) same few },
       same,
     )

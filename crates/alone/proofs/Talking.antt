@@ -19,8 +19,8 @@ use Rattle.live.specs.Lines.{answer_line, comment_of}
 use Rattle.live.specs.Sessions.{KeptSession, Piece, IsPlain, TellsAll, Takes, told, written}
 use Rattle.alone.specs.declared.fault.RunFault.{RunFault}
 use Rattle.alone.specs.declared.fault.RunFault.TheVariants.{Scenario}
-use Rattle.alone.specs.Conversations.{AreClosed, AreReplied, Conversation, Hinting, IsAwaited, IsRefusal, Replies, count_of, next_line, nobody, seen_of, with_earlier}
-use Rattle.alone.specs.Talks.{KeptTalk, refusal, AsksForAll, Say, IsHeard, IsKept, IsReplied, Heard, GoesOn, IsEnding, counted}
+use Rattle.alone.specs.Conversations.{AreClosed, Hinting, IsAwaited, IsRefusal, Replies, next_line, nobody, seen_of, with_earlier}
+use Rattle.alone.specs.Talks.{KeptTalk, refusal, Say, IsHeard, IsKept, IsReplied, Heard, GoesOn, IsEnding, counted}
 
 -- ---- lines
 joined : List (List ℕ) → List ℕ
@@ -112,10 +112,11 @@ second_half P [] ys h = h
 second_half P (x ∷ xs) ys h = second_half P xs ys h.1
 
 heard-line : (line : List ℕ) (done : List (List ℕ)) (ps qs : List Piece) (s u : KeptSession) → IsHeard done ps s → Takes line qs s u → IsHeard (line ∷ done) (ps ++ qs) u
-heard-line line done ps qs s u h t mine plain [] say = absurd say
-heard-line line done ps qs s u h t mine plain (e ∷ before) say =
-    subst (λ (l : List ℕ). TellsAll (experiments (e ∷ before)) l u) (sym (flat_map-append told ps qs))
-    (t.hears (second_half IsPlain ps qs plain) mine.0 e before (flat_map told ps) say.0 (h mine.1 (first_half IsPlain ps qs plain) before say.1))
+heard-line line done ps qs s u h t on [] say turns plain = absurd say
+heard-line line done ps qs s u h t on (e ∷ before) say (was, turn, early, turns) plain =
+    subst (λ (l : List ℕ). TellsAll on (experiments (e ∷ before)) l u) (sym (flat_map-append told ps qs))
+    (t.hears (second_half IsPlain ps qs plain) was on e before (flat_map told ps) turn early say.0
+    (h was before say.1 turns (first_half IsPlain ps qs plain)))
 
 pub goes-both : (hinting : Hinting) (a b : List ℕ) (ps qs : List Piece) (r s t : KeptTalk) → GoesOn hinting a ps r s → GoesOn hinting b qs s t → GoesOn hinting (a ++ b) (ps ++ qs) r t
 goes-both hinting a b ps qs r s t f g steps text first h =
@@ -224,7 +225,7 @@ goes-long hinting hint bytes s t takes no_feed many may session lines_are none s
       now = session ∙ h.now;
       counted = lines_are ∙ h.counted;
       kept = kept_long t.is_skipping (c.last ++ bytes) t.part skips long none;
-      heard = λ mine plain. absurd (not_plain hint (second_half IsPlain ps (refusal hint TooLong) plain));
+      heard = λ on before say turns plain. absurd (not_plain hint (second_half IsPlain ps (refusal hint TooLong) plain));
       takes = λ plain. absurd (not_plain hint (second_half IsPlain ps (refusal hint TooLong) plain));
     }
 
@@ -326,14 +327,14 @@ goes-past hinting s t skips session part takes count steps text ps h =
       now = session ∙ h.now;
       counted = ap next_line (count ∙ h.counted);
       kept = kept_short t.is_skipping [] t.part takes (omega arith) (part ∙ w.1);
-      heard = λ mine plain. absurd (never s.is_skipping skips (h.takes plain));
+      heard = λ on before say turns plain. absurd (never s.is_skipping skips (h.takes plain));
       takes = λ plain. takes;
     })
 
 -- nothing was heard yet
-begins : (steps : Option ℕ) (before : List Entry) → Say [] before → TellsAll (experiments before) [] (nobody steps)
-begins steps [] say = record { stands = []; experiments_are = refl; text_is = refl; opened_are = refl; each = tt; last = refl }
-begins steps (e ∷ before) say = absurd say
+begins : (steps : Option ℕ) (on : Bool) (before : List Entry) → Say [] before → false ≡ on → TellsAll on (experiments before) [] (nobody steps)
+begins steps on [] say off = record { stands = []; experiments_are = refl; text_is = refl; opened_are = refl; each = tt; last = refl; traces = off }
+begins steps on (e ∷ before) say off = absurd say
 
 pub heard-none : (hinting : Hinting) (steps : Option ℕ) (t : KeptTalk) → t ≡ record { session = nobody steps; part = []; out = []; is_skipping = false; lines = 0 } → Heard hinting steps [] [] t
 heard-none hinting steps t is = subst (Heard hinting steps [] []) (sym is) (record {
@@ -351,7 +352,7 @@ heard-none hinting steps t is = subst (Heard hinting steps [] []) (sym is) (reco
   now = refl;
   counted = refl;
   kept = (omega arith, refl);
-  heard = λ mine all before say. begins steps before say;
+  heard = λ on before say turns plain. begins steps on before say turns;
   takes = λ plain. refl;
 })
 

@@ -45,7 +45,7 @@ with_earlier (line ∷ done) ls = with_earlier done (line ∷ ls)
 
 -- a session without experiments, and the steps that they may take together, if there is a limit
 abbrev pub nobody : Option ℕ → KeptSession
-nobody steps = record { opened = []; current = 0; left = steps }
+nobody steps = record { opened = []; current = 0; left = steps; traces = false }
 
 -- the output for lines, which are listed from the latest, and the session after them
 abbrev pub AreReplied : Hinting → Option ℕ → List (List ℕ) → List ℕ → KeptSession → Type 0

@@ -6,10 +6,11 @@ use Rattle.report.specs.Lines.{report_of, heading_of}
 use Rattle.experiment.specs.Written.{KeptReport, kept_report, npy_of, texts_of}
 use Rattle.control.specs.declared.scenario.Experiment.{Experiment}
 use Rattle.control.specs.Scenario.{Spells, HasFault}
+use Rattle.control.specs.Traced.{traced}
 use Rattle.alone.specs.declared.fault.RunFault.{RunFault}
 use Rattle.alone.specs.declared.fault.RunFault.TheVariants as faults
 use Rattle.alone.specs.declared.limits.Format.{Format}
-use Rattle.alone.specs.declared.limits.Format.TheVariants.{Text, Npy}
+use Rattle.alone.specs.declared.limits.Format.TheVariants.{Text, TracedText, Npy}
 use Rattle.alone.specs.declared.whole.Tally.{Tally}
 use Rattle.alone.specs.Bytes.{IsCut, TakesFew}
 
@@ -31,14 +32,28 @@ reports es = flat_map report_alone es
 abbrev pub made_alone : Experiment → KeptReport
 made_alone e = kept_report (heading_of e.name) (trace_alone e)
 
--- the output for reports in a format, and for experiments
+-- the format with all packets traced
+abbrev pub traced_format : Format → Format
+traced_format Text = TracedText
+traced_format TracedText = TracedText
+traced_format Npy = Npy
+
+-- the experiments that run for those of a scenario
+abbrev pub scenario_as : Format → List Experiment → List Experiment
+scenario_as Text es = es
+scenario_as TracedText es = map traced es
+scenario_as Npy es = map traced es
+
+-- the output for reports in a format, and for the experiments of a scenario
 abbrev pub bytes_as : Format → List KeptReport → List ℕ
 bytes_as Text rs = texts_of rs
+bytes_as TracedText rs = texts_of rs
 bytes_as Npy rs = npy_of rs
 
 abbrev pub output_as : Format → List Experiment → List ℕ
 output_as Text es = reports es
-output_as Npy es = npy_of (map made_alone es)
+output_as TracedText es = reports (map traced es)
+output_as Npy es = npy_of (map made_alone (map traced es))
 
 -- the numbers of experiments and commands, and the line that `check` writes for them
 abbrev pub tally_of : List Experiment → Tally

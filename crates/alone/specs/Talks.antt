@@ -1,12 +1,12 @@
 -- The part of a text that a session has received.
-use Rattle.std.specs.Prelude.{◌≡◌, ◌≢◌, ℕ, ◌+◌, ◌<◌, ◌≤◌, ◌⊎◌, Bool, true, false, List, [], ◌∷◌, ◌++◌, length, flat_map, Option, Result, Ok, Err}
+use Rattle.std.specs.Prelude.{◌≡◌, ◌≢◌, ℕ, ◌<◌, ◌≤◌, ◌⊎◌, Bool, true, false, List, [], ◌∷◌, ◌++◌, length, flat_map, Option, Result, Ok, Err}
 use Rattle.std.specs.List.{AllByRecursion}
 use Rattle.control.specs.Scenario.{experiments}
 use Rattle.control_lines.specs.Entries.{Entry, Says}
 use Rattle.control.specs.declared.fault.Cause.{Cause}
 use Rattle.control.specs.declared.fault.Cause.TheVariants.{Cut, NoEnd}
 use Rattle.live.specs.declared.answer.Answer.TheVariants as answers
-use Rattle.live.specs.Sessions.{KeptSession, Piece, Answered, Hinted, IsPlain, AsksForMine, Takes, TellsAll, told, written}
+use Rattle.live.specs.Sessions.{KeptSession, Piece, Answered, Hinted, IsPlain, Turns, Takes, TellsAll, told, written}
 use Rattle.alone.specs.declared.fault.RunFault.{RunFault}
 use Rattle.alone.specs.declared.fault.RunFault.TheVariants as faults
 use Rattle.alone.specs.Bytes.{Stops}
@@ -25,9 +25,11 @@ pub record KeptTalk : Type 0 where
 abbrev pub refusal : List ℕ → Cause → List Piece
 refusal hint cause = Hinted hint ∷ Answered (answers.Fault cause) ∷ []
 
--- no line is `#> show mine`
-abbrev pub AsksForAll : List (List ℕ) → Type 0
-AsksForAll done = AllByRecursion (λ line. ¬ AsksForMine line) done
+-- no line is `#> show mine`; and tracing is off after each line, or it is on after each, which the first line asks for
+abbrev pub AsksForAll : Bool → List (List ℕ) → Type 0
+AsksForAll false ls = AllByRecursion (λ line. Turns line false false) ls
+AsksForAll true [] = ⊥
+AsksForAll true (line ∷ ls) = Turns line false true × AllByRecursion (λ line. Turns line true true) ls
 
 -- the entries that lines spell, both listed from the latest
 abbrev pub Say : List (List ℕ) → List Entry → Type 0
@@ -35,9 +37,16 @@ Say [] [] = Unit {0}
 Say (line ∷ done) (e ∷ before) = Says line e × Say done before
 Say _ _ = ⊥
 
+-- after these lines, from the latest, tracing is `on`, all records are reported, and tracing did not change after an
+-- experiment had begun
+abbrev pub TurnsAll : Bool → List (List ℕ) → List Entry → Type 0
+TurnsAll on [] before = false ≡ on
+TurnsAll on (line ∷ done) [] = ⊥
+TurnsAll on (line ∷ done) (e ∷ before) = (was : Bool) × Turns line was on × ((was ≡ on) ⊎ (experiments before ≡ [])) × TurnsAll was done before
+
 -- these lines, from the latest, were answered: the bytes of reports are the reports so far
 abbrev pub IsHeard : List (List ℕ) → List Piece → KeptSession → Type 0
-IsHeard done ps s = AsksForAll done → AllByRecursion IsPlain ps → (before : List Entry) → Say done before → TellsAll (experiments before) (flat_map told ps) s
+IsHeard done ps s = (on : Bool) (before : List Entry) → Say done before → TurnsAll on done before → AllByRecursion IsPlain ps → TellsAll on (experiments before) (flat_map told ps) s
 
 -- the output for a line, in pieces
 abbrev pub IsReplied : Hinting → List ℕ → List Piece → KeptSession → KeptSession → Type 0

@@ -6,12 +6,13 @@ use Rattle.control.specs.declared.scenario.Experiment.{Experiment}
 use Rattle.control.specs.Scenario.{HasFault}
 use Rattle.alone.specs.declared.fault.RunFault.{RunFault}
 use Rattle.alone.specs.declared.fault.RunFault.TheVariants as faults
+use Rattle.alone.specs.declared.limits.Format.{Format}
 use Rattle.alone.specs.declared.limits.Limits.{Limits}
 use Rattle.alone.specs.declared.limits.Stop.{Stop}
 use Rattle.alone.specs.declared.limits.Stop.TheVariants as stops
 use Rattle.alone.specs.declared.within.Made.{Made}
 use Rattle.alone.specs.Bytes.{IsCut}
-use Rattle.alone.specs.Reports.{made_alone, IsOwnFault, Reads}
+use Rattle.alone.specs.Reports.{made_alone, scenario_as, IsOwnFault, Reads}
 
 -- the sum of the steps that experiments may take
 abbrev pub steps_of : List Experiment → ℕ
@@ -59,9 +60,9 @@ IsOutputStop limit n (stops.Output bytes) = IsPast limit n × (bytes ≡ n)
 abbrev pub MakesWithin : Limits → (List Experiment → List ℕ) → Option (List ℕ) → List ℕ → Type 0
 MakesWithin limits says read text = (es : List Experiment) × Reads read es × Fits limits says es × (text ≡ says es)
 
--- the text that was read spells this scenario, and these are the reports of its experiments
-pub record IsMade (read : Option (List ℕ)) (m : Made) : Type 0 where
-  pub spelled : Reads read m.scenario
+-- this scenario runs for the one that the text that was read spells, and these are the reports of its experiments
+pub record IsMade (format : Format) (read : Option (List ℕ)) (m : Made) : Type 0 where
+  pub spelled : (es : List Experiment) × Reads read es × (m.scenario ≡ scenario_as format es)
   pub each : m.reports.items ≡ map made_alone m.scenario
 
 -- the faults of a call that wrote nothing

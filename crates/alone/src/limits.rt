@@ -1,29 +1,51 @@
 //! Limits for all experiments of a scenario together.
 
 ghost use Rattle.std.specs.Prelude.{◌≡◌, ◌+◌, ◌≤◌, ◌<◌, None, length, take, IfErr, IfOk, IfSome, IfNone, OnOk};
-ghost use Rattle.alone.specs.Reports.{bytes_as};
+ghost use Rattle.alone.specs.Reports.{bytes_as, scenario_as, traced_format};
 ghost use Rattle.alone.specs.Within.{steps_of, IsWithin, IsStepsStop, IsOutputStop};
 
 use crate::fault::RunFault;
-use control::Experiment;
+use control::{Experiment, Scenario};
 use experiment::{Report, npy_length, put_reports};
 use std::alloc::{AllocError, Global};
 
-/// The format of the output: the lines of the reports, or their rows as a file that NumPy loads.
+/// The format of the output: the lines of the reports, those of the reports with all packets traced,
+/// or the rows of these as a file that NumPy loads.
 #[derive(Clone, Copy, Debug, PartialEq)]
 pub enum Format {
     Text,
+    TracedText,
     Npy,
 }
 
 impl Format {
+    /// Returns the format with all packets traced.
+    pub fn traced(self) -> Format
+        ensures { result ≡ traced_format self }
+    {
+        match self {
+            Format::Text | Format::TracedText => Format::TracedText,
+            Format::Npy => Format::Npy,
+        }
+    }
+
+    /// Returns the scenario that runs for one: itself, or the same with all packets traced.
+    pub fn scenario(self, spelled: Scenario) -> Scenario
+        ensures { result ≡ scenario_as self spelled }
+    {
+        match self {
+            Format::Text => spelled,
+            Format::TracedText | Format::Npy => spelled.traced(),
+        }
+    }
+
     // Returns the length of the output for reports, in bytes. Fails with `AllocError` if memory
     // runs out.
     fn length(self, alloc: Global, reports: &[Report]) -> Result<usize, AllocError>
         ensures { IfOk result (λ n. n ≡ length (bytes_as self reports.now)) }
     {
         match self {
-            Format::Text => {
+            Format::Text | Format::TracedText => {
                 let mut room = [];
                 put_reports(alloc, reports, &mut room)
             }

@@ -1,12 +1,13 @@
 //! `live`: it answers each line of a session before it reads more.
 
-ghost use Rattle.std.specs.Prelude.{◌≡◌, ◌-◌, ◌++◌, ◌∷◌, [], ℕ, List, Some, Ok, Err, false, flat_map, is_err, length, take, true, OnOk, OnErr, IfErr};
+ghost use Rattle.std.specs.Prelude.{◌≡◌, ◌-◌, ◌++◌, ◌∷◌, [], ℕ, Bool, List, Some, Ok, Err, false, flat_map, is_err, length, take, true, OnOk, OnErr, IfErr};
 ghost use Rattle.std.specs.List.{AllByRecursion};
 ghost use Rattle.std.specs.Io.KnownBytes.{Appends, Consumes};
 ghost use Rattle.control.specs.Scenario.{Spells};
 ghost use Rattle.control.specs.declared.scenario.Experiment.{Experiment as Script};
 ghost use Rattle.control_words.specs.Text.{lines};
 ghost use Rattle.live.specs.Sessions.{Piece, IsPlain, told, written};
+ghost use Rattle.live.specs.Tracing.{run_all_as};
 ghost use Rattle.alone.specs.Bytes.{IsCut, Puts};
 ghost use Rattle.alone.specs.Conversations.{Converses, Leaves, next_line, seen_of};
 ghost use Rattle.alone.specs.Reports.{reports, writer_failed, IsOwnFault};
@@ -119,7 +120,7 @@ fn answer_line<H: Hints>(
 impl Talk {
     fn new(alloc: Global, steps: Option<u64>) -> Self
         ensures { result ≡ record {
-          session = record { opened = []; current = 0; left = steps };
+          session = record { opened = []; current = 0; left = steps; traces = false };
           part = [];
           out = [];
           is_skipping = false;
@@ -322,7 +323,8 @@ impl Talk {
 /// written.
 /// If the text spells a scenario (in which requests are comments), no answer is a fault, and the
 /// text contains neither `use` nor `show mine`, then the output is that of `run_alone` for the
-/// text, with lines that begin with `#` in between.
+/// text, with lines that begin with `#` in between. It is that with all packets traced if the first
+/// line is `trace on` and there is no `trace off`, and untraced if there is no `trace on`.
 /// The experiments may take at most `steps` steps together, if there is a limit: a line that begins
 /// one beyond it is rejected with the fault `TooMany`.
 pub fn live<R: Inlet, W: Outlet, H: Hints>(
@@ -341,8 +343,8 @@ pub fn live<R: Inlet, W: Outlet, H: Hints>(
     ensures tells { (text : List ℕ) → R.remaining reader.old ≡ Some text → result ≡ Ok tt →
         (ps : List Piece) × Appends (W.contents writer.old) (W.contents writer.new)
         (flat_map written ps)
-        × ((es : List Script) → Spells text es → AsksForAll (lines text) →
-        AllByRecursion IsPlain ps → flat_map told ps ≡ reports es) }
+        × ((es : List Script) (on : Bool) → Spells text es → AsksForAll on (lines text) →
+        AllByRecursion IsPlain ps → flat_map told ps ≡ reports (run_all_as on es)) }
 {
     let mut talk = Talk::new(alloc, steps);
     let mut chunk = [0u8; CHUNK];

@@ -21,8 +21,8 @@ use control::Scenario;
 use experiment::Report;
 use std::alloc::Global;
 
-/// The result of a call: the scenario that it read, and the reports of its experiments, in the same
-/// order.
+/// The result of a call: the scenario that it ran, which is the one that it read or the same with
+/// all packets traced, and the reports of its experiments, in the same order.
 #[derive(Drop)]
 pub struct Made {
     pub scenario: Scenario,
@@ -43,18 +43,18 @@ pub fn made_of<P: Progress>(
 ) -> Result<Made, Stop>
     ensures within { IfOk result (λ m. MakesWithin limits.now (output_as format) (Some text.now)
         (bytes_as format m.reports.items)) }
-    ensures made { IfOk result (IsMade (Some text.now)) }
+    ensures made { IfOk result (IsMade format (Some text.now)) }
     ensures stop { IfErr result (StopsUnwritten limits.now (output_as format) (Some text.now)) }
     ensures own { IfErr result IsOwnStop }
     ensures unread { reader_failed (leaves result) ≡ false }
 {
-    let scenario = match scenario_of(alloc, text) {
+    let spelled = match scenario_of(alloc, text) {
         Ok(scenario) => scenario,
         Err(fault) => return Err(Stop::Fault(fault)),
     };
-    let scripts = scenario.experiments();
-    limits.check_steps(scripts)?;
-    let Ok(reports) = run_all(alloc, scripts, progress) else {
+    limits.check_steps(spelled.experiments())?;
+    let scenario = format.scenario(spelled);
+    let Ok(reports) = run_all(alloc, scenario.experiments(), progress) else {
         return Err(Stop::Fault(RunFault::Memory));
     };
     limits.check_reports(alloc, format, reports.as_slice())?;
@@ -117,7 +117,7 @@ pub fn write_reports<W: Outlet>(
         writer.new ≡ writer.old) }
 {
     match format {
-        Format::Text => write_text(alloc, writer, reports),
+        Format::Text | Format::TracedText => write_text(alloc, writer, reports),
         Format::Npy => write_npy(alloc, writer, reports),
     }
 }
@@ -148,7 +148,7 @@ pub fn run_alone_within<R: Inlet, W: Outlet, P: Progress>(
     ensures ends { Ends (leaves (done_of result)) (R.remaining reader.old) (R.remaining reader.new)
         (R.failed reader.new) (W.failed writer.old) (W.failed writer.new) writer.old writer.new }
     ensures own { IfErr result IsOwnStop }
-    ensures made { IfOk result (IsMade (Some text.new.items)) }
+    ensures made { IfOk result (IsMade format (Some text.new.items)) }
     ensures text { OnOk result (IsRead (R.remaining reader.old) (R.remaining reader.new)
         text.new.items) }
     ensures kept { IfErr result (λ s. s ≢ stops.Fault RunFault.Read →

@@ -8,6 +8,7 @@ use Rattle.control.specs.Scenario.{Spells}
 use Rattle.control.specs.declared.scenario.Experiment.{Experiment as Script}
 use Rattle.control_words.specs.Text.{lines}
 use Rattle.live.specs.Sessions.{Piece, IsPlain, told, written}
+use Rattle.live.specs.Tracing.{run_all_as}
 use Rattle.alone.specs.declared.fault.RunFault.{RunFault}
 use Rattle.alone.specs.declared.fault.RunFault.TheVariants.{Scenario, Read, Write, Memory, Strange, Gate}
 use Rattle.alone.specs.Bytes.{IsCut}
@@ -34,7 +35,7 @@ was_read (Some all) (Some rest) text failed r took left = (rest, took, ended tex
 pub talks : (explain : Bool) (steps : Option ℕ) (given : List ℕ → Type 0) (read rest old new : Option (List ℕ)) (failed : Bool) (r : Result (Unit {0}) RunFault) → IfErr r IsOwnFault →
     ((text : List ℕ) × given text × Consumes read rest text × Converses (λ line cause hint. explain ≡ false → hint ≡ []) steps text old new r × Leaves text rest failed r) →
     ((all : List ℕ) → read ≡ Some all → r ≡ Ok tt → (ps : List Piece) × Appends old new (flat_map written ps)
-    × ((es : List Script) → Spells all es → AsksForAll (lines all) → AllByRecursion IsPlain ps → flat_map told ps ≡ reports es)) →
+    × ((es : List Script) (on : Bool) → Spells all es → AsksForAll on (lines all) → AllByRecursion IsPlain ps → flat_map told ps ≡ reports (run_all_as on es))) →
     Talks explain steps given read old new r
 talks explain steps given read rest old new failed r own (text, gave, took, converses, left) tells =
     record { own = own; text = text; given_is = gave; read_is = was_read read rest text failed r took left; converses = converses; tells = tells }

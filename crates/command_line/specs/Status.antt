@@ -12,6 +12,7 @@ use Rattle.command_line.specs.Words.{dnlab, plan_of}
 use Rattle.alone.specs.declared.fault.RunFault.{RunFault}
 use Rattle.alone.specs.declared.fault.RunFault.TheVariants as faults
 use Rattle.alone.specs.declared.limits.Stop.{Stop}
+use Rattle.alone.specs.declared.limits.Format.{Format}
 use Rattle.alone.specs.declared.within.Made.{Made}
 use Rattle.alone.specs.Within.{IsMade, done_of}
 use Rattle.explain_text.specs.Accounts.{IsAccountOf}
@@ -94,7 +95,7 @@ EndsWell None n = (n ≡ 0) ⊎ ((n ≡ 5) ⊎ (n ≡ 3))
 
 -- the reports that a call made, if it made any, are those of the text that was left to read
 abbrev pub IsMadeOf : Option (List ℕ) → Option Made → Type 0
-IsMadeOf read made = IfSome made (IsMade read)
+IsMadeOf read made = IfSome made (λ m. (format : Format) × IsMade format read m)
 
 -- the status after a call; with `--explain` memory may run out, and with `--strict` a successful call may fail
 pub record EndsCall (task : Task) (outcome : Result (Option Made) Stop) (n : ℕ) : Type 0 where

@@ -6,6 +6,7 @@ use Rattle.control.specs.Scenario.{Spells}
 use Rattle.control.specs.declared.scenario.Experiment.{Experiment as Script}
 use Rattle.control_words.specs.Text.{lines}
 use Rattle.live.specs.Sessions.{Piece, IsPlain, told, written}
+use Rattle.live.specs.Tracing.{run_all_as}
 use Rattle.alone.specs.declared.fault.RunFault.{RunFault}
 use Rattle.alone.specs.declared.limits.Limits.{Limits}
 use Rattle.alone.specs.declared.limits.Stop.{Stop}
@@ -48,9 +49,10 @@ pub record Talks (explain : Bool) (steps : Option ℕ) (given : List ℕ → Typ
   pub given_is : given text
   pub read_is : IsReadOf read text r
   pub converses : Converses (λ line cause hint. explain ≡ false → hint ≡ []) steps text old new r
-  -- if the text spells a scenario without `show mine`, and the output is plain, the bytes of reports are the scenario's reports
+  -- if the text spells a scenario without `show mine`, and the output is plain, the bytes of reports are the scenario's
+  -- reports: traced if the first line turns tracing on, and untraced if none does
   pub tells : (all : List ℕ) → read ≡ Some all → r ≡ Ok tt → (ps : List Piece) × Appends old new (flat_map written ps)
-      × ((es : List Script) → Spells all es → AsksForAll (lines all) → AllByRecursion IsPlain ps → flat_map told ps ≡ reports es)
+      × ((es : List Script) (on : Bool) → Spells all es → AsksForAll on (lines all) → AllByRecursion IsPlain ps → flat_map told ps ≡ reports (run_all_as on es))
 
 -- for the text that the reader returned
 abbrev pub OfGiven : (List ℕ → Type 0) → (Option (List ℕ) → Type 0) → Type 0

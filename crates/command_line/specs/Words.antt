@@ -16,6 +16,7 @@ use Rattle.clap.specs.declared.builder.value_parser.ValueParser.TheVariants.{Sig
 use Rattle.alone.specs.declared.limits.Format.{Format}
 use Rattle.alone.specs.declared.limits.Format.TheVariants as formats
 use Rattle.alone.specs.declared.limits.Limits.{Limits}
+use Rattle.alone.specs.Reports.{traced_format}
 use Rattle.command_line.specs.declared.words.Task.{Task}
 use Rattle.command_line.specs.declared.words.Task.TheVariants.{Run, Alone, Check, Live}
 
@@ -50,11 +51,11 @@ command name options = record (new_shape name) { rules = options }
 
 abbrev pub run_shape : Shape
 run_shape = command (codes "run") (workers_rule ∷ moves_rule ∷ format_rule ∷ flag (codes "progress") ∷ flag (codes "explain")
-    ∷ flag (codes "strict") ∷ max_steps_rule ∷ max_output_rule ∷ [])
+    ∷ flag (codes "strict") ∷ flag (codes "trace") ∷ max_steps_rule ∷ max_output_rule ∷ [])
 
 abbrev pub alone_shape : Shape
 alone_shape = command (codes "alone") (format_rule ∷ flag (codes "progress") ∷ flag (codes "explain") ∷ flag (codes "strict")
-    ∷ max_steps_rule ∷ max_output_rule ∷ [])
+    ∷ flag (codes "trace") ∷ max_steps_rule ∷ max_output_rule ∷ [])
 
 abbrev pub check_shape : Shape
 check_shape = command (codes "check") (flag (codes "explain") ∷ flag (codes "strict") ∷ [])
@@ -105,6 +106,10 @@ format_of text = if bytes_eq text (codes "text") then Some formats.Text else (if
 abbrev pub format_in : List Row → Option Format
 format_in rows = option_map_or format_of (first_of (codes "format") rows) (Some formats.Text)
 
+-- the format with all packets traced, if `--trace` is given
+abbrev pub traced_in : List Row → Format → Format
+traced_in rows format = if flag_in (codes "trace") rows then traced_format format else format
+
 abbrev pub limits_in : List Row → Limits
 limits_in rows = record {
   steps = number_in (2 ^ 64) (codes "max-steps") rows;
@@ -113,11 +118,11 @@ limits_in rows = record {
 
 abbrev pub run_in : Format → List Row → Task
 run_in format rows = Run (unwrap_or (number_in (2 ^ 64) (codes "workers") rows) 2)
-    (unwrap_or (number_in (2 ^ 32) (codes "moves") rows) 64) format (limits_in rows)
+    (unwrap_or (number_in (2 ^ 32) (codes "moves") rows) 64) (traced_in rows format) (limits_in rows)
     (flag_in (codes "progress") rows) (flag_in (codes "explain") rows) (flag_in (codes "strict") rows)
 
 abbrev pub alone_in : Format → List Row → Task
-alone_in format rows = Alone format (limits_in rows)
+alone_in format rows = Alone (traced_in rows format) (limits_in rows)
     (flag_in (codes "progress") rows) (flag_in (codes "explain") rows) (flag_in (codes "strict") rows)
 
 abbrev pub live_in : List Row → Task

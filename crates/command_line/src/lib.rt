@@ -15,6 +15,7 @@ ghost use Rattle.clap.specs.Words.{fault_of, kind_of};
 ghost use Rattle.alone.specs.Bytes.{IsRead};
 ghost use Rattle.alone.specs.FaultLines.{IsSaid};
 ghost use Rattle.alone.specs.Within.{IsMade, done_of, leaves};
+ghost use Rattle.alone.specs.declared.limits.Format.{Format};
 ghost use Rattle.command_line.specs.Status.{EndsCall, EndsStrictly, EndsWell, EndsWords, IsStatusAfter, IsStatusOf};
 ghost use Rattle.command_line.specs.Status.{fault_after, is_clean, is_spent, line_of, status_after};
 ghost use Rattle.command_line.specs.Status.{IsMadeOf, status_of_fault, status_of_kind, status_told};
@@ -107,8 +108,8 @@ fn unlimited_outcome(outcome: Result<(), RunFault>) -> Result<Option<Made>, Stop
 pub fn with_reports(outcome: Result<Made, Stop>) -> Result<Option<Made>, Stop>
     ensures result { MatchResult outcome (λ made. result ≡ Ok (Some made)) (λ stop. result ≡ Err stop) }
     ensures done { done_of result ≡ done_of outcome }
-    ensures made { (read rest : Option (List ℕ)) (text : List ℕ) →
-        IfOk outcome (IsMade (Some text)) → OnOk outcome (IsRead read rest text) →
+    ensures made { (format : Format) (read rest : Option (List ℕ)) (text : List ℕ) →
+        IfOk outcome (IsMade format (Some text)) → OnOk outcome (IsRead read rest text) →
         IfOk result (IsMadeOf read) }
 {
     match outcome {

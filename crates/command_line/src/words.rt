@@ -7,7 +7,7 @@ ghost use Rattle.clap.specs.Words.{kind_of, rows_of, subcommand_rows_of, takes};
 ghost use Rattle.clap.specs.declared.error.kind.ErrorKind.TheVariants.{OutOfMemory};
 ghost use Rattle.clap.specs.declared.builder.command.Command.TheViews.{out-Command};
 ghost use Rattle.command_line.specs.Tasks.{explains, is_strict, limits_of};
-ghost use Rattle.command_line.specs.Words.{IsArg, IsCommand, alone_in, alone_shape, check_shape, dnlab, flag, flag_in, format_in, format_of, format_rule};
+ghost use Rattle.command_line.specs.Words.{IsArg, IsCommand, alone_in, alone_shape, check_shape, dnlab, flag, flag_in, format_in, format_of, format_rule, traced_in};
 ghost use Rattle.command_line.specs.Words.{limits_in, live_in, live_shape, max_output_rule, max_steps_rule, moves_rule, number};
 ghost use Rattle.command_line.specs.Words.{plan_of, program_shape, run_in, run_shape, task_in, workers_rule};
 
@@ -207,6 +207,12 @@ fn strict<'a>(alloc: Global) -> Arg<'a>
     )
 }
 
+fn trace<'a>(alloc: Global) -> Arg<'a>
+    ensures { IsArg (flag (codes "trace")) result }
+{
+    flag(alloc, "trace", "Traces all packets from the first event on")
+}
+
 fn max_steps<'a>(alloc: Global, help: &'a str) -> Arg<'a>
     ensures { IsArg max_steps_rule result }
 {
@@ -238,6 +244,7 @@ fn run_command<'a>(alloc: Global) -> Result<Command<'a>, Error>
         .arg(progress(alloc))?
         .arg(explain(alloc))?
         .arg(strict(alloc))?
+        .arg(trace(alloc))?
         .arg(max_steps(alloc, MAX_STEPS))?
         .arg(max_output(alloc))?;
     Ok(run)
@@ -252,6 +259,7 @@ fn alone_command<'a>(alloc: Global) -> Result<Command<'a>, Error>
         .arg(progress(alloc))?
         .arg(explain(alloc))?
         .arg(strict(alloc))?
+        .arg(trace(alloc))?
         .arg(max_steps(alloc, MAX_STEPS))?
         .arg(max_output(alloc))?;
     Ok(alone)
@@ -345,6 +353,16 @@ fn format_in(given: &ArgMatches<'_>) -> Option<Format>
     }
 }
 
+// Returns the format with all packets traced, if `--trace` is given.
+fn traced_in(given: &ArgMatches<'_>, format: Format) -> Format
+    ensures { result ≡ traced_in (rows_of (found_of given.now)) format }
+{
+    if flag_in(given, "trace") {
+        return format.traced();
+    }
+    format
+}
+
 fn limits_in(given: &ArgMatches<'_>) -> Limits
     ensures { result ≡ limits_in (rows_of (found_of given.now)) }
 {
@@ -360,7 +378,7 @@ fn run_in(format: Format, given: &ArgMatches<'_>) -> Task
     Task::Run {
         workers: given.get_one::<usize>("workers").unwrap_or(WORKERS),
         moves: given.get_one::<u32>("moves").unwrap_or(MOVES),
-        format,
+        format: traced_in(given, format),
         limits: limits_in(given),
         progress: flag_in(given, "progress"),
         explain: flag_in(given, "explain"),
@@ -372,7 +390,7 @@ fn alone_in(format: Format, given: &ArgMatches<'_>) -> Task
     ensures { result ≡ alone_in format (rows_of (found_of given.now)) }
 {
     Task::Alone {
-        format,
+        format: traced_in(given, format),
         limits: limits_in(given),
         progress: flag_in(given, "progress"),
         explain: flag_in(given, "explain"),

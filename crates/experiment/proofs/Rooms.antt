@@ -1,10 +1,12 @@
 -- Texts that are put into a room one behind the other.
-use Rattle.std.proofs.Common.{◌≡◌, ℕ, ◌+◌, ◌-◌, ◌<◌, ◌≤◌, List, [], ◌∷◌, ◌++◌, length, take, drop, sym, ap, ◌∙◌, refl, append_assoc, append-nil, arith}
+use Rattle.std.proofs.Common.{◌≡◌, ℕ, zero, suc, min, ◌+◌, ◌-◌, ◌<◌, ◌≤◌, List, [], ◌∷◌, ◌++◌, length, take, drop, sym, ap, ◌∙◌, refl, append_assoc, append-nil, arith}
 use Rattle.std.specs.Prelude.{flat_map, slice_index_or, Result, Ok, Err, IfOk}
 use Rattle.std.proofs.lemmas.List.{length-append, take_more, drop-drop}
 use Rattle.std.proofs.lemmas.List.Concat.{flat_map-append}
 use Rattle.report.proofs.Taken.{flat_map_further}
+use Rattle.report.specs.Rows.{rows_of}
 use Rattle.experiment.specs.Rooms.{IsPutAt}
+use Rattle.experiment.specs.Written.{KeptReport, rows_from}
 
 pub put_none : (at : ℕ) (room : List ℕ) → IsPutAt [] at room room at
 put_none at room = record { ends = omega arith; stands = λ h. sym (append-nil (take at room)); rest = refl; room = refl }
@@ -63,3 +65,31 @@ pub put_piece : {A : Type 0} (f : A → List ℕ) (rs : List A) (i : ℕ) (r : A
     IsPutAt (flat_map f (take (i + 1) rs)) at a c end
 put_piece f rs i r below is at middle end a b c g h =
     put_both (flat_map f (take i rs)) (f r) (flat_map f (take (i + 1) rs)) (one-piece f rs i r below is) at middle end a b c g h
+
+pub put_behind : {E : Type 0} (first second : List ℕ) (at middle : ℕ) (a b c : List ℕ) (r : Result ℕ E) →
+    IsPutAt first at a b middle → IfOk r (IsPutAt second middle b c) → IfOk r (IsPutAt (first ++ second) at a c)
+put_behind first second at middle a b c (Ok end) f g = put_both first second (first ++ second) refl at middle end a b c f g
+put_behind first second at middle a b c (Err e) f g = tt
+
+-- the rows of one report more
+rows-more : (first : ℕ) (rs : List KeptReport) (i : ℕ) (r : KeptReport) → i < length rs → r ≡ slice_index_or rs i r →
+    rows_from first (take i rs) ++ rows_of (min (first + i) 255) r.records r.counters ≡ rows_from first (take (suc i) rs)
+rows-more first [] i r below is = absurd (omega (arith, below))
+rows-more first (x ∷ rs) zero r below is =
+    let same : first + 0 ≡ first = omega arith in
+    ap (λ (n : ℕ). rows_of (min n 255) r.records r.counters) same
+    ∙ ap (λ (y : KeptReport). rows_of (min first 255) y.records y.counters) is ∙ sym (append-nil (rows_of (min first 255) x.records x.counters))
+rows-more first (x ∷ rs) (suc i) r below is =
+    let mine : List ℕ = rows_of (min first 255) x.records x.counters in
+    let next : first + suc i ≡ first + 1 + i = omega arith in
+    ap (λ (n : ℕ). rows_from first (take (suc i) (x ∷ rs)) ++ rows_of (min n 255) r.records r.counters) next
+    ∙ append_assoc mine (rows_from (first + 1) (take i rs)) (rows_of (min (first + 1 + i) 255) r.records r.counters)
+    ∙ ap (λ (l : List ℕ). mine ++ l) (rows-more (first + 1) rs i r (omega (arith, below)) is)
+
+pub rows-next : (rs : List KeptReport) (i : ℕ) (r : KeptReport) → i < length rs → r ≡ slice_index_or rs i r →
+    rows_from 0 (take i rs) ++ rows_of (min i 255) r.records r.counters ≡ rows_from 0 (take (i + 1) rs)
+rows-next rs i r below is =
+    let same : i ≡ 0 + i = omega arith in
+    let next : suc i ≡ i + 1 = omega arith in
+    ap (λ (n : ℕ). rows_from 0 (take i rs) ++ rows_of (min n 255) r.records r.counters) same ∙ rows-more 0 rs i r below is
+    ∙ ap (λ (n : ℕ). rows_from 0 (take n rs)) next

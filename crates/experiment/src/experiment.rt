@@ -114,7 +114,7 @@ impl Experiment {
             IsHousedIn (empty_pocket budget) e) }
     {
         few_steps(&spec);
-        let net = Network::new(alloc, spec.seed)?;
+        let net = Network::new(alloc, spec.seed, spec.traced)?;
         Ok(Experiment {
             spec,
             net,

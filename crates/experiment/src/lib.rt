@@ -19,7 +19,7 @@ mod writer;
 pub use counts::RecordCounts;
 pub use experiment::{ApplyError, Event, Experiment};
 pub use keeper::{BATCH, Report, ReportKeeper};
-pub use room::put_reports;
+pub use room::{put_npy, put_reports};
 pub use rows::{count_rows, npy_length};
 pub use sessions::{
     ended_sessions_are_whole, ended_states_are_whole, sessions_are_alone, transcripts_are_whole,

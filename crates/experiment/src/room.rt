@@ -2,12 +2,17 @@
 
 ghost use Rattle.std.specs.Prelude.{◌≡◌, ◌+◌, ◌<◌, ◌≤◌, flat_map, length, take, drop, IfOk};
 ghost use Rattle.report.specs.Lines.{line_of};
+ghost use Rattle.report.specs.Rows.{record_bytes, rows_of};
 ghost use Rattle.experiment.specs.Rooms.{IsPutAt};
-ghost use Rattle.experiment.specs.Written.{text_of, texts_of};
+ghost use Rattle.experiment.specs.Written.{npy_of, rows_from, text_of, texts_of};
 
 use crate::keeper::Report;
-use report::{Archive, Moments, Source, write_some};
+use crate::rows::count_rows;
+use report::{Archive, Moments, ROW, Source, npy_header, put_counters, put_rows, write_some};
 use std::alloc::{AllocError, Global};
+
+/// The size (bytes) of the page on which rows are built.
+const PAGE: usize = 4_000;
 
 // Writes bytes from a place on if all of them fit, and returns their end in either case.
 fn put_bytes(room: &mut [u8], at: usize, bytes: &[u8]) -> Result<usize, AllocError>
@@ -103,4 +108,85 @@ pub fn put_reports(alloc: Global, reports: &[Report], room: &mut [u8]) -> Result
         done += 1;
     }
     Ok(end)
+}
+
+// Writes the rows of records, and returns their end.
+#[tactic(auto, using(crate::proofs::Rooms::put_none))]
+fn put_record_rows(
+    room: &mut [u8],
+    at: usize,
+    page: &mut [u8],
+    records: &Archive,
+    number: u8,
+) -> Result<usize, AllocError>
+    requires { 40 ≤ length page.old }
+    ensures page { length page.new ≡ length page.old }
+    ensures put { IfOk result
+        (IsPutAt (flat_map (record_bytes number) records.now) at room.old room.new) }
+    ensures room { length room.new ≡ length room.old }
+{
+    let mut done = 0;
+    let mut end = at;
+    while done < records.len() {
+        let count = put_rows(page, records, done, number);
+        end = put_bytes(room, end, &page[..count * ROW])?;
+        done += count;
+    }
+    Ok(end)
+}
+
+// Writes the rows of a report, and returns their end.
+#[tactic(auto, using(crate::proofs::Rooms::put_behind))]
+fn put_report_rows(
+    room: &mut [u8],
+    at: usize,
+    page: &mut [u8],
+    report: &Report,
+    number: u8,
+) -> Result<usize, AllocError>
+    requires { 40 ≤ length page.old }
+    ensures page { length page.new ≡ length page.old }
+    ensures put { IfOk result
+        (IsPutAt (rows_of number report.now.records report.now.counters) at room.old room.new) }
+    ensures room { length room.new ≡ length room.old }
+{
+    let end = put_record_rows(room, at, page, report.records(), number)?;
+    let mut row = [0u8; ROW];
+    put_counters(&mut row, report.counters(), number);
+    put_bytes(room, end, &row)
+}
+
+// Writes the rows of reports, and returns their end.
+#[tactic(auto, using(crate::proofs::Rooms::put_none))]
+fn put_all_rows(
+    room: &mut [u8],
+    at: usize,
+    page: &mut [u8],
+    reports: &[Report],
+) -> Result<usize, AllocError>
+    requires { 40 ≤ length page.old }
+    ensures put { IfOk result (IsPutAt (rows_from 0 reports.now) at room.old room.new) }
+    ensures room { length room.new ≡ length room.old }
+{
+    let mut end = at;
+    for number in 0..reports.len() {
+        end = put_report_rows(room, end, page, &reports[number], number.min(255) as u8)?;
+    }
+    Ok(end)
+}
+
+/// Writes the rows of reports into a buffer, after the header that names their columns, as far as
+/// they fit, and returns the length (bytes) of both, which may exceed the buffer. Fails with
+/// `AllocError` if there is no memory for the page on which rows are built.
+#[tactic(auto, using(crate::proofs::Rooms::put_behind))]
+pub fn put_npy(alloc: Global, reports: &[Report], room: &mut [u8]) -> Result<usize, AllocError>
+    ensures put { IfOk result (IsPutAt (npy_of reports.now) 0 room.old room.new) }
+    ensures room { length room.new ≡ length room.old }
+{
+    let rows = count_rows(reports)?;
+    let header = npy_header(alloc, rows as u64)?;
+    let mut page = Vec::with_capacity(alloc, PAGE)?;
+    page.resize(PAGE, 0u8)?;
+    let end = put_bytes(room, 0, header.as_slice())?;
+    put_all_rows(room, end, page.as_mut_slice(), reports)
 }

@@ -32,17 +32,18 @@ fn made_together<H: Threads + Wait + Sync, G: Gate, P: Progress + Sync>(
 ) -> Result<Made, Stop>
     ensures within { IfOk result (λ m. MakesWithin limits.now (output_as format) (Some text.now)
         (bytes_as format m.reports.items)) }
-    ensures made { IfOk result (IsMade (Some text.now)) }
+    ensures made { IfOk result (IsMade format (Some text.now)) }
     ensures stop { IfErr result (StopsUnwritten limits.now (output_as format) (Some text.now)) }
     ensures gate { result ≡ Err (stops.Fault RunFault.Gate) → G.may_refuse ≡ true }
     ensures unread { reader_failed (leaves result) ≡ false }
 {
-    let scenario = match scenario_of(alloc, text) {
+    let spelled = match scenario_of(alloc, text) {
         Ok(scenario) => scenario,
         Err(fault) => return Err(Stop::Fault(fault)),
     };
+    limits.check_steps(spelled.experiments())?;
+    let scenario = format.scenario(spelled);
     let scripts = scenario.experiments();
-    limits.check_steps(scripts)?;
     let left = match run_together(rt, alloc, scripts, plan, gate, progress) {
         Ok(left) => left,
         Err(fault) => return Err(Stop::Fault(fault)),
@@ -78,7 +79,7 @@ pub fn run_within<H: Threads + Wait + Sync, R: Inlet, W: Outlet, G: Gate, P: Pro
     ensures ends { Ends (leaves (done_of result)) (R.remaining reader.old) (R.remaining reader.new)
         (R.failed reader.new) (W.failed writer.old) (W.failed writer.new) writer.old writer.new }
     ensures gate { result ≡ Err (stops.Fault RunFault.Gate) → G.may_refuse ≡ true }
-    ensures made { IfOk result (IsMade (Some text.new.items)) }
+    ensures made { IfOk result (IsMade format (Some text.new.items)) }
     ensures text { OnOk result (IsRead (R.remaining reader.old) (R.remaining reader.new)
         text.new.items) }
     ensures kept { IfErr result (λ s. s ≢ stops.Fault RunFault.Read →

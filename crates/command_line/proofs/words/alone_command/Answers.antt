@@ -8,8 +8,9 @@ pub returns : goal.returns
 returns c =
     let start : IsCommand (new_shape (codes "alone")) c.about.result = search rules in
     adds _ _ _ _ _ c.in_ok-alone.ensures c.max_output.ensures
-    (adds _ _ _ _ _ c.in_ok-arg-5.ensures c.max_steps.ensures
+    (adds _ _ _ _ _ c.in_ok-arg-6.ensures c.max_steps.ensures
+    (adds _ _ _ _ _ c.in_ok-arg-5.ensures c.trace.ensures
     (adds _ _ _ _ _ c.in_ok-arg-4.ensures c.strict.ensures
     (adds _ _ _ _ _ c.in_ok-arg-3.ensures c.explain.ensures
     (adds _ _ _ _ _ c.in_ok-arg-2.ensures c.progress.ensures
-    (adds _ _ _ _ _ c.in_ok-arg.ensures c.format.ensures start)))))
+    (adds _ _ _ _ _ c.in_ok-arg.ensures c.format.ensures start))))))

@@ -12,4 +12,4 @@ returns c =
     c.unwrap_or.ensures ∙ ap (λ o. unwrap_or o 2) (number_read 64 given (codes "workers") c.get_one.result c.get_one.ensures.none c.get_one.ensures.value) in
     let moves : c.unwrap_or-2.result ≡ unwrap_or (number_in (2 ^ 32) (codes "moves") (rows_of given)) 64 =
     c.unwrap_or-2.ensures ∙ ap (λ o. unwrap_or o 64) (number_read 32 given (codes "moves") c.get_one-2.result c.get_one-2.ensures.none c.get_one-2.ensures.value) in
-    rw (workers, moves, c.limits_in.ensures, c.flag_in.ensures, c.flag_in-2.ensures, c.flag_in-3.ensures) refl
+    rw (workers, moves, c.traced_in.ensures, c.limits_in.ensures, c.flag_in.ensures, c.flag_in-2.ensures, c.flag_in-3.ensures) refl
