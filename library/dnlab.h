@@ -57,6 +57,9 @@ void dnlab_alone(const uint8_t *text, size_t text_length, uint8_t *room, size_t 
  * room bounds the report. */
 void dnlab_alone_within(const uint8_t *text, size_t text_length, uint64_t most_steps, uint8_t *room, size_t room_length,
                         dnlab_answer *answer);
+/* Runs the scenario like `dnlab_alone`, and writes its records, with all packets traced, as one NumPy array of format .npy
+ * 1.0, as `dnlab alone --format npy` does: a header of 512 bytes, then 40 bytes for each record. */
+void dnlab_records(const uint8_t *text, size_t text_length, uint8_t *room, size_t room_length, dnlab_answer *answer);
 /* Checks that the text is a valid scenario, and writes the line that `dnlab check` writes. */
 void dnlab_check(const uint8_t *text, size_t text_length, uint8_t *room, size_t room_length, dnlab_answer *answer);
 /* Writes what `--explain` prints about the text, after the line of its fault. A fault is explained, not returned. If `runs`

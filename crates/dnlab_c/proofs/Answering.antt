@@ -51,6 +51,17 @@ answers_put_all says text before room said all a (es, spells, is) are (inl refus
 answers_put_all says text before room said all a (es, spells, is) are (inr put) =
     answers_put says text before room all a (es, spells, are ∙ is) put
 
+-- the same of a call that has limits, which none exceeded
+pub made_put_all : (limits : Limits) (says : List Experiment → List ℕ) (text before room all : List ℕ) (a : Answer) → MakesWithin limits says (Some text) all →
+    ((a ≡ no_memory) ⊎ IsPut all before room a) → Answers says text before room a
+made_put_all limits says text before room all a (es, spells, fits, is) (inl refused) = inl refused
+made_put_all limits says text before room all a (es, spells, fits, is) (inr put) =
+    inr (inl (es, spells, subst (λ (l : List ℕ). IsPut l before room a) is put))
+
+pub made_fault : (limits : Limits) (says : List Experiment → List ℕ) (text before : List ℕ) (a : Answer) (f : Fault) →
+    StopsUnwritten limits says (Some text) (Failed (Scenario f)) → a ≡ faulty f → Answers says text before before a
+made_fault limits says text before a f fault is = inr (inr (f, fault, is, refl))
+
 -- a limit of steps alone
 abbrev limited : ℕ → Limits
 limited most = record { steps = Some most; output = None }

@@ -19,7 +19,7 @@ pub record KeptGuest : Type 0 where
 
 -- a session that has received nothing
 abbrev pub fresh : KeptGuest
-fresh = record { session = record { opened = []; current = 0; left = None }; out = []; lines = 0; is_lost = false }
+fresh = record { session = record { opened = []; current = 0; left = None; traces = false }; out = []; lines = 0; is_lost = false }
 
 -- one more line; a count that would not fit into 64 bits does not change
 abbrev pub next_line : ℕ → ℕ

@@ -1,14 +1,16 @@
 //! The answer of a call to a caller that is not Rattle.
 
-ghost use Rattle.std.specs.Prelude.{◌≡◌, ◌<◌, ◌⊎◌, length};
-ghost use Rattle.experiment.specs.Written.{texts_of};
+ghost use Rattle.std.specs.Prelude.{◌≡◌, ◌<◌, ◌⊎◌, length, IfOk};
+ghost use Rattle.experiment.specs.Rooms.{IsPutAt};
+ghost use Rattle.alone.specs.Reports.{bytes_as};
 ghost use Rattle.control.specs.declared.fault.Cause.TheVariants.{NoEnd};
 ghost use Rattle.dnlab_c.specs.Answers as specs;
 ghost use Rattle.dnlab_c.specs.Answers.{cause_number, faulty, plain, IsPut};
 
+use alone::Format;
 use control::{Cause, Fault};
-use experiment::{Report, put_reports};
-use std::alloc::Global;
+use experiment::{Report, put_npy, put_reports};
+use std::alloc::{AllocError, Global};
 
 /// The text was written to the room.
 pub const DONE: u32 = 0;
@@ -133,14 +135,29 @@ pub fn put(text: &[u8], room: &mut [u8]) -> Answer
     answer_of(DONE, length)
 }
 
-/// Writes reports to the room, one after the other, if all of them fit, and otherwise those that
-/// fit.
-#[tactic(auto, using(crate::proofs::Answering::put_whole))]
-pub fn put_all(alloc: Global, reports: &[Report], room: &mut [u8]) -> Answer
-    ensures { (result ≡ specs.no_memory)
-        ⊎ IsPut (texts_of reports.now) room.old room.new result }
+// Writes reports to a room in a format, as far as they fit, and returns their length.
+fn put_as(
+    alloc: Global,
+    format: Format,
+    reports: &[Report],
+    room: &mut [u8],
+) -> Result<usize, AllocError>
+    ensures put { IfOk result (IsPutAt (bytes_as format reports.now) 0 room.old room.new) }
+    ensures room { length room.new ≡ length room.old }
 {
-    let Ok(length) = put_reports(alloc, reports, room) else {
+    match format {
+        Format::Text | Format::TracedText => put_reports(alloc, reports, room),
+        Format::Npy => put_npy(alloc, reports, room),
+    }
+}
+
+/// Writes reports to the room in a format if all of them fit, and otherwise those that fit.
+#[tactic(auto, using(crate::proofs::Answering::put_whole))]
+pub fn put_all(alloc: Global, format: Format, reports: &[Report], room: &mut [u8]) -> Answer
+    ensures { (result ≡ specs.no_memory)
+        ⊎ IsPut (bytes_as format reports.now) room.old room.new result }
+{
+    let Ok(length) = put_as(alloc, format, reports, room) else {
         return no_memory();
     };
     if length > room.len() {

@@ -12,7 +12,7 @@ mod version;
 ghost use Rattle.std.specs.Prelude.{◌≡◌, List, IfOk, IfErr};
 ghost use Rattle.control.specs.Scenario.{Spells};
 ghost use Rattle.control.specs.declared.scenario.Experiment.{Experiment as Script};
-ghost use Rattle.alone.specs.Reports.{reports, tally, IsTextFault};
+ghost use Rattle.alone.specs.Reports.{output_as, reports, tally, IsTextFault};
 ghost use Rattle.dnlab_c.specs.Answers.{Answers, AnswersWithin, IsPut, PutsSome};
 ghost use Rattle.dnlab_c.specs.Guests.{Opens, TakesAt, ClosesAt};
 
@@ -36,7 +36,7 @@ pub extern "C" fn dnlab_alone(alloc: Global, text: &[u8], room: &mut [u8], answe
     ensures { Answers reports text.now room.old room.new answer.new }
 {
     *answer = match reports_of(alloc, text) {
-        Ok(reports) => put_all(alloc, reports.each(), room),
+        Ok(reports) => put_all(alloc, Format::Text, reports.each(), room),
         Err(RunFault::Scenario(fault)) => fault_answer(&fault),
         Err(_) => no_memory(),
     };
@@ -61,9 +61,24 @@ pub extern "C" fn dnlab_alone_within(
         output: None,
     };
     *answer = match made_of(alloc, text, Format::Text, &limits, &Silent) {
-        Ok(made) => put_all(alloc, made.reports.as_slice(), room),
+        Ok(made) => put_all(alloc, Format::Text, made.reports.as_slice(), room),
         Err(Stop::Fault(RunFault::Scenario(fault))) => fault_answer(&fault),
         Err(Stop::Steps { number, total }) => too_many_steps(number, total),
+        Err(_) => no_memory(),
+    };
+}
+
+/// Runs the experiments of a scenario, like `dnlab_alone`, with all packets traced, and writes their
+/// records as one NumPy array, as `dnlab alone --format npy` does. The statuses are those of
+/// `dnlab_alone`.
+#[tactic(auto, using(crate::proofs::Answering::made_put_all, crate::proofs::Answering::made_fault, crate::proofs::Answering::answers_memory))]
+#[unsafe(no_mangle)]
+pub extern "C" fn dnlab_records(alloc: Global, text: &[u8], room: &mut [u8], answer: &mut Answer)
+    ensures { Answers (output_as Format.Npy) text.now room.old room.new answer.new }
+{
+    *answer = match made_of(alloc, text, Format::Npy, &Limits::none(), &Silent) {
+        Ok(made) => put_all(alloc, Format::Npy, made.reports.as_slice(), room),
+        Err(Stop::Fault(RunFault::Scenario(fault))) => fault_answer(&fault),
         Err(_) => no_memory(),
     };
 }
