@@ -13,7 +13,7 @@
 Times are whole nanoseconds (int64), sizes are bytes, rates are bits per second; nothing is rounded on the way.
 `read` and `run` need numpy and pandas, `sweep` also scipy and jinja2, pictures matplotlib (Debian: apt-get install
 python3-numpy python3-pandas python3-scipy python3-jinja2 python3-matplotlib). `live`, `dnlab.io.scenario` and
-`dnlab.io.splitting` need only Python.
+`dnlab.io.scenario_text` need only Python.
 """
 import importlib.util
 from typing import TYPE_CHECKING, Any
@@ -26,8 +26,7 @@ if TYPE_CHECKING:
     from dnlab.analysis.results import Experiment, intervals
     from dnlab.sweeps.runs import run
     from dnlab.session.transport import CommandRefusedError, Event, ExperimentEndedError, LineRejectedError, Packet
-    from dnlab.session.links import Link
-    from dnlab.session.sessions import Session, live
+    from dnlab.session.sessions import Link, Session, live
     from dnlab.sweeps.sweeping import Sweep, sweep
 
 __version__ = "0.2.0"
@@ -37,7 +36,7 @@ _PLACES = {"Experiment": "analysis.results", "Report": "analysis.reports", "inte
            "read": "analysis.reports", "run": "sweeps.runs", "interval": "analysis.quantities", "jain": "analysis.quantities",
            "Sweep": "sweeps.sweeping", "sweep": "sweeps.sweeping", "CommandRefusedError": "session.transport",
            "Event": "session.transport", "LineRejectedError": "session.transport", "ExperimentEndedError": "session.transport", "Packet": "session.transport",
-           "Link": "session.links", "Session": "session.sessions", "live": "session.sessions"}
+           "Link": "session.sessions", "Session": "session.sessions", "live": "session.sessions"}
 _MODULES = ("hosts", "sim")
 _NEEDS: dict[str, tuple[str, ...]] = {"analysis.results": ("numpy", "pandas"), "analysis.reports": ("numpy", "pandas"),
                                       "sweeps.runs": ("numpy", "pandas"),

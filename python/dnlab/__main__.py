@@ -1,6 +1,7 @@
 """`python3 -m dnlab COMMAND ..`: the commands of the package."""
 import importlib
 import os
+import re
 import sys
 from contextlib import nullcontext, suppress
 from typing import Callable, Optional, Sequence
@@ -10,18 +11,15 @@ if not __package__:
     sys.path[0] = os.path.dirname(os.path.dirname(os.path.realpath(__file__)))
 
 from dnlab import __version__  # noqa: E402  (the path is set first)
+from dnlab.errors import MACHINE, InputError, ProgramError, cause_of, status_of  # noqa: E402
+from dnlab.programs import called, say  # noqa: E402
 
-# The status for something missing on this machine. Equal to `dnlab.errors.MACHINE`, which a missing numpy must not hide.
-MACHINE = 3
-COMMANDS = ("summary", "plot", "spread", "sweep", "compare", "expect", "view", "pcap", "from-ipfw", "to-ipfw", "to-tc", "replay", "rate-trace", "hosts")
+# The commands, with the modules that each needs.
 NEEDS = {"summary": ("numpy",), "plot": ("numpy", "matplotlib"), "spread": ("numpy",),
          "sweep": ("numpy", "pandas", "scipy", "jinja2"), "compare": ("numpy",), "expect": ("numpy",),
-         "view": ("numpy", "plotly"), "pcap": ("numpy", "dpkt"), "from-ipfw": (),
-         "to-ipfw": (),
-         "to-tc": (),
-         "replay": ("dpkt",),
-         "rate-trace": (),
-         "hosts": ("yaml",)}
+         "view": ("numpy", "plotly"), "pcap": ("numpy", "dpkt"), "from-ipfw": (), "to-ipfw": (), "to-tc": (),
+         "replay": ("dpkt",), "rate-trace": (), "hosts": ("yaml",)}
+COMMANDS = tuple(NEEDS)
 # pip's names of packages that differ from the module's name.
 PIP = {"yaml": "pyyaml"}
 HELP = """Tools for reports of dnlab, in Python.
@@ -71,8 +69,6 @@ def missing(modules: Sequence[str]) -> Optional[str]:
 
 def said_of(command: str, module: str) -> str:
     """Returns the message for a missing module: which Python lacks it, and how to install it."""
-    from dnlab.programs import called
-
     said = (f"{called(command)}: {module} is missing in {sys.executable} (pip install {PIP.get(module, module)}; Debian, for /usr/bin/python3: "
             f"apt-get install python3-{module}")
     if os.path.dirname(sys.executable) == "/usr/bin":
@@ -84,10 +80,12 @@ def said_of(command: str, module: str) -> str:
 
 
 def function_of(command: str) -> Callable[[Sequence[str]], int]:
-    """Returns the function that runs a command: `main` of the module with its name, except in `dnlab.cli.ipfw`."""
+    """Returns the function that runs a command: `main` of its module, or its own function in a shared one."""
     name = command.replace("-", "_")
-    module, function = ("ipfw", name) if name in ("from_ipfw", "to_ipfw", "to_tc") else (name, "main")
-    found: Callable[[Sequence[str]], int] = getattr(importlib.import_module(f"dnlab.cli.{module}"), function)
+    module = {"from_ipfw": "ipfw", "to_ipfw": "ipfw", "to_tc": "ipfw", "pcap": "captures", "replay": "captures",
+              "view": "plot"}.get(name)
+    commands = importlib.import_module(f"dnlab.cli.{module or name}")
+    found: Callable[[Sequence[str]], int] = getattr(commands, name if module else "main")
     return found
 
 
@@ -108,21 +106,17 @@ def main(words: Optional[Sequence[str]] = None) -> int:
             # The reader of standard output has gone.
             said = ""
         except OSError as fault:
-            from dnlab.errors import cause_of
-
             said = cause_of(fault)
         except MemoryError:
             said = "out of memory"
         write_no_more()
         if said:
-            from dnlab.programs import say
-
             say((words or ["dnlab"])[0], said)
         return MACHINE
 
 
 def begun(words: Sequence[str]) -> int:
-    """Runs a command without handling errors of the output; returns its exit status."""
+    """Runs a command and reports what it raises, except errors of the output; returns its exit status."""
     if list(words[:1]) in (["--help"], ["-h"]):
         print(HELP, end="")
         return 0
@@ -135,12 +129,19 @@ def begun(words: Sequence[str]) -> int:
     from dnlab.processes import subprocesses
 
     subprocesses.handle_signals(words[0])
-    # --help needs none of these modules, and exits by itself.
-    lacking = missing(NEEDS[words[0]]) if list(words[1:2]) not in (["--help"], ["-h"]) else None
+    # --help and --_complete need none of these modules, and exit by themselves.
+    lacking = missing(NEEDS[words[0]]) if not words[1:] or not re.match("-h$|--help$|--_complete=", words[1]) else None
     if lacking is not None:
         print(said_of(words[0], lacking), file=sys.stderr)
         return MACHINE
-    return function_of(words[0])(words[1:])
+    try:
+        return function_of(words[0])(words[1:])
+    except InputError as fault:
+        say(words[0], fault)
+        return status_of(fault)
+    except ProgramError as failed:
+        say(words[0], failed.said)
+        return failed.status or MACHINE
 
 
 def write_no_more() -> None:

@@ -1,5 +1,6 @@
 """The exceptions and warnings of the package, and the exit statuses and messages that commands derive from them."""
-from typing import NamedTuple
+from contextlib import contextmanager
+from typing import Iterator, NamedTuple
 
 
 class ParseError(Exception):
@@ -19,8 +20,35 @@ class ParseError(Exception):
         return ParseError, (self.line, self.cause)
 
 
+class RowError(ParseError):
+    """A malformed file of rows: the row, as NumPy counts it (from 0), and the cause.
+
+    >>> str(RowError(3, "the file ends here"))
+    'rows[3]: the file ends here'
+    """
+
+    def __init__(self, row: int, cause: str) -> None:
+        super().__init__(row, cause)
+        self.args = (f"rows[{row}]: {cause}",)
+
+    def __reduce__(self) -> tuple[type, tuple[int, str]]:
+        """Makes pickling between processes keep row and cause."""
+        return RowError, (self.line, self.cause)
+
+
 class InputError(Exception):
     """An input that can't be used: the file, the line and the cause."""
+
+
+@contextmanager
+def reading(name: object) -> Iterator[None]:
+    """Raises `InputError`, with its name, for a file that can't be read within the block, or is malformed."""
+    try:
+        yield
+    except OSError as fault:
+        raise InputError(f"{name}: {fault.strerror}") from None
+    except ParseError as refused:
+        raise InputError(f"{name}: {refused}") from None
 
 
 class ResourceError(InputError):
@@ -59,9 +87,13 @@ class ProgramError(Exception):
         self.status = status
         self.said = said
 
-    def __reduce__(self) -> tuple[type, tuple[int, str]]:
+    def __reduce__(self) -> tuple[type, tuple[object, ...]]:
         """Makes pickling between processes keep status and text."""
         return ProgramError, (self.status, self.said)
+
+    def about(self, what: str) -> "ProgramError":
+        """Returns the same error, with what it is about before its text."""
+        return ProgramError(self.status, f"{what}: {self.said}")
 
 
 class Note(NamedTuple):
@@ -88,10 +120,10 @@ KINDS = {
     "window-limited": "a flow's window, and not the network, held it back",
     "unused": "a rule or a pipe met no packet",
     "units": "a time, a gap or a rate looks like another unit",
-    "no scenario": "no scenario was given, so sizes and one-way delays are unknown",
-    "no pipe": "some packets are counted in no pipe, because no line of the report names their pipe",
+    "not traced": "they were made without --trace, so creation times, sizes, one-way delays and queues are unknown",
+    "same header": "two senders have the same header, and the text of a report doesn't tell them apart",
 }
-NO_SCENARIO = Note("no scenario", "a report has sizes and the times at which packets were created only with `trace 1`"
-                   ": give the scenario as the second argument")
+NOT_TRACED = Note("not traced", "creation times, sizes, one-way delays and queues are unknown, because the report was made without"
+                  " --trace: run `dnlab alone --trace < scenario.txt > report.txt`")
 # Warnings of experiments that did not run as written: no table is made of them, unless these are allowed.
 STOPPING = ("refused", "spent")

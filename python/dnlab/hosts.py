@@ -3,7 +3,7 @@ import heapq
 from typing import Callable, Generator, Iterable, Union
 
 from dnlab.session.transport import LATEST, Address, Event
-from dnlab.session.links import Link
+from dnlab.session.sessions import Link
 
 # A generator that yields the time (ns) until which it waits, and is sent the events since then.
 Waiting = Generator[int, list[Event], None]

@@ -11,7 +11,7 @@ from dnlab.errors import ProgramError
 # The repository, if this package is in one. tools/install puts the package into PREFIX/share/dnlab/python, and the program into
 # PREFIX/libexec/dnlab.
 ROOT = Path(__file__).resolve().parent.parent.parent
-_SCRIPT = ROOT / "dnlab"
+SCRIPT = ROOT / "dnlab"
 # Installed files other than Python's: next to the package, or in PREFIX/share/dnlab if the package is in
 # PREFIX/lib/python3/dist-packages.
 DATA = ROOT if (ROOT / "hosts").is_dir() else ROOT.parent.parent / "share" / "dnlab"
@@ -21,7 +21,7 @@ _CARRIED = Path(__file__).resolve().parent / "bin" / "dnlab"
 
 def is_repository() -> bool:
     """Returns whether this package is in its repository."""
-    return _SCRIPT.is_file() and (ROOT / "crates").is_dir()
+    return SCRIPT.is_file() and (ROOT / "crates").is_dir()
 
 
 def called(command: str) -> str:
@@ -65,7 +65,7 @@ def program(named: Optional[str] = None) -> str:
     starts: the proved program or a checked build, which is built first if necessary (a proof is never started). An installed
     package uses the program in it or next to it, else `dnlab` on the PATH. Raises `ProgramError` with what is missing."""
     given = named_program(named)
-    if given and not (is_repository() and os.path.samefile(given, _SCRIPT)):
+    if given and not (is_repository() and os.path.samefile(given, SCRIPT)):
         return given
     if is_repository():
         return _of_repository()
@@ -83,7 +83,7 @@ def carried() -> Optional[str]:
 
 def _of_repository() -> str:
     """Returns the program that ./dnlab starts, which reports its progress on standard error if it has to build one."""
-    words = [str(_SCRIPT), "program"]
+    words = [str(SCRIPT), "program"]
     environment = {name: word for name, word in os.environ.items() if name != "DNLAB"}
     try:
         going = subprocess.Popen(words, stdin=subprocess.DEVNULL, stdout=subprocess.PIPE, text=True, env=environment)

@@ -15,16 +15,17 @@ Nothing waits for real time and no socket is opened, so two runs have the same t
 numbers. Streams, subprocesses and signals are refused; work for an executor is done at once.
 """
 import asyncio
+import contextvars
 import errno
 import ipaddress
+import os
 import socket
 import time
 from contextlib import contextmanager
 from typing import Any, Callable, Coroutine, Iterator, Mapping, NoReturn, Optional, TypeVar
 
-from dnlab.session.datagrams import Network, fault_of, here, host
-from dnlab.session.transport import LATEST, Address, Event
-from dnlab.session.links import Link
+from dnlab.session.sessions import Link
+from dnlab.session.transport import LATEST, LEAST_SIZE, MOST_SIZE, Address, Event
 
 __all__ = ["DeadlockError", "Loop", "host", "run"]
 _Result = TypeVar("_Result")
@@ -87,7 +88,7 @@ class Loop(asyncio.BaseEventLoop):
         super().__init__()
         self.link, self.hold = link, hold
         self._names = {"localhost": "127.0.0.1", **(names or {})}
-        self._network = Network(link)
+        self._network = _Network(link)
         # asyncio runs a timer that is due within this time (s).
         self._clock_resolution = 1e-9
         self._selector = _Selector(self)
@@ -125,7 +126,7 @@ class Loop(asyncio.BaseEventLoop):
         except ValueError:
             raise socket.gaierror(socket.EAI_NONAME, f"{said} is neither an address nor one of the given names") from None
         if found.version != 4:
-            raise fault_of(errno.EAFNOSUPPORT)
+            raise _fault_of(errno.EAFNOSUPPORT)
         return here() if found.is_unspecified or found.is_loopback else said
 
     async def getaddrinfo(self, host: Any, port: Any, *, family: int = 0, type: int = 0, proto: int = 0,
@@ -142,7 +143,7 @@ class Loop(asyncio.BaseEventLoop):
         if sock is not None:
             raise ValueError("a real socket can't be used in simulated time")
         if family not in (0, socket.AF_INET):
-            raise fault_of(errno.EAFNOSUPPORT)
+            raise _fault_of(errno.EAFNOSUPPORT)
         local: Address = (self.address_of(local_addr[0]), int(local_addr[1])) if local_addr else (here(), 0)
         remote = (self.address_of(remote_addr[0]), int(remote_addr[1])) if remote_addr else None
         endpoint = self._network.bind(self, local, remote)
@@ -195,3 +196,144 @@ def run(main: Coroutine[Any, Any, _Result], *, link: Link, hold: int = 1, names:
             return runner.run(main)
         with clocks(link):
             return runner.run(main)
+
+
+# Size of the IPv4 and UDP headers of a datagram, in bytes.
+HEADERS = 28
+# The first and the last port for endpoints without one.
+_FREE, _LAST = 49152, 65535
+_HERE: contextvars.ContextVar[str] = contextvars.ContextVar("dnlab.sim.host")
+
+
+def _fault_of(number: int) -> OSError:
+    """Returns the `OSError` of an error number."""
+    return OSError(number, os.strerror(number))
+
+
+@contextmanager
+def host(address: str) -> Iterator[None]:
+    """Runs the code in the block, and the tasks and endpoints that it creates, at this IPv4 address of the link."""
+    token = _HERE.set(str(ipaddress.IPv4Address(address)))
+    try:
+        yield
+    finally:
+        _HERE.reset(token)
+
+
+def here() -> str:
+    """Returns the address at which the code runs. Raises `OSError` if none is set."""
+    found = _HERE.get("")
+    if not found:
+        raise OSError(errno.EADDRNOTAVAIL, "at which address of the link does this run? Say it by `with dnlab.sim.host(ADDRESS):`"
+                      " or by a local address")
+    return found
+
+
+class _Endpoint(asyncio.DatagramTransport):
+    """A bound address, as an asyncio transport for datagrams."""
+
+    def __init__(self, network: "_Network", loop: asyncio.AbstractEventLoop, local: Address, remote: Optional[Address]) -> None:
+        super().__init__({"sockname": local, "peername": remote, "socket": None})
+        self._network, self._loop, self.local, self.remote = network, loop, local, remote
+        self._protocol: Optional[asyncio.BaseProtocol] = None
+        self._context = contextvars.copy_context()
+        self._is_closing = False
+
+    def begin(self, protocol: asyncio.BaseProtocol) -> None:
+        self._protocol = protocol
+        self._loop.call_soon(protocol.connection_made, self)
+
+    def get_protocol(self) -> asyncio.BaseProtocol:
+        assert self._protocol is not None
+        return self._protocol
+
+    def set_protocol(self, protocol: asyncio.BaseProtocol) -> None:
+        self._protocol = protocol
+
+    def sendto(self, data: Any, addr: Optional[Any] = None) -> None:
+        """Sends a datagram. Errors are passed to the protocol's `error_received`, as in asyncio's own transport."""
+        if self.remote is not None and addr not in (None, self.remote):
+            raise ValueError(f"Invalid address: must be None or {self.remote}")
+        target = addr if self.remote is None else self.remote
+        if target is None:
+            raise ValueError("an endpoint without a remote address needs one for each datagram")
+        if self._is_closing:
+            return
+        try:
+            self._network.send(self.local, (str(target[0]), int(target[1])), bytes(data))
+        except OSError as fault:
+            self._call("error_received", fault)
+
+    def receive(self, data: bytes, source: Address) -> None:
+        """Passes a delivered datagram to the protocol."""
+        if self.remote in (None, source) and not self._is_closing:
+            self._call("datagram_received", data, source)
+
+    def _call(self, name: str, *words: Any) -> None:
+        if self._protocol is not None:
+            self._loop.call_soon(getattr(self._protocol, name), *words, context=self._context)
+
+    def is_closing(self) -> bool:
+        return self._is_closing
+
+    def get_write_buffer_size(self) -> int:
+        """Returns 0: an endpoint buffers nothing."""
+        return 0
+
+    def close(self) -> None:
+        if not self._is_closing:
+            self._is_closing = True
+            self._network.leave(self)
+            self._call("connection_lost", None)
+
+    def abort(self) -> None:
+        self.close()
+
+
+class _Network:
+    """The endpoints of a link."""
+
+    def __init__(self, link: Link) -> None:
+        self.link = link
+        self._endpoints: dict[Address, _Endpoint] = {}
+        self._free: dict[str, int] = {}
+
+    def bind(self, loop: asyncio.AbstractEventLoop, local: Address, remote: Optional[Address]) -> _Endpoint:
+        """Returns a new endpoint at an address; for port 0, at a free port. Raises `OSError` as an operating system does."""
+        if not local[1]:
+            local = (local[0], self._free_port(local[0]))
+        if local in self._endpoints:
+            raise _fault_of(errno.EADDRINUSE)
+        self._endpoints[local] = _Endpoint(self, loop, local, remote)
+        return self._endpoints[local]
+
+    def _free_port(self, address: str) -> int:
+        first = self._free.get(address, _FREE)
+        for port in [*range(first, _LAST + 1), *range(_FREE, first)]:
+            if (address, port) not in self._endpoints:
+                self._free[address] = port + 1
+                return int(port)
+        raise _fault_of(errno.EADDRINUSE)
+
+    def leave(self, endpoint: _Endpoint) -> None:
+        self._endpoints.pop(endpoint.local, None)
+
+    def send(self, source: Address, target: Address, data: bytes) -> None:
+        """Sends a datagram over the link. Raises `OSError` if it is too big, or if the experiment has ended."""
+        size = len(data) + HEADERS
+        if size > MOST_SIZE:
+            raise _fault_of(errno.EMSGSIZE)
+        if self.link.is_over:
+            raise _fault_of(errno.ENETDOWN)
+        try:
+            ipaddress.IPv4Address(target[0])
+        except ValueError:
+            raise OSError(errno.EAFNOSUPPORT, f"{target[0]} is not an IPv4 address") from None
+        self.link.send(source, target, max(size, LEAST_SIZE), data)
+
+    def deliver(self, event: Event) -> None:
+        """Passes a delivery to its endpoint. Drops are ignored, since hosts don't learn of them."""
+        if event.packet is not None and not event.cause:
+            endpoint = self._endpoints.get(event.packet.target)
+            if endpoint is not None:
+                endpoint.receive(event.packet.payload, event.packet.source)

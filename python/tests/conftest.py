@@ -1,4 +1,5 @@
 """Code that the tests share: paths, the program, and opened examples."""
+import io
 import os
 import re
 import signal
@@ -17,7 +18,9 @@ sys.path.insert(0, str(ROOT / "python"))
 os.environ["PATH"] = os.pathsep.join([os.path.dirname(sys.executable), os.environ["PATH"]])
 
 from dnlab.analysis.view import View  # noqa: E402
-from dnlab.io import report, scenario  # noqa: E402
+from dnlab.io import scenario  # noqa: E402
+from dnlab.io.pieces import pieces  # noqa: E402
+from dnlab.io.rows import Records  # noqa: E402
 from dnlab.programs import program as program_of  # noqa: E402
 
 
@@ -37,6 +40,23 @@ def in_part(cases: Sequence[Case], each: int) -> Sequence[Case]:
 def pytest_collection_modifyitems(items: list[pytest.Item]) -> None:
     places = {name: place for place, name in enumerate(LONGEST)}
     items.sort(key=lambda item: places.get(item.path.stem, len(LONGEST)))
+
+
+# Runs the tasks of an array one after another, like sbatch --wait. It only understands arrays that are lists.
+SBATCH = """#!/bin/sh
+for word; do
+  case $word in
+    --array=*) tasks=${word#--array=}; tasks=${tasks%\\%*} ;;
+    --chdir=*) cd "${word#--chdir=}" || exit 1 ;;
+  esac
+done
+export SLURM_JOB_ID=7
+for SLURM_ARRAY_TASK_ID in $(seq "${tasks%-*}" "${tasks#*-}"); do
+  export SLURM_ARRAY_TASK_ID
+  sh ./task || status=1
+done
+exit ${status:-0}
+"""
 
 
 class Examples:
@@ -61,11 +81,34 @@ def text_of(name: str, file: str) -> bytes:
     return (EXAMPLES / name / file).read_bytes()
 
 
+def report_of(text: bytes, *words: str) -> bytes:
+    """Returns what `dnlab alone` writes for a scenario."""
+    done = subprocess.run([program_of(), "alone", *words], input=text, capture_output=True, timeout=300, check=False)
+    assert done.returncode == 0, done.stderr
+    return done.stdout
+
+
+def records_in(report: bytes, names: Sequence[str] | None = None) -> list[Records]:
+    """Returns the experiments of a report, a text or rows."""
+    return [piece.read() for piece in pieces(io.BytesIO(report), names=names)]
+
+
+def views_of(text: bytes, joined: bool = True) -> list[View]:
+    """Runs a scenario, and returns its experiments by their rows, joined with the scenario or not."""
+    plans = scenario.read(text)
+    found = records_in(report_of(text, "--format", "npy"), list(plans))
+    return [View(one, plans[one.name] if joined else None) for one in found]
+
+
+def text_view(report: bytes, text: bytes) -> View:
+    """Returns the first experiment of a text report, joined with its scenario."""
+    found = records_in(report)[0]
+    return View(found, scenario.read(text)[found.name])
+
+
 def view_of(name: str, joined: bool = True) -> View:
-    """Returns the only experiment of an example."""
-    experiment = next(report.read(text_of(name, "expected.txt")))
-    plan = scenario.read(text_of(name, "scenario.txt"))[experiment.name] if joined else None
-    return View(experiment, plan)
+    """Returns the only experiment of an example, by its rows."""
+    return views_of(text_of(name, "scenario.txt"), joined)[0]
 
 
 @pytest.fixture(scope="session")
@@ -78,10 +121,23 @@ def program() -> str:
 def alone(program: str) -> Callable[[bytes], bytes]:
     """Returns a function that runs a scenario with `dnlab alone` and returns the report."""
     def run(text: bytes) -> bytes:
-        done = subprocess.run([program, "alone"], input=text, capture_output=True, timeout=300, check=False)
-        assert done.returncode == 0, done.stderr
-        return done.stdout
+        return report_of(text)
     return run
+
+
+@pytest.fixture(scope="session")
+def traced(program: str) -> Callable[[bytes], bytes]:
+    """Returns a function that runs a scenario with `dnlab alone --trace` and returns the report."""
+    def run(text: bytes) -> bytes:
+        return report_of(text, "--trace")
+    return run
+
+
+def rows_file(scenario: Path, folder: Path) -> Path:
+    """Runs a scenario, and returns the file of its rows in a folder."""
+    made = folder / f"{scenario.parent.name}.npy"
+    made.write_bytes(report_of(scenario.read_bytes(), "--format", "npy"))
+    return made
 
 
 @pytest.fixture(scope="session")

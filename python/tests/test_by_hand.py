@@ -1,22 +1,44 @@
-"""The reports worked out by hand in `dnlab.analysis.doctest_data` are those that the program writes, and each metric has an example there."""
-import inspect
+"""Reports and metrics that were calculated by hand: the program writes the reports, and each metric has the value."""
+from fractions import Fraction
 from typing import Callable
 
 import pytest
+from hand_calculated import FLOWS, TRAIN, Run, rows_of
 
-pytest.importorskip("numpy", reason="numpy is missing (Debian: python3-numpy)")
+from dnlab.analysis.metrics import WORDS, metric_of
 
-from dnlab.analysis.doctest_data import FLOWS, TRAIN, Run  # noqa: E402
-from dnlab.analysis.metrics import WORDS, Metric  # noqa: E402
+# Two of the train's four packets arrived, after 11 and 12 ms. 16000 bits in 12 ms are 1333333 bit/s. The only difference,
+# 1 ms, counts a sixteenth in the jitter (RFC 3550). The pipe served 32000 bits by 6 ms, and could have served 48000. `ended` is
+# 0 for `end`. Flow 1 delivers 1920 bytes without headers in 12 ms; flow 2 retransmits after 1 s. With rates of 1280000 and
+# 7679 bit/s Jain's index is 1287679^2 / (2 * (1280000^2 + 7679^2)).
+VALUES = [
+    (TRAIN, "train 1", {
+        "packets": 4, "delivered": 2, "in_flight": 1, "drops": 1, "drops.full": 1, "drops.lost": 0, "loss": Fraction(1, 4), "bytes": 2000,
+        "useful": 2000, "first": 0, "last": 12000000, "time": 12000000, "delay.min": 11000000, "delay.p50": 11000000,
+        "delay.mean": 11500000, "delay.p95": 12000000, "delay.max": 12000000, "rate": 1333333, "goodput": 1333333, "jitter": 62500,
+        "refused": 0, "ended": 0}),
+    (TRAIN, "pipe 1.0", {"utilisation": Fraction(32000, 48000)}),
+    (FLOWS, "flow 1", {"bytes": 2000, "useful": 1920, "goodput": 1280000, "retransmissions": 0, "fct": 12000000, "refused": 1}),
+    (FLOWS, "flow 2", {"packets": 2, "drops.denied": 1, "loss": Fraction(1, 2), "goodput": 7679, "retransmissions": 1, "fct": 1000000001}),
+    (FLOWS, "there", {"jain": Fraction(1287679**2, 2 * (1280000**2 + 7679**2))}),
+]
 
 
 @pytest.mark.parametrize("run", [TRAIN, FLOWS], ids=["train", "flows"])
-def test_the_program_writes_it(run: Run, alone: Callable[[bytes], bytes]) -> None:
-    assert alone(run.scenario) == run.report
+def test_the_program_writes_it(run: Run, traced: Callable[[bytes], bytes]) -> None:
+    assert traced(run.scenario) == run.report
+
+
+@pytest.mark.parametrize("run, sender, wanted", VALUES, ids=[sender for _, sender, _ in VALUES])
+def test_metrics(run: Run, sender: str, wanted: dict[str, Fraction]) -> None:
+    row = rows_of(run)[sender]
+    for word, value in wanted.items():
+        found = metric_of(word).of(row)
+        assert found is not None and abs(found - value) < Fraction(1, 10**9), word
 
 
 def test_each_metric_has_an_example() -> None:
     """Three of the drops by cause stand for all, because these columns work in the same way."""
-    shown = inspect.getdoc(Metric.of) or ""
-    wanted = [word.replace("pN", "p95") for word in WORDS if not word.startswith("drops.")]
-    assert [word for word in [*wanted, "drops.full", "drops.lost", "drops.denied"] if f'"{word}"' not in shown] == []
+    shown = {word for _, _, values in VALUES for word in values}
+    wanted = {word.replace("pN", "p95") for word in WORDS if not word.startswith("drops.")}
+    assert wanted | {"drops.full", "drops.lost", "drops.denied"} <= shown

@@ -5,10 +5,8 @@ from pathlib import Path
 import pytest
 from conftest import ROOT, tool
 
-pd = pytest.importorskip("pandas", reason="pandas is missing (Debian: python3-pandas)")
-
-import dnlab  # noqa: E402
-from dnlab.sweeps.grid import told_of  # noqa: E402
+import dnlab
+from dnlab.sweeps.grid import hints_of
 
 ONE = ("experiment {{ name }} seed {{ seed }} budget 99\n@0 pipe 1 config bw 1Mbit/s queue {{ queue }} plr {{ loss }}\n"
        "@0 add 1 pipe 1 ip from any to any\n@0 train 2 udp 10.0.0.1 1 10.0.0.2 2 100 count 9 gap 1000000\n@99000000 end\n")
@@ -23,12 +21,12 @@ def rows(means: "list[float | None]", name: str = "queue") -> "list[dict[str, ob
     ([1, 4, 1], "jumps at queue 1"), ([1, 1.2, 1], ""), ([5, None, 5, 5], "identical"), ([5, 5], ""), ([2, 0, 2], ""),
 ])
 def test_neighbours(means: "list[float | None]", said: str) -> None:
-    told = told_of(rows(means), ["queue"])
+    told = hints_of(rows(means), ["queue"])
     assert (said in told[0]) if said else told == []
 
 
 def test_a_setting_in_words_has_no_neighbours() -> None:
-    assert told_of([{"queue": word, "sender": "a", "stat": "b", "mean": 5} for word in ("1 codel", "2 codel", "3 codel")], ["queue"]) == []
+    assert hints_of([{"queue": word, "sender": "a", "stat": "b", "mean": 5} for word in ("1 codel", "2 codel", "3 codel")], ["queue"]) == []
 
 
 def test_runs_that_are_the_same_count_once(tmp_path: Path, program: str) -> None:

@@ -25,10 +25,10 @@ train 9: delay.min >= 11ms
 
 
 @pytest.fixture
-def run(alone: Callable[[bytes], bytes], tmp_path: Path) -> list[Path]:
+def run(traced: Callable[[bytes], bytes], tmp_path: Path) -> list[Path]:
     """Returns a report, its scenario, and a file of three bounds, of which the second fails."""
     paths = [tmp_path / name for name in ("report", "scenario", "bounds,100%.txt")]
-    for path, data in zip(paths, (alone(TRAIN.encode()), TRAIN.encode(), BOUNDS.encode())):
+    for path, data in zip(paths, (traced(TRAIN.encode()), TRAIN.encode(), BOUNDS.encode())):
         path.write_bytes(data)
     return paths
 
@@ -48,10 +48,10 @@ def test_junit(run: list[Path], tmp_path: Path) -> None:
     assert failure.tag == "failure" and failure.get("message") == "measured 15ms of a/train 9"
 
 
-def test_a_run_that_fails_by_itself_is_a_test_case(alone: Callable[[bytes], bytes], tmp_path: Path) -> None:
+def test_a_run_that_fails_by_itself_is_a_test_case(traced: Callable[[bytes], bytes], tmp_path: Path) -> None:
     text = TRAIN.replace("@100000000 end", "@2000000 end").replace("gap 0", "gap 1000000").encode()
     (tmp_path / "scenario").write_bytes(text)
-    (tmp_path / "report").write_bytes(alone(text))
+    (tmp_path / "report").write_bytes(traced(text))
     status, _, _ = tool("expect", tmp_path / "report", tmp_path / "scenario", "all: packets >= 1", "--junit", tmp_path / "out.xml")
     cases = {case.get("name"): case.get("classname") for case in ElementTree.parse(tmp_path / "out.xml").iter("testcase")}
     assert status == 1 and cases == {"all: packets >= 1": "bounds", "unsent": "experiment a"}

@@ -6,12 +6,15 @@ import os
 import re
 import subprocess
 import sys
+import tempfile
 from pathlib import Path
 
 import pytest
-from conftest import EXAMPLES, ROOT, tool
+from conftest import EXAMPLES, ROOT, rows_file, tool
 
-REPORT, SCENARIO = (EXAMPLES / "codel_one_drop" / name for name in ("expected.txt", "scenario.txt"))
+SCENARIO = EXAMPLES / "codel_one_drop" / "scenario.txt"
+ROOM = tempfile.TemporaryDirectory()
+REPORT = rows_file(SCENARIO, Path(ROOM.name))
 
 
 @pytest.mark.parametrize("name", ["plot", "summary"])
@@ -46,7 +49,10 @@ def test_summary_forms() -> None:
     status, out, err = tool("summary", "-", SCENARIO, "--json", text=REPORT.read_bytes())
     assert status == 0 and json.loads(out)[0]["p50"] == 120000001 and not err
     status, out, err = tool("summary", REPORT, "--csv")
-    assert status == 0 and out.split("\n")[1].startswith("codel-one-drop,plain,30,29,0,,,") and "scenario" in err
+    # Rows have no names of experiments, but senders and sizes.
+    assert status == 0 and out.split("\n")[1].startswith("0,train 1,30,29,0,29000,0,232000001,") and not err
+    status, out, err = tool("summary", EXAMPLES / "codel_one_drop" / "expected.txt", "--csv")
+    assert status == 0 and out.split("\n")[1].startswith("codel-one-drop,plain,30,29,0,,,") and "dnlab alone --trace <" in err
     status, out, _ = tool("summary", REPORT, SCENARIO)
     assert status == 0 and "120.000 " in out.split("\n")[1] and "120.000001" not in out and "codel:1" in out
 
@@ -114,8 +120,9 @@ def test_times_for_people_are_ms() -> None:
     assert out[0].split()[2:6] == ["begin", "ms", "end", "ms"] and out[1].split()[3:5] == ["0.000", "100.000"]
 
 
-def test_several_processes_and_experiments() -> None:
-    report, scenario = (EXAMPLES / "four_experiments" / name for name in ("expected.txt", "scenario.txt"))
+def test_several_processes_and_experiments(tmp_path: Path) -> None:
+    scenario = EXAMPLES / "four_experiments" / "scenario.txt"
+    report = rows_file(scenario, tmp_path)
     one = tool("summary", report, scenario, "--csv", "--workers", "1")
     assert one[0] == 0 and one == tool("summary", report, scenario, "--csv", "--workers", "3")
     assert one == tool("summary", "-", scenario, "--csv", "--workers", "2", text=report.read_bytes())
@@ -127,11 +134,12 @@ def test_several_processes_and_experiments() -> None:
 def test_notes_are_counted() -> None:
     """With many experiments each kind of note is printed once."""
     status, _, err = tool("summary", EXAMPLES / "four_experiments" / "expected.txt")
-    assert status == 0 and err.count("no scenario") == 1 and "3 of 4 experiments" in err
+    assert status == 0 and err.count("made without --trace") == 2 and "3 of 4 experiments" in err
 
 
 def test_scenarios_in_several_texts(tmp_path: Path) -> None:
-    report, scenario = (EXAMPLES / "four_experiments" / name for name in ("expected.txt", "scenario.txt"))
+    scenario = EXAMPLES / "four_experiments" / "scenario.txt"
+    report = rows_file(scenario, tmp_path)
     text = scenario.read_text()
     cut = text.index("\nexperiment ", text.index("experiment ") + 1) + 1
     (tmp_path / "a").write_text(text[:cut])
@@ -142,8 +150,8 @@ def test_scenarios_in_several_texts(tmp_path: Path) -> None:
 
 
 def test_files_drawn(tmp_path: Path) -> None:
-    pytest.importorskip("matplotlib")
-    report, scenario = (EXAMPLES / "reno_four_segments" / name for name in ("expected.txt", "scenario.txt"))
+    scenario = EXAMPLES / "reno_four_segments" / "scenario.txt"
+    report = rows_file(scenario, tmp_path)
     for ending, begins in (("svg", b"<?xml"), ("png", b"\x89PNG"), ("pdf", b"%PDF")):
         twice = []
         for name in (f"a.{ending}", f"b.{ending}"):

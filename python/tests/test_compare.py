@@ -8,16 +8,14 @@ from pathlib import Path
 from typing import Callable, Optional
 
 import pytest
-from conftest import ROOT, tool
+from conftest import ROOT, records_in, report_of, tool
 
-from dnlab.analysis.comparison import Pair, tolerance_of
-from dnlab.analysis.bounds import bound_of, bounds_in
+from dnlab.analysis.bounds import Pair, bound_of, bounds_in, tolerance_of
 from dnlab.analysis.metrics import metric_of
 from dnlab.analysis.divergence import parting
 from dnlab.analysis.view import View
 from dnlab.errors import InputError
 from dnlab.io import scenario
-from dnlab.io.report import read
 from dnlab.analysis.quantities import amount_of, shown
 
 Alone = Callable[[bytes], bytes]
@@ -32,19 +30,22 @@ SLOW = TRAIN.replace("8Mbit/s", "4Mbit/s")
 
 
 @pytest.fixture
-def two(alone: Alone, tmp_path: Path) -> list[Path]:
+def two(traced: Alone, tmp_path: Path) -> list[Path]:
     """Returns the files of both runs: a's report and scenario, b's report and scenario."""
     paths = []
     for name, text in (("a", TRAIN), ("b", SLOW)):
-        for kind, data in (("report", alone(text.encode())), ("scenario", text.encode())):
+        for kind, data in (("report", traced(text.encode())), ("scenario", text.encode())):
             paths.append(tmp_path / f"{name}.{kind}")
             paths[-1].write_bytes(data)
     return paths
 
 
-def view(alone: Alone, text: str, joined: bool = True) -> View:
+FLOW = b"experiment f seed 0 budget 9\n@0 add 1 allow ip from any to any\n@0 flow 1 10.0.0.1 1 10.0.0.2 2 smss 100 segments 9\n@9 end\n"
+
+
+def view(traced: Alone, text: str, joined: bool = True) -> View:
     plan = scenario.read(text.encode())["a"] if joined else None
-    return View(next(read(alone(text.encode()))), plan)
+    return View(records_in(traced(text.encode()))[0], plan)
 
 
 def test_metrics_and_ratio(two: list[Path]) -> None:
@@ -83,7 +84,7 @@ def test_exact_goes_with_the_table(two: list[Path], tmp_path: Path) -> None:
     """The last of five packets of 1000 bytes at 7 Mbit/s and 8 takes 5714286 ns (40000 bits, rounded up once) and 5000000."""
     report, plan = two[:2]
     other = tmp_path / "seven"
-    other.write_bytes(subprocess.run([os.environ["DNLAB"], "alone"], input=TRAIN.replace("8Mbit/s", "7Mbit/s").encode(),
+    other.write_bytes(subprocess.run([os.environ["DNLAB"], "alone", "--trace"], input=TRAIN.replace("8Mbit/s", "7Mbit/s").encode(),
                                      capture_output=True, check=True).stdout)
     seven = tmp_path / "seven.txt"
     seven.write_text(TRAIN.replace("8Mbit/s", "7Mbit/s"))
@@ -99,15 +100,15 @@ def test_where_they_part(two: list[Path]) -> None:
     assert lines[:6] == ["a: they diverge at 1000000 ns",
                          "  only in A: line 2: @0 pipe 1 config bw 8Mbit/s delay 10",
                          "  only in B: line 2: @0 pipe 1 config bw 4Mbit/s delay 10",
-                         "  last equal: none, they diverge at the first line",
-                         "  A: line 5: 1000000 ns finish train 9 packet 0 at 1.0",
-                         "  B: line 5: 2000000 ns finish train 9 packet 0 at 1.0"]
+                         "  last equal: A line 15: 0 ns arrive train 9 packet 4 at 1.0 | B line 15: 0 ns arrive train 9 packet 4 at 1.0",
+                         "  A: line 16: 1000000 ns finish train 9 packet 0 at 1.0",
+                         "  B: line 16: 2000000 ns finish train 9 packet 0 at 1.0"]
     # At 1 ms, one of the five packets has left the queue of A and is in the delay line.
     assert [line.split() for line in lines[6:8]] == [
         ["packets", "A", "before", "A", "after", "B", "before", "B", "after"], ["at", "1.0", "5+0", "4+1", "5+0", "5+0"]]
     assert json.loads(tool("compare", a, b, plan, other, "--json")[1])["partings"] == [
-        {"experiment": "a", "moment": 10**6, "a": "line 5: 1000000 ns finish train 9 packet 0 at 1.0",
-         "b": "line 5: 2000000 ns finish train 9 packet 0 at 1.0"}]
+        {"experiment": "a", "moment": 10**6, "a": "line 16: 1000000 ns finish train 9 packet 0 at 1.0",
+         "b": "line 16: 2000000 ns finish train 9 packet 0 at 1.0"}]
 
 
 def test_the_same(two: list[Path]) -> None:
@@ -130,37 +131,40 @@ def test_tolerances(two: list[Path]) -> None:
     assert tolerance_of("drops=2").allows(Fraction(3), Fraction(5)) and not tolerance_of("drops=2").allows(Fraction(3), Fraction(6))
 
 
-def test_serial_numbers_that_shift(alone: Alone) -> None:
+def test_serial_numbers_that_shift(traced: Alone) -> None:
     """An additional packet that no line names shifts all serial numbers, and changes nothing else."""
     more = TRAIN.replace("@0 add 100", "@0 pipe 2 config bw 1bit/s\n@0 add 50 pipe 2 tcp from any to any\n@0 add 100")
-    first = view(alone, more)
-    second = view(alone, more.replace("@0 train", "@0 inject tcp 10.0.0.1 1 10.0.0.2 2 1000\n@0 train"))
+    first = view(traced, more)
+    second = view(traced, more.replace("@0 train", "@0 inject tcp 10.0.0.1 1 10.0.0.2 2 1000\n@0 train"))
     assert second.counters.made == first.counters.made + 1
-    assert first.experiment.columns.packet.max() == 4 and second.experiment.columns.packet.max() == 5
+    assert first.records.rows["packet"].max() == 4 and second.records.rows["packet"].max() == 5
     found = parting(first, second)
     # Only the `ok` of the command that one run lacks remains.
     assert found is not None and "inject" in found.told[1].line(found.rows[1] or 0)
-    assert parting(first, view(alone, more)) is None
+    assert parting(first, view(traced, more)) is None
 
 
-def test_a_traced_run_beside_one_that_is_not(alone: Alone) -> None:
+def test_a_traced_run_beside_one_that_is_not(traced: Alone) -> None:
     """Lines that only a traced run has are not a difference in the events, but the command is."""
-    found = parting(view(alone, TRAIN), view(alone, TRAIN.replace("@0 train", "@0 trace 1\n@0 train")))
+    found = parting(view(traced, TRAIN), view(traced, TRAIN.replace("@0 train", "@0 trace 1\n@0 train")))
     assert found is not None and "`trace 1`" in found.told[1].line(found.rows[1] or 0)
+    bare, whole = View(records_in(report_of(FLOW))[0]), View(records_in(traced(FLOW))[0])
+    assert parting(bare, whole) is None and parting(whole, bare) is None
 
 
-def test_segments_are_told_by_bytes(alone: Alone) -> None:
+def test_segments_are_told_by_bytes(traced: Alone) -> None:
     """Lost segments are sent again. Where B stops, A's next line is the third transmission of the first byte."""
     text = ("experiment a seed 0 budget 100\n@0 pipe 1 config plr 1\n@0 add 100 pipe 1 ip from any to any\n"
             "@0 flow 1 10.0.0.1 1 10.0.0.2 2 smss 1000 segments 3\n@STOP stop 1\n@9000000000 end\n")
     # The first expiry is after 1 s, the next after 2 s more.
-    first, second = view(alone, text.replace("STOP", "8000000000")), view(alone, text.replace("STOP", "2000000000"))
+    first, second = view(traced, text.replace("STOP", "8000000000")), view(traced, text.replace("STOP", "2000000000"))
     found = parting(first, second)
     assert found is not None and found.moment == 3 * 10**9
     assert found.told[0].line(found.rows[0] or 0).split(": ")[1] == "3000000000 ns expire flow 1 cwnd 1000 ssthresh 2000"
     assert found.rows[1] is None
-    drops = [found.told[0].line(int(row)).split(": ")[1] for row in found.following[0][:2]]
-    assert drops[1] == "3000000000 ns drop flow 1 byte 0 (sent 3 times) lost"
+    following = [found.told[0].line(int(row)).split(": ")[1] for row in found.following[0][:4]]
+    assert following[1].startswith("3000000000 ns make flow 1 byte 0 (sent 3 times) 1040 bytes, tcp")
+    assert following[3] == "3000000000 ns drop flow 1 byte 0 (sent 3 times) lost"
 
 
 def test_what_compare_refuses(two: list[Path]) -> None:
@@ -195,8 +199,9 @@ def test_bounds_that_hold_and_fail(two: list[Path], tmp_path: Path) -> None:
         f"FAILS  {tmp_path}/bounds: line 5: all: packets > 9  (measured 5 of a/all)\n")
     status, out, _ = tool("expect", a, plan, "--bounds", tmp_path / "bounds", "--first")
     assert status == 1 and out.count("\n") == 2 and "line 5" not in out
-    status, out, _ = tool("expect", a, "plain: delay.p95 < 1s")
-    assert status == 1 and "it is unknown for a/plain: give the scenario" in out
+    (tmp_path / "untraced").write_bytes(report_of(TRAIN.encode()))
+    status, out, _ = tool("expect", tmp_path / "untraced", "plain: delay.p95 < 1s")
+    assert status == 1 and "it is unknown for a/plain: make the report with --trace: `dnlab alone --trace < scenario.txt" in out
 
 
 @pytest.mark.parametrize("text, said", [

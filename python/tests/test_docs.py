@@ -2,8 +2,6 @@
 import pytest
 from conftest import ROOT
 
-pytest.importorskip("pandas", reason="pandas is missing (Debian: python3-pandas)")
-
 
 def plain(text: str) -> str:
     """Returns a text without spaces at the ends of its lines."""

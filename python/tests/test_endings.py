@@ -16,12 +16,7 @@ import time
 from pathlib import Path
 from typing import Iterator, Optional
 
-import pytest
-
-pytest.importorskip("jinja2", reason="jinja2 is missing (Debian: python3-jinja2)")
-pytest.importorskip("scipy", reason="scipy is missing (Debian: python3-scipy)")
-
-from conftest import QUICK, ROOT, wait_for_handlers  # noqa: E402
+from conftest import QUICK, ROOT, wait_for_handlers
 
 MOMENTS = int(os.environ.get("DNLAB_MOMENTS", "9" if QUICK else "24"))
 # Texts of about 30 KB, so that the texts of a few experiments are larger than a pipe's buffer.

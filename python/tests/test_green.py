@@ -7,15 +7,14 @@ import sys
 from pathlib import Path
 from typing import Callable
 
+import numpy as np
 import pytest
-from conftest import ROOT, in_part, tool
+from conftest import ROOT, in_part, report_of, tool
 
 from dnlab.__main__ import COMMANDS
 from dnlab.analysis.quantities import percentile_name
 from dnlab.analysis.metrics import metric_of
 from dnlab.analysis.tables import jitter
-
-np = pytest.importorskip("numpy", reason="numpy is missing (Debian: python3-numpy)")
 Alone = Callable[[bytes], bytes]
 # A call of 100 bytes every 20 ms and five packets of 1000 bytes, over 8 Mbit/s and 10 ms: a packet of 1000 bytes takes
 # 1 ms, one of 100 bytes 0.1 ms.
@@ -42,12 +41,12 @@ FLOWS = """experiment f seed 0 budget 100
 
 
 @pytest.fixture
-def files(alone: Alone, tmp_path: Path) -> Callable[..., list[Path]]:
+def files(program: str, tmp_path: Path) -> Callable[..., list[Path]]:
     """Returns a function that writes the report and the scenario of a text to files."""
     def made(text: str, name: str = "call") -> list[Path]:
         report, scenario = tmp_path / f"{name}.report", tmp_path / f"{name}.txt"
         scenario.write_text(text)
-        report.write_bytes(alone(text.encode()))
+        report.write_bytes(report_of(text.encode(), "--format", "npy"))
         return [report, scenario]
     return made
 
@@ -123,10 +122,13 @@ def test_the_fixture_fails_too(files: Callable[..., list[Path]], tmp_path: Path)
 
 def test_a_tolerance_that_judges_nothing(files: Callable[..., list[Path]]) -> None:
     (first, plan), (second, other) = files(CALL), files(SLOW.replace("experiment b", "experiment a"), "slow")
+    untraced = first.with_name("a"), first.with_name("b")
+    for path, text in zip(untraced, (CALL, SLOW.replace("experiment b", "experiment a"))):
+        path.write_bytes(report_of(text.encode()))
     for words, status, said in (
-            (["delay.p95=5%"], 2, "no row has this metric, so nothing is judged: give the scenario"), (["goodput=5%"], 2, "no row has this metric"),
+            (["delay.p95=5%"], 2, "no row has this metric, so nothing is judged: make the report with --trace"), (["goodput=5%"], 2, "no row has this metric"),
             (["*=1000%"], 0, "no row has bytes, useful, first, time, rate, goodput"), (["delay.*=1s"], 2, "no row has this metric"), (["packets=0"], 0, "")):
-        got = tool("compare", first, second, *(word for one in words for word in ("--tolerance", one)))
+        got = tool("compare", *untraced, *(word for one in words for word in ("--tolerance", one)))
         assert got[0] == status and said in got[2], (words, got)
     for words, status, said in (
             (["--tolerance", "delay.p95=5%"], 1, ""), (["--tolerance", "delay.p95=100s"], 0, ""),
@@ -151,9 +153,11 @@ def test_what_both_lack_is_not_within(files: Callable[..., list[Path]]) -> None:
 def test_a_report_that_lacks_an_experiment(files: Callable[..., list[Path]], tmp_path: Path) -> None:
     report, plan = files(CALL + SLOW)
     cut = tmp_path / "cut"
+    report.write_bytes(report_of((CALL + SLOW).encode(), "--trace"))
     cut.write_bytes(report.read_bytes().partition(b"experiment b")[0])
     for name in ("expect", "summary", "view", "plot", "pcap"):
-        words = {"expect": ["all: drops == 0"], "view": ["--out", tmp_path / "p.html"], "plot": ["--out", tmp_path / "p.svg"]}
+        words = {"expect": ["all: drops == 0"], "view": ["--out", tmp_path / "p.html"], "plot": ["--out", tmp_path / "p.svg"],
+                 "pcap": ["--out", tmp_path / "a.pcap"]}
         status, out, err = tool(name, cut, plan, *words.get(name, []))
         if name != "pcap":
             assert "it has no experiment b, which" in err and "cut short" in err, name
@@ -175,7 +179,7 @@ def test_programs_that_are_not_dnlab(tmp_path: Path, files: Callable[..., list[P
     (tmp_path / "silent").write_text("#!/bin/sh\nexit 0\n")
     (tmp_path / "chatty").write_text("#!/bin/sh\necho hello\n")
     for name, said in (("silent", "wrote no report of experiment a"), ("other", "wrote no report of experiment a"),
-                       ("chatty", "wrote no report (is it dnlab?)")):
+                       ("chatty", "wrote no report")):
         (tmp_path / name).chmod(0o755)
         with pytest.raises(dnlab.ProgramError) as failed:
             dnlab.run(CALL, dnlab=str(tmp_path / name), out=tmp_path / "out")
@@ -247,7 +251,7 @@ def test_patterns_name_flows(files: Callable[..., list[Path]]) -> None:
     assert tool("expect", *texts, "--allow", "unsent", "flow 1: fct < 10s")[0] == 0
     for bound, said in (("train 1: drops < 1", "no row 'train 1'"), ("pipe 1.0: utilisation < 101%", ""),
                         ("pipe 2.0: utilisation < 50%", "the pipe has no rate"), ("all: delay.p95 < 1s", "use `there` or `back`"),
-                        ("pipe 1.0: loss < 1%", "without `trace 1`"), ("flow 1 acks: goodput > 1bit/s", "rows of this kind")):
+                        ("pipe 1.0: loss < 1%", ""), ("flow 1 acks: goodput > 1bit/s", "rows of this kind")):
         status, out, err = tool("expect", *texts, "--allow", "unsent", bound)
         assert said in out + err and status == (0 if not said else 2 if "row '" in said else 1), (bound, out, err)
     rows = tool("summary", *texts, "--of", "flow *", "--csv")[1].split("\n")[1:-1]
@@ -398,18 +402,6 @@ def test_stored_summaries(files: Callable[..., list[Path]], tmp_path: Path) -> N
         (tmp_path / "bad.json").write_text(text)
         status, out, err = tool("compare", tmp_path / "bad.json", first, plan)
         assert status == 2 and "it is not a complete summary" in err and not out, text[:40]
-
-
-def test_what_is_in_no_queue_is_said_where_it_counts(files: Callable[..., list[Path]], tmp_path: Path) -> None:
-    """At the end three packets are in a queue or in flight. Only a picture of queues depends on where they are."""
-    texts = files(CALL.replace("@100000000 end", "@21050000 end").replace("count 3 gap 20000000", "count 2 gap 20000000"))
-    for name, words in (("summary", []), ("expect", ["all: in_flight == 1"]), ("plot", ["--what", "rate", "--out", tmp_path / "r.svg"])):
-        status, _, err = tool(name, *texts, *words)
-        assert status == 0 and not err, (name, err)
-    status, _, err = tool("plot", *texts, "--what", "queue,queue", "--out", tmp_path / "q.svg")
-    assert status == 0 and err.count("no line that names") == 1
-    status, _, err = tool("view", *texts, "--out", tmp_path / "v.html")
-    assert status == 0 and err.count("no line that names") == 1
 
 
 def test_nothing_to_read(files: Callable[..., list[Path]], tmp_path: Path) -> None:

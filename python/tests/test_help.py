@@ -7,7 +7,7 @@ import pytest
 from conftest import ROOT
 
 # These run dnlab's own commands for ./dnlab, including `--help`, and the command that a link is named after.
-OF_DNLAB = {"tools/gate/by_try", "tools/gate/checked", "tools/command"}
+OF_DNLAB = {"tools/gate/checked", "tools/command"}
 TOOLS = sorted(str(path.relative_to(ROOT)) for path in (
     *ROOT.glob("tools/**/*"), *ROOT.glob("cookbook/*"), *ROOT.glob("stacks/**/*"), ROOT / "examples/check", ROOT / "test")
     if path.is_file() and os.access(path, os.X_OK))

@@ -8,8 +8,7 @@ import pytest
 from test_naming import LINK, MINE, MS, SCENARIO, row_of
 
 import dnlab
-from dnlab.analysis.commands import injected_of
-from dnlab.io import injections, scenario
+from dnlab.io import scenario
 from dnlab.io.files import scenario_checksum
 from dnlab.io.scenario import Judged
 from dnlab.io.scenario_parts import Run, Sends
@@ -45,7 +44,7 @@ LINES: list[tuple[bytes, Optional[str]]] = [
 def many(request: pytest.FixtureRequest, monkeypatch: pytest.MonkeyPatch) -> Iterator[int]:
     """Reads lines `inject` together, in blocks of few lines, or one by one."""
     monkeypatch.setattr(scenario, "MANY", request.param)
-    monkeypatch.setattr(injections, "_BLOCK", 200)
+    monkeypatch.setattr(scenario, "BLOCK", 200)
     yield request.param
 
 
@@ -89,11 +88,14 @@ def text_of_packets() -> bytes:
 def test_columns_are_what_lines_say(many: int) -> None:
     plan = scenario.read(text_of_packets())["a"]
     assert bool(plan.commands.runs) == (many == 1) and len(plan.commands) == len(PACKETS) + 2
-    found = injected_of(plan.commands)
-    assert found.columns.T.tolist() == [list(packet) for packet in PACKETS]
+    if many == 1:
+        columns = np.concatenate([run.columns for _, run in plan.commands.runs], axis=1)
+        # A line with more spaces is read by itself.
+        assert columns.T.tolist() == [list(packet) for place, packet in enumerate(PACKETS) if place != 77]
     # The heading is line 1, the stopped flow is command 20 in line 22, the comment is line 53, two empty lines follow packet 58.
-    assert found.place.tolist() == [place + (place >= 20) for place in range(101)]
-    assert found.line.tolist() == [2 + place + (place >= 20) + (place >= 50) + 2 * (place >= 59) for place in range(101)]
+    found = [(place, one.line) for place, one in enumerate(plan.commands) if one.word == "inject"]
+    assert [place for place, _ in found] == [place + (place >= 20) for place in range(101)]
+    assert [line for _, line in found] == [2 + place + (place >= 20) + (place >= 50) + 2 * (place >= 59) for place in range(101)]
 
 
 def test_commands_are_a_sequence(many: int) -> None:
@@ -118,10 +120,10 @@ def test_a_checksum_is_of_the_commands(monkeypatch: pytest.MonkeyPatch) -> None:
     assert found == ["6a51660581b73791e79962fc27538c2c8b983b84d6a3ef07511e91812bcaf963"] * 2
 
 
-def test_tables_by_hand(many: int, tmp_path: Path, alone: Callable[[bytes], bytes]) -> None:
+def test_tables_by_hand(many: int, tmp_path: Path, traced: Callable[[bytes], bytes]) -> None:
     """The rows are those that test_naming.py calculates by hand, whichever way lines are read."""
     (tmp_path / "scenario.txt").write_text(SCENARIO)
-    (tmp_path / "report.txt").write_bytes(alone(SCENARIO.encode()))
+    (tmp_path / "report.txt").write_bytes(traced(SCENARIO.encode()))
     report = dnlab.read(tmp_path / "report.txt", tmp_path / "scenario.txt", names=MINE)
     assert row_of(report.summary(), "mine") == [3, 2, 1, 2000, 11 * MS, 12_500_000, 1_280_000]
     one = report["one"]
@@ -130,8 +132,8 @@ def test_tables_by_hand(many: int, tmp_path: Path, alone: Callable[[bytes], byte
     assert one.commands().line.tolist() == list(range(2, 11)) and bool(one.view.plan.commands.runs) == (many == 1)
 
 
-def test_another_moment_is_refused(many: int, tmp_path: Path, alone: Callable[[bytes], bytes]) -> None:
-    (tmp_path / "report.txt").write_bytes(alone(SCENARIO.encode()))
+def test_another_moment_is_refused(many: int, tmp_path: Path, traced: Callable[[bytes], bytes]) -> None:
+    (tmp_path / "report.txt").write_bytes(traced(SCENARIO.encode()))
     (tmp_path / "scenario.txt").write_text(SCENARIO.replace("@30000000 inject", "@30000001 inject"))
     with pytest.raises(dnlab.InputError, match="command 6 at 30000000, where line 8 of the scenario has 30000001"):
         dnlab.read(tmp_path / "report.txt", tmp_path / "scenario.txt")["one"]
@@ -140,8 +142,8 @@ def test_another_moment_is_refused(many: int, tmp_path: Path, alone: Callable[[b
 def test_runs_have_no_line_that_has_a_fault() -> None:
     """Only lines that the grammar certainly accepts are read in blocks."""
     text = b"\n".join(line for line, _ in LINES) + b"\n"
-    taken = [line for _, part in injections.parts_of(text) if isinstance(part, Run) for line in part.text.split(b"\n")[:-1]]
+    taken = [line for _, part in scenario.runs_in(text) if isinstance(part, Run) for line in part.text.split(b"\n")[:-1]]
     good = [line for line, cause in LINES if line.startswith(b"@") and cause in (None, "backwards") and not line.endswith(b" ")]
     assert taken == good and len(taken) == 4
-    columns = injections.columns_of(b"\n".join(good) + b"\n")
+    columns = scenario.columns_of(b"\n".join(good) + b"\n")
     assert columns.dtype == np.int64 and columns[6].tolist() == [1000, 40, 1500, 1000]

@@ -3,58 +3,37 @@ import os
 import random
 
 import pytest
-from conftest import QUICK, text_of, view_of
+from conftest import QUICK, report_of, text_of, text_view, view_of, views_of
 
-from dnlab.analysis.makings import makings_of
-from dnlab.analysis.packets import OUTCOMES, nowhere as lost_in
 from dnlab.analysis.view import View
 from dnlab.errors import ParseError
-from dnlab.io import report, scenario
-from dnlab.io.lines import DATA, INSTANCE, LISTINGS, pipe_code, pipe_name
+from dnlab.io.rows import DATA, INSTANCE, RULE, instance_name
 
-# Changes of the scenario or the report of reno_four_segments: which of them, old and new text, line and cause.
+# Changes of the scenario or the report of reno_four_segments: which of them, old and new text, and the cause.
 JOINS = [
-    ("report", "11200000 deliver 0 data 1 0", "11200000 deliver 0 data 1 1460", 10, "isn't this scenario's"),
-    ("report", "21200000 deliver 3 ack 1 1460", "21200000 deliver 3 plain", 17, "doesn't follow its delivery"),
-    ("report", "100000000 ok 5", "100000001 ok 5", 27, "at 100000001"),
-    ("report", "22400000 finish 6 1.0", "22400000 finish 7 1.0", 20, "before it is created"),
-    # The fifth segment is sent with the fourth, as packet 7, which the report calls an acknowledgement.
-    ("scenario", "segments 4", "segments 5", 25, "isn't this scenario's"),
-    ("scenario", "smss 1460", "smss 1000", 12, "isn't this scenario's"),
-    ("scenario", "segments 4", "segment 4", 6, "not a line of a scenario"),
-    ("scenario", "@0 add 100", "@0 ad 100", 4, "not a line of a scenario"),
-    # An additional packet that no line names; only the counters include it.
-    ("scenario", "@100000000 end", "@99999999 inject udp 10.0.0.1 1 10.0.1.1 2 100\n@100000000 end", 27, "command 5"),
-    ("scenario", "@100000000 end", "@100000000 show\n@100000000 end", 28, "ends before command 6"),
+    ("report", "100000000 ok 5", "100000001 ok 5", "command 5 at 100000001, where line 7 of the scenario has 100000000"),
+    ("scenario", "smss 1460", "smss 1000", "with 1500 bytes and the header tcp 10.0.0.1"),
+    ("scenario", "flow 1 10.0.0.1", "flow 1 10.0.0.3", "the header tcp 10.0.0.1"),
+    ("scenario", "segments 4", "segment 4", "line 6: badword: not a line of a scenario"),
+    ("scenario", "@0 add 100", "@0 ad 100", "line 4: badword: not a line of a scenario"),
+    # A packet that the report doesn't have.
+    ("scenario", "@100000000 end", "@99999999 inject udp 10.0.0.1 1 10.0.1.1 2 100\n@100000000 end", "command 5"),
+    ("scenario", "@100000000 end", "@100000000 show\n@100000000 end", "ends before command 6"),
 ]
 
 
-@pytest.mark.parametrize("which,old,new,line,word", JOINS)
-def test_pairs_that_dont_belong_together(which: str, old: str, new: str, line: int, word: str) -> None:
-    texts = {"report": text_of("reno_four_segments", "expected.txt").decode(),
-             "scenario": text_of("reno_four_segments", "scenario.txt").decode()}
+@pytest.mark.parametrize("which,old,new,said", JOINS)
+def test_pairs_that_dont_belong_together(which: str, old: str, new: str, said: str) -> None:
+    text = text_of("reno_four_segments", "scenario.txt")
+    texts = {"report": report_of(text, "--trace").decode(), "scenario": text.decode()}
     assert old in texts[which]
     texts[which] = texts[which].replace(old, new, 1)
     with pytest.raises(ParseError) as refused:
-        makings_of(next(report.read(texts["report"].encode())), scenario.read(texts["scenario"].encode())["r"])
-    assert refused.value.line == line and word in refused.value.cause
+        text_view(texts["report"].encode(), texts["scenario"].encode())
+    assert said in str(refused.value)
 
 
-def test_a_packet_that_no_line_names() -> None:
-    """A train's last packet is held at the end, so only the counters include it."""
-    text = b"experiment t seed 0 budget 9\n@0 pipe 1 config delay 50\n@0 add 1 pipe 1 ip from any to any\n" \
-           b"@0 train 1 udp 10.0.0.1 1 10.0.0.2 2 100 count 2 gap 60000000\n@100000000 end\n"
-    told = b"experiment t\n0 ok 0\n0 ok 1\n0 ok 2\n0 finish 0 1.0\n50000000 deliver 0 plain\n60000000 finish 1 1.0\n" \
-           b"100000000 ok 3\ncounters 2 1 1 0 0 0 0 0 0 0 0\n"
-    plan = scenario.read(text)["t"]
-    assert len(makings_of(next(report.read(told)), plan)) == 2
-    shorter = told.replace(b"60000000 finish 1 1.0\n", b"").replace(b"counters 2 1 1", b"counters 1 1 0")
-    with pytest.raises(ParseError) as refused:
-        makings_of(next(report.read(shorter)), plan)
-    assert refused.value.line == 1 and "1 packets were created, but the scenario creates 2" in refused.value.cause
-
-
-def test_makings_by_hand() -> None:
+def test_packets_by_hand() -> None:
     table = view_of("reno_four_segments").packets
     made = [(table.names[who], moment, size) for who, moment, size in zip(table.who, table.made, table.size)]
     # Three segments at once; each delivery creates an acknowledgement; the fourth segment is sent at the first of these.
@@ -69,7 +48,7 @@ def test_makings_by_hand() -> None:
 
 def visits(view: View, packet: int) -> list[tuple[str, int, int, int]]:
     table = view.visits
-    return [(pipe_name(int(table.pipe[k])), int(table.arrival[k]), int(table.finish[k]), int(table.exit[k]))
+    return [(instance_name(int(table.pipe[k])), int(table.arrival[k]), int(table.finish[k]), int(table.exit[k]))
             for k in range(len(table)) if table.packet[k] == packet]
 
 
@@ -80,7 +59,7 @@ def test_visits_by_hand() -> None:
     traced = view_of("traced_two_pipes", joined=False)
     assert visits(traced, 0) == wanted
     assert traced.packets.delay.tolist() == [15 * 10**6 + 1]
-    assert traced.is_told and traced.is_traced
+    assert traced.is_told
 
 
 FLOWS = ("", " window 3000", " ssthresh 4000", " rto 100", " rto adaptive", " rto 20 ssthresh 3000")
@@ -147,12 +126,6 @@ def random_scenario(seed: int) -> str:
     return "\n".join(lines) + "\n"
 
 
-def is_told(view: View) -> bool:
-    """Returns true if the pipes of every packet are known."""
-    deleted = (view.packets.outcome == OUTCOMES.index("deleted")).any()
-    return not lost_in(view.packets, view.visits) and not deleted
-
-
 def listed(view: View, moment: int, pipe: int) -> tuple[int, int]:
     """Returns the number of packets that wait or are in service, and the number in the delay line, just before a time."""
     table = view.visits
@@ -169,43 +142,41 @@ def listed(view: View, moment: int, pipe: int) -> tuple[int, int]:
 
 
 def compare_listings(view: View) -> int:
-    """Compares each `instance` line with the join. Returns the number of lines compared."""
+    """Compares each `instance` row of a listing with the join. Returns the number of rows compared."""
     commands = view.plan.commands
     shown = [one.moment for one in commands if one.word == "pipe"][-4:]
-    columns, moment, compared = view.experiment.columns, 0, 0
-    for row in range(len(columns)):
-        moment = int(columns.moment[row]) if columns.moment[row] >= 0 else moment
-        if columns.word[row] != INSTANCE or moment not in shown or moment == commands[-6].moment:
+    rows, moment, compared = view.records.rows, 0, 0
+    for row in rows:
+        moment = int(row["moment"]) if row["kind"] < RULE else moment
+        if row["kind"] != INSTANCE or moment not in shown or moment == commands[-6].moment:
             continue
-        fields = LISTINGS[INSTANCE].fullmatch(view.experiment.listings[row])
-        pipe = pipe_code(f"{fields[1]}.{fields[2]}".encode())
-        wanted = int(fields[3]) + int(fields[5]), int(fields[6])
-        assert listed(view, moment, pipe) == wanted, f"line {view.experiment.line_of(row)}"
+        wanted = int(row["number"]) + int(row["code"]), int(row["packet"])
+        assert listed(view, moment, int(row["pipe"]) * 256 + int(row["instance"])) == wanted, moment
         compared += 1
     return compared
 
 
+TABLES = ("made", "ended", "outcome", "size", "kind", "flow", "number")
+
+
 @pytest.mark.parametrize("tens", range(int(os.environ.get("DNLAB_JOINS", "20" if QUICK else "100")) // 10))
-def test_random_scenarios(tens: int, alone) -> None:
-    """Tries ten at a time: the join agrees with each line, with the counters and with each listing, and a traced report gives
-    the same result without its scenario. DNLAB_JOINS=1000 tries more."""
+def test_random_scenarios(tens: int) -> None:
+    """The queues of the tables are those of the listings, and a traced text has the same tables as the rows."""
     compared = segments = 0
     for seed in range(10 * tens, 10 * tens + 10):
         text = random_scenario(seed).encode()
-        experiment = next(report.read(alone(text)))
-        view = View(experiment, scenario.read(text)["x"])
-        if is_told(view):
-            compared += compare_listings(view)
+        view, = views_of(text)
+        compared += compare_listings(view)
         segments += int((view.packets.kind == DATA).sum())
-        if seed % 3 == 0:
-            bare = View(experiment)
-            for name in ("made", "ended", "outcome", "size", "kind", "flow", "number"):
-                assert (getattr(bare.packets, name) == getattr(view.packets, name)).all(), f"seed {seed}: {name}"
-            assert visits_all(bare) == visits_all(view)
+        told = text_view(report_of(text, "--trace"), text)
+        for name in TABLES:
+            assert (getattr(told.packets, name) == getattr(view.packets, name)).all(), f"seed {seed}: {name}"
+        assert visits_all(told) == visits_all(view)
+        if not told.alike:
+            assert [told.packets.names[who] for who in told.packets.who] == [view.packets.names[who] for who in view.packets.who]
     assert segments and compared
 
 
 def visits_all(view: View) -> list[tuple[int, ...]]:
     table = view.visits
     return list(zip(*(getattr(table, name).tolist() for name in ("packet", "pipe", "arrival", "finish", "exit"))))
-

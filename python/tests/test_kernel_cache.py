@@ -33,7 +33,7 @@ from dnlab.emulation import kernel_cache
 from dnlab.errors import ResourceError
 from dnlab.processes.subprocesses import handle_signals
 kernel_cache.BUILD = pathlib.Path(sys.argv[1])
-kernel_cache._library = lambda prefix: (prefix, sys.argv[2] == "proved")
+kernel_cache.library_in = lambda prefix: (prefix, sys.argv[2] == "proved")
 handle_signals("hosts")
 try:
     print(kernel_cache.kernel().folder)

@@ -10,8 +10,8 @@ from conftest import ROOT
 PACKAGE = ROOT / "python" / "dnlab"
 # The layers that a layer may import, in addition to itself and the modules of the package's own folder
 # (docs/explanation/architecture.md).
-BELOW = {"processes": "", "io": "processes", "analysis": "processes io", "plot": "processes io analysis", "library": "io",
-         "sweeps": "processes io analysis plot library", "session": "processes io library", "senders": "session analysis",
+BELOW = {"processes": "", "io": "processes", "analysis": "processes io", "plot": "processes io analysis",
+         "sweeps": "processes io analysis plot", "session": "processes io", "senders": "session analysis",
          "emulation": "processes io analysis", "cli": "processes io analysis plot sweeps session emulation"}
 # An experiment has a method for its figure, like a frame of pandas.
 ASIDE = {("analysis/results.py", "plot")}

@@ -3,11 +3,8 @@ from pathlib import Path
 
 import pytest
 
-from dnlab.io.splitting import most_report
-from dnlab.sweeps.templates import Renderer
-from dnlab.sweeps.templates import Template
-
-pytest.importorskip("jinja2")
+from dnlab.io.scenario_text import most_report
+from dnlab.sweeps.templates import Renderer, Template
 
 
 @pytest.fixture
@@ -22,10 +19,10 @@ def maker(tmp_path: Path) -> Renderer:
 
 def changed(maker: Renderer, folder: Path) -> list[str]:
     """Makes three texts of the same name, the second and third after the included file has changed."""
-    texts = [maker.made("a", 1, {"queue": 5}, "a")]
+    texts = [maker.render("a", 1, {"queue": 5}, "a")]
     (folder / "part.txt").write_text("second, another length")
     maker.close()
-    return texts + [maker.made("a", 1, {"queue": 5}, "a"), maker.made("a", 2, {"queue": 5}, "a")]
+    return texts + [maker.render("a", 1, {"queue": 5}, "a"), maker.render("a", 2, {"queue": 5}, "a")]
 
 
 def test_a_text_is_made_once(maker: Renderer, tmp_path: Path) -> None:
@@ -33,7 +30,7 @@ def test_a_text_is_made_once(maker: Renderer, tmp_path: Path) -> None:
 
 
 def test_many_texts_are_not_kept(maker: Renderer, tmp_path: Path, monkeypatch: pytest.MonkeyPatch) -> None:
-    monkeypatch.setattr(maker, "_left", len("# 1 5 first\n") - 1)
+    monkeypatch.setattr(maker, "left", len("# 1 5 first\n") - 1)
     assert changed(maker, tmp_path)[1] == "# 1 5 second, another length\n"
 
 
@@ -50,4 +47,4 @@ def test_listings_count_by_their_kind() -> None:
 
 def test_a_text_goes_on_behind_empty_pieces(tmp_path: Path) -> None:
     text = "{% for place in range(5000) %}{{ '' }}{% endfor %}# {{ name }}\n{% for place in range(3) %}{{ place }}{% endfor %}"
-    assert Template(text).made("a", 1, {}) == "# a\n012\n"
+    assert Template(text).render("a", 1, {}) == "# a\n012\n"

@@ -4,12 +4,10 @@ from pathlib import Path
 from typing import Callable
 
 import pytest
-from conftest import tool
+from conftest import tool, views_of
 
 from dnlab.analysis.diagnostics import MEANS, codes_of
 from dnlab.analysis.view import View
-from dnlab.io import scenario
-from dnlab.io.report import read
 
 Alone = Callable[[bytes], bytes]
 LINK = "@0 pipe 1 config bw 10Mbit/s delay 20 queue 50\n"
@@ -21,9 +19,8 @@ TRAIN = "@0 train 9 udp 10.0.0.9 1 10.0.1.9 2 100 count 10 gap 20000000\n"
 FLOW = "@0 flow 1 10.0.0.1 1 10.0.1.1 80 smss 1460 segments 30\n"
 
 
-def view(alone: Alone, commands: str, end: int = 5 * 10**9, heading: str = "seed 0 budget 1000") -> View:
-    text = f"experiment a {heading}\n{commands}@{end} end\n".encode()
-    return View(next(read(alone(text))), scenario.read(text)["a"])
+def view(commands: str, end: int = 5 * 10**9, heading: str = "seed 0 budget 1000") -> View:
+    return views_of(f"experiment a {heading}\n{commands}@{end} end\n".encode())[0]
 
 
 # The commands, the time of the end, and the warnings.
@@ -90,30 +87,30 @@ MARKS = [
 
 
 @pytest.mark.parametrize("what,commands,end,marks", MARKS, ids=[one[0] for one in MARKS])
-def test_marks(alone: Alone, what: str, commands: str, end: int, marks: str) -> None:
-    assert view(alone, commands, end).marks() == marks
+def test_marks(what: str, commands: str, end: int, marks: str) -> None:
+    assert view(commands, end).marks() == marks
 
 
-def test_spent_and_budget(alone: Alone) -> None:
-    assert view(alone, BOTH + TRAIN, heading="seed 0 budget 1000 steps 20").marks() == "spent"
-    assert view(alone, BOTH + TRAIN.replace("gap 20000000", "gap 0"), heading="seed 0 budget 3").marks() == "budget"
+def test_spent_and_budget() -> None:
+    assert view(BOTH + TRAIN, heading="seed 0 budget 1000 steps 20").marks() == "spent"
+    assert view(BOTH + TRAIN.replace("gap 20000000", "gap 0"), heading="seed 0 budget 3").marks() == "budget"
 
 
-def test_a_pipe_that_is_deleted(alone: Alone) -> None:
+def test_a_pipe_that_is_deleted() -> None:
     """By hand: the train's packets arrive at 0, 20, .. 180 ms. The pipe is deleted at 90 ms, so the last five find no pipe."""
-    made = view(alone, BOTH + TRAIN + "@90000000 pipe delete 1\n")
+    made = view(BOTH + TRAIN + "@90000000 pipe delete 1\n")
     notes = [note for note in made.notes if note.mark == "nopipe"]
     assert [note.of for note in notes] == ["train 9"] and "train 9: 5 of 10 packets" in notes[0].text
 
 
-def test_whose_rows(alone: Alone) -> None:
+def test_whose_rows() -> None:
     """A sender's warning is in its own rows and in those of all senders."""
-    made = view(alone, BOTH + TRAIN + FLOW.replace("segments 30", "segments 1000000 window 2920"))
+    made = view(BOTH + TRAIN + FLOW.replace("segments 30", "segments 1000000 window 2920"))
     assert [made.marks(of) for of in ("flow 1", "train 9", "")] == ["window-limited", "", "window-limited"]
 
 
-def test_what_refusals_say(alone: Alone) -> None:
-    made = view(alone, BOTH + TRAIN + TRAIN + "@0 add 70000 allow ip from any to any\n@5 delete 50\n@6 delete 51\n")
+def test_what_refusals_say() -> None:
+    made = view(BOTH + TRAIN + TRAIN + "@0 add 70000 allow ip from any to any\n@5 delete 50\n@6 delete 51\n")
     assert [(one.line, one.code, one.moment) for one in made.refused] == [(7, 22, 0), (8, 10, 0), (9, 13, 5), (10, 13, 6)]
     assert made.refused[0].told() == (
         f"line 7: `{TRAIN.strip()[3:]}` (22: a flow or a train has this number already)")
@@ -121,29 +118,29 @@ def test_what_refusals_say(alone: Alone) -> None:
     note = made.notes[0]
     assert note.mark == "refused" and note.text.startswith("4 of 10 commands were refused") and "; and 1 more" in note.text
     # Without the scenario, the warning has the time and the command's number.
-    alone_told = View(made.experiment).refused[0].told()
+    alone_told = View(made.records).refused[0].told()
     assert alone_told == "command 5 at 0 ns (22: a flow or a train has this number already)"
     assert sorted(MEANS) == [10, 11, 12, 13, 20, 21, 22, 23, 24, 25]
 
 
-def test_too_many_of_each(alone: Alone) -> None:
+def test_too_many_of_each() -> None:
     """After 256 flows and trains, 256 rules or 64 pipes, further ones are refused."""
     trains = "".join(TRAIN.replace("train 9", f"train {number}") for number in range(1, 260))
-    assert codes_of(view(alone, BOTH + trains).refused) == "25:3"
+    assert codes_of(view(BOTH + trains).refused) == "25:3"
     rules = "".join(f"@0 add {number} allow ip from any to any\n" for number in range(1, 260))
-    assert codes_of(view(alone, rules + "@0 inject udp 10.0.0.1 1 10.0.0.2 2 100\n").refused) == "12:3"
+    assert codes_of(view(rules + "@0 inject udp 10.0.0.1 1 10.0.0.2 2 100\n").refused) == "12:3"
     pipes = "".join(f"@0 pipe {number} config delay 1\n" for number in range(1, 67))
-    assert codes_of(view(alone, pipes).refused) == "24:2"
+    assert codes_of(view(pipes).refused) == "24:2"
     mask = LINK + "@0 add 100 pipe 1 ip from any to any\n" + TRAIN + "@1000000 pipe 1 config bw 10Mbit/s delay 20 queue 50 mask all\n"
-    assert codes_of(view(alone, mask).refused) == "21:1"
+    assert codes_of(view(mask).refused) == "21:1"
 
 
-def test_columns_of_the_summary(alone: Alone, tmp_path: Path) -> None:
+def test_columns_of_the_summary(traced: Alone, tmp_path: Path) -> None:
     """Each row has the count and the codes; the rows of another experiment have none."""
     good = f"experiment a seed 0 budget 1000\n{BOTH}{TRAIN}@5000000000 end\n"
     bad = good.replace("experiment a", "experiment b").replace(TRAIN, TRAIN + TRAIN)
     (tmp_path / "s").write_text(good + bad)
-    (tmp_path / "r").write_bytes(alone((good + bad).encode()))
+    (tmp_path / "r").write_bytes(traced((good + bad).encode()))
     status, out, err = tool("summary", tmp_path / "r", tmp_path / "s", "--json")
     rows = {(row["experiment"], row["sender"]): row for row in json.loads(out)}
     assert status == 0 and [(rows[name, "train 9"]["refused"], rows[name, "train 9"]["codes"], rows[name, "train 9"]["warnings"])
@@ -153,8 +150,8 @@ def test_columns_of_the_summary(alone: Alone, tmp_path: Path) -> None:
     assert [line.split()[-1] for line in out.split("\n")[1:-1]] == ["-"] * 3 + ["refused"] * 3
 
 
-def test_what_is_unused(alone: Alone) -> None:
+def test_what_is_unused() -> None:
     """The notes of summary and expect name the unused pipe and rule."""
-    made = view(alone, "@0 add 10 allow ip from any to any\n" + BOTH + TRAIN)
+    made = view("@0 add 10 allow ip from any to any\n" + BOTH + TRAIN)
     note = next(note for note in made.notes if note.mark == "unused")
     assert "pipe 1" in note.text and "`add 100 pipe 1 ip" in note.text and note.of == ""

@@ -8,7 +8,7 @@ import pandas as pd
 import pytest
 
 import dnlab
-from dnlab.analysis.doctest_data import FLOWS, TRAIN, Run
+from hand_calculated import FLOWS, TRAIN, Run
 from dnlab.analysis.metrics import metric_of
 
 

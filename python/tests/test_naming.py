@@ -31,11 +31,11 @@ SOURCES = "the sources are 10.0.0.1:1000, 10.0.0.1:2000, 10.0.0.2:53"
 
 
 @pytest.fixture
-def files(tmp_path: Path, alone: Alone) -> tuple[Path, Path]:
+def files(tmp_path: Path, traced: Alone) -> tuple[Path, Path]:
     """Returns a report and its scenario."""
     report, scenario = tmp_path / "report.txt", tmp_path / "scenario.txt"
     scenario.write_text(SCENARIO)
-    report.write_bytes(alone(SCENARIO.encode()))
+    report.write_bytes(traced(SCENARIO.encode()))
     return report, scenario
 
 
@@ -107,7 +107,7 @@ def test_a_session(program: str, tmp_path: Path) -> None:
         link.send(("10.0.1.1", 80), ("10.0.0.1", 1000), 40)
         link.end(200 * MS)
         link.save(tmp_path / "scenario.txt", tmp_path / "report.txt")
-    report = dnlab.read(tmp_path / "report.txt", tmp_path / "scenario.txt")
+    report = dnlab.run(tmp_path / "scenario.txt", dnlab=program)
     rows = report.summary(names={"10.0.0.1:1000": "client", "10.0.1.1": "server"})
     assert list(rows.sender) == ["client", "server", "pipe 1.0", "all"]
     assert list(rows["max"])[:2] == [18 * MS, 10_320_000]
@@ -117,12 +117,10 @@ def test_a_session(program: str, tmp_path: Path) -> None:
 
 
 def test_another_scenario_is_still_refused(files: tuple[Path, Path]) -> None:
-    """With 600 bytes in line 5 the second packet would be served until 1.6 ms instead of 1.5."""
-    files[1].write_text(SCENARIO.replace("2000 500", "2000 600"))
-    with pytest.raises(dnlab.InputError, match="line 5: injected, 600 bytes"):
+    """With 9 Mbit/s the first packet would be served until 888889 ns instead of 1 ms."""
+    files[1].write_text(SCENARIO.replace("8Mbit/s", "9Mbit/s"))
+    with pytest.raises(dnlab.InputError, match="packet 0 finishes at 1000000, but the scenario has 888889"):
         dnlab.read(*files, names=MINE).summary()
-    with pytest.raises(dnlab.InputError, match="line 5: mine, 600 bytes"):
-        dnlab.read(*files, names={"10.0.0.1:2000": "mine"}).summary()
 
 
 def test_the_tools(files: tuple[Path, Path], tmp_path: Path) -> None:
@@ -164,12 +162,12 @@ def test_the_others_refuse_it_too(files: tuple[Path, Path], name: str, more: lis
     assert status == 2 and "only the scenario says which packets were injected" in said
 
 
-def test_of_several_experiments(tmp_path: Path, alone: Alone) -> None:
+def test_of_several_experiments(tmp_path: Path, traced: Alone) -> None:
     """In the second experiment port 1000 of 10.0.0.1 is port 3000. A name must match a packet of the requested experiments."""
     text = SCENARIO + f"experiment two seed 1 budget 20\n{LINK}".replace("10.0.0.1 1000", "10.0.0.1 3000")
     report, scenario = tmp_path / "report.txt", tmp_path / "scenario.txt"
     scenario.write_text(text)
-    report.write_bytes(alone(text.encode()))
+    report.write_bytes(traced(text.encode()))
     words = [report, scenario, "--name", "10.0.0.1:1000=mine"]
     status, out, _ = tool("summary", *words, "--csv", "--of", "mine", "--of", "injected", "--workers", 2)
     assert status == 0

@@ -9,7 +9,7 @@ import dnlab
 from dnlab.io.files import beside, check_beside, file_checksum, read_beside, scenario_checksum
 from dnlab.io.scenario import read
 
-# No line of the report distinguishes 100 bytes from 200, because the pipe has no rate.
+# No line of the report shows the seed.
 TEXT = """experiment a seed 0 budget 100
 @0 pipe 1 config delay 10
 @0 add 100 pipe 1 ip from any to any
@@ -18,7 +18,7 @@ TEXT = """experiment a seed 0 budget 100
 experiment b seed 0 budget 100
 @9 end
 """
-OTHER = TEXT.replace("2 100 count", "2 200 count")
+OTHER = TEXT.replace("seed 0", "seed 7")
 
 
 @pytest.fixture
@@ -35,7 +35,7 @@ def test_what_is_kept(stored: tuple[Path, Path, Path], program: str) -> None:
     told = json.loads((report.parent / "r.txt.json").read_text())
     assert told["report"] == file_checksum(report) and told["program"] == file_checksum(program)
     assert told["scenario"] == scenario_checksum(read(TEXT.encode())) != scenario_checksum(read(OTHER.encode()))
-    assert told["command"] == [program, "alone"] and told["version"].startswith("dnlab ")
+    assert told["command"] == [program, "alone", "--trace"] and told["version"].startswith("dnlab ")
     assert sorted(path.name for path in report.parent.iterdir()) == ["o.txt", "r.txt", "r.txt.json", "s.txt"]
     opened = dnlab.read(report)
     assert opened.origin is not None and opened.origin.scenario == told["scenario"]
@@ -54,7 +54,7 @@ def test_another_scenario_is_refused(stored: tuple[Path, Path, Path], tmp_path: 
     assert tool("summary", report, plan)[0] == 0 and tool("summary", report)[0] == 0
     with pytest.raises(dnlab.InputError, match="is not the scenario of"):
         dnlab.read(report, other)
-    # Without the file next to it, no line distinguishes the sizes.
+    # Without the file next to it, no line distinguishes the seeds.
     beside(report).unlink()
     assert tool("summary", report, other)[0] == 0 and dnlab.read(report, plan).origin is None
 

@@ -8,9 +8,7 @@ from pathlib import Path
 from typing import Callable
 
 import pytest
-from conftest import ROOT, text_of, tool
-
-np = pytest.importorskip("numpy", reason="numpy is missing (Debian: python3-numpy)")
+from conftest import ROOT, report_of, text_of, tool
 Alone = Callable[[bytes], bytes]
 # 1000 bytes at 1 Mbit/s take 8 ms, and the delay is 10 ms more.
 BOUND = "injected: delay.p50 == 18ms"
@@ -18,7 +16,8 @@ BOUND = "injected: delay.p50 == 18ms"
 
 def packet(folder: Path) -> tuple[Path, Path, Path]:
     """Returns a folder with the example of one packet: its scenario, compressed and plain, and its report."""
-    text, report = text_of("one_packet", "scenario.txt"), text_of("one_packet", "expected.txt")
+    text = text_of("one_packet", "scenario.txt")
+    report = report_of(text, "--trace")
     packed, plain, found = folder / "scenario.txt.gz", folder / "scenario.txt", folder / "report.txt"
     packed.write_bytes(gzip.compress(text))
     plain.write_bytes(text)
@@ -46,12 +45,12 @@ def test_a_cut_gzip_is_said(tmp_path: Path) -> None:
 def test_spread_says_what_made_its_report(tmp_path: Path, program: str) -> None:
     packed, plain, expected = packet(tmp_path)
     report = tmp_path / "spread.txt"
-    assert tool("spread", packed, "--out", report) == (0, "", "")
+    assert tool("spread", packed, "--trace", "--out", report) == (0, "", "")
     assert report.read_bytes() == expected.read_bytes()
     told = json.loads((tmp_path / "spread.txt.json").read_bytes())
     assert told["report"] == hashlib.sha256(expected.read_bytes()).hexdigest()
     assert told["program"] == hashlib.sha256(Path(program).read_bytes()).hexdigest()
-    assert told["command"] == ["dnlab-spread", str(packed), "--out", str(report)]
+    assert told["command"] == ["dnlab-spread", str(packed), "--trace", "--out", str(report)]
     assert tool("expect", report, plain, BOUND)[0] == 0
     # Another delay makes another scenario, though the report's lines would be refused later too.
     plain.write_bytes(plain.read_bytes().replace(b"delay 10", b"delay 11"))
@@ -62,7 +61,7 @@ def test_spread_says_what_made_its_report(tmp_path: Path, program: str) -> None:
 def test_spread_keeps_the_scenario_that_run_keeps(tmp_path: Path, program: str) -> None:
     results = pytest.importorskip("dnlab.sweeps.runs", reason="pandas is missing (Debian: python3-pandas)")
     text = ROOT / "cookbook" / "bufferbloat" / "scenario.txt"
-    assert tool("spread", text, "--parts", 2, "--out", tmp_path / "a.txt")[0] == 0
+    assert tool("spread", text, "--trace", "--parts", 2, "--out", tmp_path / "a.txt")[0] == 0
     results.run(text, out=tmp_path / "b.txt", dnlab=program)
     one, other = (json.loads((tmp_path / f"{name}.txt.json").read_bytes()) for name in "ab")
     assert one["scenario"] == other["scenario"] and one["report"] == other["report"]

@@ -5,17 +5,13 @@ import shutil
 import socket
 import subprocess
 from pathlib import Path
-from typing import Any, Callable
+from typing import Callable
 
+import dpkt
 import pytest
-from conftest import tool
+from conftest import text_view, tool
 
 from dnlab.analysis.tables import Tables
-from dnlab.analysis.view import View
-from dnlab.io import scenario
-from dnlab.io.report import read
-
-dpkt: Any = pytest.importorskip("dpkt", reason="dpkt is missing (Debian: python3-dpkt)")
 Alone = Callable[[bytes], bytes]
 
 # Two segments of 960 bytes (1000 with headers) at 8 Mbit/s: served at 1 and 2 ms, delivered 10 ms later; each is
@@ -43,17 +39,17 @@ LOSSY = """experiment lossy seed 5 budget 1000
 """
 
 
-def written(alone: Alone, folder: Path, text: str, *words: str) -> Path:
+def written(traced: Alone, folder: Path, text: str, *words: str) -> Path:
     """Returns the capture of a scenario."""
     (folder / "s").write_text(text)
-    (folder / "r").write_bytes(alone(text.encode()))
+    (folder / "r").write_bytes(traced(text.encode()))
     status, out, err = tool("pcap", folder / "r", folder / "s", "--out", folder / "a.pcap", *words)
     assert status == 0 and not err and "a.pcap: packets: " in out
     return folder / "a.pcap"
 
 
-def test_by_hand(alone: Alone, tmp_path: Path) -> None:
-    data = written(alone, tmp_path, TWO).read_bytes()
+def test_by_hand(traced: Alone, tmp_path: Path) -> None:
+    data = written(traced, tmp_path, TWO).read_bytes()
     reader = dpkt.pcap.UniversalReader(io.BytesIO(data))
     assert data[:4] == bytes.fromhex("4d3cb2a1") and reader.datalink() == dpkt.pcap.DLT_EN10MB
     found = []
@@ -71,8 +67,8 @@ def test_by_hand(alone: Alone, tmp_path: Path) -> None:
     assert moments == [(0, 1014), (0, 1014), (5000001, 114), (11000001, 54), (12000001, 54)]
 
 
-def test_the_receiver_s_side(alone: Alone, tmp_path: Path) -> None:
-    path = written(alone, tmp_path, TWO, "--at", "receiver", "--of", "flow *")
+def test_the_receiver_s_side(traced: Alone, tmp_path: Path) -> None:
+    path = written(traced, tmp_path, TWO, "--at", "receiver", "--of", "flow *")
     with open(path, "rb") as file:
         times = [round(moment * 10**9) for moment, _ in dpkt.pcap.UniversalReader(file)]
     assert times == [11000000, 11000000, 12000000, 12000000]
@@ -88,11 +84,10 @@ def counts_of(said: str) -> list[dict[str, tuple[int, int]]]:
 
 
 @pytest.mark.skipif(shutil.which("tcptrace") is None, reason="tcptrace is missing (Debian: tcptrace)")
-def test_tcptrace_counts_what_summary_does(alone: Alone, tmp_path: Path) -> None:
-    path = written(alone, tmp_path, LOSSY)
+def test_tcptrace_counts_what_summary_does(traced: Alone, tmp_path: Path) -> None:
+    path = written(traced, tmp_path, LOSSY)
     said = subprocess.run(["tcptrace", "-ln", path], capture_output=True, text=True, check=True).stdout
-    plans = scenario.read(LOSSY.encode())
-    rows = {row["sender"]: row for row in Tables(View(next(read(alone(LOSSY.encode()))), plans["lossy"])).rows()}
+    rows = {row["sender"]: row for row in Tables(text_view(traced(LOSSY.encode()), LOSSY.encode())).rows()}
     connections = counts_of(said)
     assert len(connections) == 2
     for number, counts in enumerate(connections, 1):
@@ -108,16 +103,16 @@ def test_tcptrace_counts_what_summary_does(alone: Alone, tmp_path: Path) -> None
 
 
 @pytest.mark.skipif(shutil.which("tshark") is None, reason="tshark is missing (Debian: tshark)")
-def test_tshark_reads_it(alone: Alone, tmp_path: Path) -> None:
+def test_tshark_reads_it(traced: Alone, tmp_path: Path) -> None:
     """Compares times, numbers and checksums. tshark detects retransmitted segments by itself."""
-    path = written(alone, tmp_path, LOSSY)
+    path = written(traced, tmp_path, LOSSY)
     checks = [word for name in ("ip", "tcp", "udp") for word in ("-o", f"{name}.check_checksum:TRUE")]
     fields = [word for name in ("frame.time_epoch", "ip.id", "ip.src", "tcp.len", "ip.checksum.status", "tcp.checksum.status",
                                 "udp.checksum.status", "tcp.seq_raw", "udp.length") for word in ("-e", name)]
     said = subprocess.run(["tshark", "-n", "-r", path, *checks, "-T", "fields", *fields], capture_output=True, text=True,
                           check=True).stdout
     rows = [line.split("\t") for line in said.splitlines()]
-    report = alone(LOSSY.encode()).decode().split("\n")
+    report = traced(LOSSY.encode()).decode().split("\n")
     makes = [line.split() for line in report if " make " in line]
     # The packets that senders created, according to the report; also acknowledgements.
     sent = [(int(words[0]), int(words[2])) for words in makes if words[3] != "ack"]
@@ -137,37 +132,36 @@ def test_what_pcap_refuses(alone: Alone, tmp_path: Path) -> None:
                        ("none", TWO.replace("@0 trace 1\n", "")), ("two", TWO + TWO.replace("experiment a", "experiment b")),
                        ("empty", "experiment a seed 0 budget 1\n@0 trace 1\n@9 end\n"), ("good", TWO)):
         (tmp_path / name).write_bytes(alone(text.encode()))
-    for name, said, words in (("late", "2 of its 5 packets were made without `trace 1`", ()), ("none", "5 of its 5 packets", ()),
+    for name, said, words in (("late", "it has no addresses: ", ()), ("none", "made without --trace: run `dnlab alone --trace <", ()),
                               ("two", "several experiments", ()), ("empty", "made no packet", ()),
                               ("good", "the senders are flow 1", ("--of", "flow 2")), ("good", "no experiment", ("--experiment", "x"))):
         status, _, err = tool("pcap", tmp_path / name, "--out", tmp_path / "x.pcap", *words)
         assert status == 2 and said in err, name
-    assert "`@0 trace 1` the first command" in tool("pcap", tmp_path / "none")[2]
     assert tool("pcap", tmp_path / "good", "--out", tmp_path / "none" / "x.pcap")[0] == 3
     assert tool("pcap")[0] == 2 and tool("pcap", tmp_path / "good", "--at", "middle")[0] == 2
     status, out, _ = tool("pcap", "--help")
     assert status == 0 and "Example:" in out and "Exit status" in out
 
 
-def test_injected_tcp_is_refused(tmp_path: Path, alone: Callable[[bytes], bytes]) -> None:
+def test_injected_tcp_is_refused(tmp_path: Path, traced: Callable[[bytes], bytes]) -> None:
     """A report doesn't have a program's sequence numbers, and none are invented. Other senders, and UDP, are written."""
     text = ("experiment a seed 1 budget 9\n@0 trace 1\n@0 add 1 allow ip from any to any\n@1 inject tcp 10.0.0.1 1 10.0.0.2 2 100\n"
             "@2 inject udp 10.0.0.1 1 10.0.0.2 2 100\n@3 train 4 tcp 10.0.0.3 1 10.0.0.2 2 100 count 2 gap 1\n@99 end\n")
     scenario, report, out = tmp_path / "s.txt", tmp_path / "r.txt", tmp_path / "o.pcap"
     scenario.write_text(text)
-    report.write_bytes(alone(text.encode()))
+    report.write_bytes(traced(text.encode()))
     for name in (out, "-"):
         status, said, told = tool("pcap", report, scenario, "--out", name)
         assert (status, said) == (2, "") and "1 of the packets were injected as TCP" in told and not out.exists()
     assert tool("pcap", report, scenario, "--of", "train 4", "--out", out)[0] == 0
     scenario.write_text(text.replace("inject tcp", "inject udp"))
-    report.write_bytes(alone(scenario.read_bytes()))
+    report.write_bytes(traced(scenario.read_bytes()))
     assert tool("pcap", report, scenario, "--out", out)[0] == 0
 
 
-def test_it_says_what_the_capture_lacks(alone: Alone, tmp_path: Path) -> None:
+def test_it_says_what_the_capture_lacks(traced: Alone, tmp_path: Path) -> None:
     """A run whose steps ran out truncates the capture. `summary` judges whether a window held a flow back."""
     (tmp_path / "s").write_text(LOSSY.replace("budget 1000", "budget 1000 steps 500"))
-    (tmp_path / "r").write_bytes(alone((tmp_path / "s").read_bytes()))
+    (tmp_path / "r").write_bytes(traced((tmp_path / "s").read_bytes()))
     status, _, err = tool("pcap", tmp_path / "r", tmp_path / "s", "--out", tmp_path / "a.pcap")
     assert status == 0 and len(err.splitlines()) == 1 and "its steps were spent at" in err

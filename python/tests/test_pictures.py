@@ -1,13 +1,14 @@
 """The axes of figures, compared with values calculated by hand from the reports (times in ms). Long series are thinned."""
 import numpy as np
 import pytest
-from conftest import view_of
+from conftest import records_in, text_of, view_of
 from hypothesis import given, settings
 from hypothesis import strategies as some
 
 from dnlab.analysis.series import Series, thinned
+from dnlab.analysis.view import View
 
-pictures = pytest.importorskip("dnlab.plot.pictures", reason="matplotlib is missing (Debian: python3-matplotlib)")
+from dnlab.plot import pictures
 
 
 def lines_on(axes) -> dict[str, list[tuple[float, float]]]:
@@ -73,9 +74,9 @@ def test_two_columns() -> None:
     assert one.get_ylim() == five.get_ylim() and figure._suptitle.get_text() == "Congestion window, drops"
 
 
-def test_without_the_scenario() -> None:
-    bare = pictures.figure_of([view_of("reno_four_segments", joined=False)], ["sojourn", "delivered"]).axes
-    assert not bare[0].get_lines() and "scenario" in bare[0].texts[0].get_text()
+def test_untraced() -> None:
+    bare = pictures.figure_of([View(records_in(text_of("reno_four_segments", "expected.txt"))[0])], ["sojourn", "delivered"]).axes
+    assert not bare[0].get_lines() and "--trace" in bare[0].texts[0].get_text()
     assert bare[1].get_ylabel() == "Delivered (packets)"
     assert near(lines_on(bare[1])["flow 1"], [(0, 0), (11.2, 1), (12.4, 2), (13.6, 3), (32.4, 4), (42.4, 4)])
 

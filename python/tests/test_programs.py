@@ -67,7 +67,7 @@ def test_a_named_program_comes_first(tmp_path: Path, monkeypatch: pytest.MonkeyP
 
 def test_the_repository_asks_its_script(tmp_path: Path, monkeypatch: pytest.MonkeyPatch) -> None:
     monkeypatch.delenv("DNLAB", raising=False)
-    monkeypatch.setattr(programs, "_SCRIPT", script(tmp_path / "dnlab", 'echo "$* ${DNLAB-unset}" >&2; echo /some/program'))
+    monkeypatch.setattr(programs, "SCRIPT", script(tmp_path / "dnlab", 'echo "$* ${DNLAB-unset}" >&2; echo /some/program'))
     monkeypatch.setattr(programs, "ROOT", tmp_path)
     (tmp_path / "crates").mkdir()
     assert programs.program() == "/some/program"

@@ -101,13 +101,13 @@ def test_an_outage_that_drops(tmp_path: Path, alone: Run) -> None:
     assert len(finishes(report.encode())) == 20
 
 
-def test_what_the_link_could_have_carried(tmp_path: Path, alone: Run) -> None:
+def test_what_the_link_could_have_carried(tmp_path: Path, traced: Run) -> None:
     """1 Mbit/s for a second and 3 for another are 500000 bytes; 12 Mbit/s arrive, so the pipe is always busy."""
     trace, scenario = files(tmp_path, "moment,rate\n0,1000000\n1000000000,3Mbit/s\n2000000000,3Mbit/s\n")
     scenario.write_text(scenario.read_text().replace("count 30 gap 100000000", "count 2000 gap 1000000").replace("@9000000000", "@2000000000"))
     _, text, told = tool("rate-trace", trace, "--scenario", scenario, "--out", tmp_path / "made.txt")
     assert "0.5 MB" in told and text == ""
-    (tmp_path / "report.txt").write_bytes(alone((tmp_path / "made.txt").read_bytes()))
+    (tmp_path / "report.txt").write_bytes(traced((tmp_path / "made.txt").read_bytes()))
     status, said, _ = tool("summary", tmp_path / "report.txt", tmp_path / "made.txt", "--of", "pipe *", "--json")
     row = json.loads(said)[0]
     assert status == 0 and 0.99 < row["utilisation"] <= 1 and 490000 < row["bytes"] <= 500000

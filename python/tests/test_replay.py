@@ -4,26 +4,14 @@ import shutil
 import struct
 import subprocess
 from pathlib import Path
-from typing import Callable, Iterable, Iterator
+from typing import Callable, Iterable
 
 import pytest
-
-pytest.importorskip("dpkt")
-
-from conftest import tool  # noqa: E402  (what is wanted is asked for first)
+from conftest import tool
 
 BEGIN = 1700000000
 LINK = ("--link", "bw 1Mbit/s delay 10 queue 2")
 ETHERNET = b"\2" * 12 + b"\x08\x00"
-
-
-@pytest.fixture(autouse=True)
-def live(program: str) -> Iterator[None]:
-    """The tests need a program with `live`."""
-    done = subprocess.run([program, "live"], input=b"", capture_output=True, check=False)
-    if b"subcommand" in done.stderr:
-        pytest.skip("the program has no `live`")
-    yield
 
 
 def ip(protocol: int, inner: bytes, length: int, source: int = 1) -> bytes:

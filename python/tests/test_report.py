@@ -2,19 +2,17 @@
 import io
 import re
 
-import numpy as np
 import pytest
-from conftest import EXAMPLES, ROOT, text_of
+from conftest import EXAMPLES, ROOT, records_in, text_of
 from hypothesis import given, settings
 from hypothesis import strategies as some
 
-from dnlab.analysis.makings import makings_of
+from dnlab.analysis.view import View
 from dnlab.errors import ParseError
-from dnlab.io import pieces, report, scenario
-from dnlab.io.digits import Text
+from dnlab.io import pieces, scenario
+from dnlab.io.report import CODES, LISTINGS, parse
+from dnlab.io.rows import ARRIVE, DROP_ACK, KINDS, LOAD_OF, MAKE_ACK, MAKE_COMMAND, RULE, WORD_OF, WORDS
 from dnlab.io.scenario_parts import DROP_CAUSES
-from dnlab.io.line_reader import Reader
-from dnlab.io.lines import CODES, LISTINGS, WORDS, pipe_code
 
 # Counted by hand in the reports: lines by word, then the expected counters.
 COUNTED = {
@@ -78,7 +76,7 @@ FAULTS = [
 def refused(text: bytes) -> tuple[object, str]:
     """Returns the line and the cause of a refusal."""
     try:
-        list(report.read(text))
+        records_in(text)
     except ParseError as fault:
         return fault.line, fault.cause
     return None, "nothing was refused"
@@ -87,8 +85,8 @@ def refused(text: bytes) -> tuple[object, str]:
 @pytest.mark.parametrize("name", COUNTED)
 def test_counted_by_hand(name: str) -> None:
     lines, (made, delivered, held, drops) = COUNTED[name]
-    experiment = next(report.read(text_of(name, "expected.txt")))
-    words = [WORDS[code] for code in experiment.columns.word]
+    experiment, = records_in(text_of(name, "expected.txt"))
+    words = [WORDS[WORD_OF[kind]] for kind in experiment.kind]
     assert {word: words.count(word) for word in set(words)} == lines
     counters = experiment.counters
     assert (counters.made, counters.delivered, counters.held) == (made, delivered, held)
@@ -117,12 +115,12 @@ def test_all_examples(path) -> None:
     if (folder / "args.txt").exists() and (folder / "args.txt").read_text().split() == ["check"]:
         assert refused(data)[0] == 1
         return
-    found = list(report.read(data))
+    found = records_in(data)
     assert [b"experiment " + one.name.encode() for one in found] == [
         line for line in data.split(b"\n") if line.startswith(b"experiment ")]
     plans = scenario.read((folder / "scenario.txt").read_bytes()) if found else {}
     for experiment in found:
-        assert len(makings_of(experiment, plans[experiment.name])) == experiment.counters.made
+        assert len(View(experiment, plans[experiment.name]).packets) == experiment.counters.made
 
 
 N = r"(?:0|[1-9][0-9]{0,15})"
@@ -132,7 +130,7 @@ LINE = re.compile("|".join([
     rf"{N} deliver {N} {LOAD}", rf"{N} drop {N} {LOAD} (?:{'|'.join(DROP_CAUSES)})", rf"{N} (?:ack|expire) {N} {N} {N}",
     rf"{N} spent", rf"{N} make {N} {LOAD} (?:tcp|udp) {N}\.{N}\.{N}\.{N} {N} {N}\.{N}\.{N}\.{N} {N} {N}",
     rf"{N} identify {N}\.{N} [0-9a-f]{{2}}/[0-9a-f]{{8}}/[0-9a-f]{{8}}/[0-9a-f]{{4}}/[0-9a-f]{{4}}",
-    *(form.pattern for form in LISTINGS.values())]))
+    *(re.sub(r"\?P<\w+>", "", pattern.pattern) for _, pattern in LISTINGS.values())]))
 
 
 def is_line(text: bytes) -> bool:
@@ -142,6 +140,10 @@ def is_line(text: bytes) -> bool:
     words = text.decode().split(" ")
     if words[0] in ("rule", "pipe", "instance"):
         return True
+    if words[1] == "make":
+        address = [int(part) for word in (words[-5], words[-3]) for part in word.split(".")]
+        if max(address) > 255 or max(int(words[-4]), int(words[-2]), int(words[-1])) > 65535:
+            return False
     pipe = words[3] if words[1] in ("arrive", "finish", "pass") else words[2] if words[1] == "identify" else "1.0"
     if [int(part) > most for part, most in zip(pipe.split("."), (65535, 255))] != [False, False]:
         return False
@@ -169,47 +171,37 @@ def test_changed_lines(lines: list[bytes], data) -> None:
         new = data.draw(some.text(" 0123456789.abcdefghijklmnoprstuxy/-\t\u00e9", max_size=3)).encode()
         lines[place] = lines[place][:at] + new + lines[place][to:]
     wanted = next((number for number, line in enumerate(lines) if not is_line(line)), None)
-    reader = Reader(1)
-    reader.feed(b"\n".join(lines) + b"\n")
-    assert (reader.fault[0] if reader.fault else None) == wanted
-    columns = reader.columns()
-    assert len(columns) == (len(lines) if wanted is None else wanted)
-    for row, line in enumerate(lines[:len(columns)]):
-        words = line.decode().split(" ")
-        assert WORDS[columns.word[row]] == (words[0] if words[0] in ("rule", "pipe", "instance") else words[1])
-        if columns.moment[row] >= 0:
-            assert columns.moment[row] == int(words[0])
-        if columns.packet[row] >= 0:
-            assert columns.packet[row] == int(words[2])
+    found = parse([b"\n".join(lines) + b"\n"])
+    assert (found.fault[0] if found.fault else None) == wanted
+    rows = found.rows
+    assert len(rows) == (len(lines) if wanted is None else wanted)
+    for row, line in zip(rows, lines):
+        words, kind = line.decode().split(" "), int(row["kind"])
+        assert WORDS[WORD_OF[kind]] == (words[0] if words[0] in ("rule", "pipe", "instance") else words[1])
+        if kind < RULE:
+            assert row["moment"] == int(words[0])
+        if MAKE_COMMAND <= kind <= MAKE_ACK or ARRIVE <= kind <= DROP_ACK:
+            assert row["packet"] == int(words[2])
+        if LOAD_OF[kind] >= 0:
+            assert KINDS[LOAD_OF[kind]] == words[3]
         if words[1] in ("ack", "expire"):
-            assert [columns.flow[row], columns.number[row], columns.more[row]] == [int(word) for word in words[2:]]
+            assert [row["source"], row["number"], row["more"]] == [min(int(word), 2**32 - 1) for word in words[2:]]
         if words[1] in ("arrive", "finish", "pass"):
-            assert columns.pipe[row] == pipe_code(words[3].encode())
-
-
-@given(some.lists(some.text("0123456789ab", min_size=1, max_size=18), min_size=1, max_size=50))
-def test_numbers(words: list[str]) -> None:
-    """Columns of numbers are read as Python reads the numbers."""
-    text = Text(" ".join(words).encode() + b"\n")
-    begins = np.concatenate((np.zeros(1, dtype=np.int64), text.ends[:-1] + 1))
-    values, good = text.numbers(begins, text.ends)
-    for word, value, is_good in zip(words, values.tolist(), good.tolist()):
-        assert is_good == bool(re.fullmatch(r"0|[1-9][0-9]{0,15}", word))
-        assert not is_good or value == int(word)
+            assert f"{row['pipe']}.{row['instance']}" == words[3]
 
 
 @pytest.mark.parametrize("size", [1, 7, 64, 1000, 1 << 22])
 def test_blocks_of_any_size(size: int, monkeypatch: pytest.MonkeyPatch) -> None:
     """A report is the same for every block size, from a file and from a stream."""
     path = EXAMPLES / "four_experiments" / "expected.txt"
-    whole = [(one.name, one.line, one.columns.moment.tolist()) for one in report.read(path.read_bytes())]
-    monkeypatch.setattr(pieces, "_LOOK", size)
-    monkeypatch.setattr(pieces, "_BLOCK", size)
-    assert whole == [(one.name, one.line, one.columns.moment.tolist()) for one in report.read(path)]
-    assert whole == [(one.name, one.line, one.columns.moment.tolist()) for one in report.read(io.BytesIO(path.read_bytes()))]
+    whole = [(one.name, one.line, one.rows.tolist()) for one in records_in(path.read_bytes())]
+    monkeypatch.setattr(pieces, "LOOK", size)
+    monkeypatch.setattr(pieces, "BLOCK", size)
+    assert whole == [(one.name, one.line, one.read().rows.tolist()) for one in pieces.pieces(path)]
+    assert whole == [(one.name, one.line, one.rows.tolist()) for one in records_in(path.read_bytes())]
 
 
 def test_what_is_not_asked_for_stays_unread() -> None:
     text = GOOD + GOOD.replace("experiment a", "experiment b").replace("9 deliver", "7 deliver")
-    assert [one.name for one in report.read(text.encode(), ["a"])] == ["a"]
+    assert [one.read().name for one in pieces.pieces(io.BytesIO(text.encode()), ["a"])] == ["a"]
     assert refused(text.encode()) == (14, "time 7 after 8")

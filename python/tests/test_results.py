@@ -5,13 +5,13 @@ import sys
 from pathlib import Path
 
 import numpy as np
+import pandas as pd
 import pytest
-from conftest import EXAMPLES, ROOT, view_of
+from conftest import EXAMPLES, ROOT, records_in, report_of, text_of, view_of
 
 import dnlab
 from dnlab.analysis.results import Experiment
-
-pd = pytest.importorskip("pandas", reason="pandas is missing (Debian: python3-pandas)")
+from dnlab.analysis.view import View
 
 FOUR = EXAMPLES / "four_experiments"
 
@@ -31,8 +31,18 @@ def test_packets() -> None:
     lost = experiment("reno_timeouts").packets()
     assert lost.delivered.isna().all() and lost.outcome.tolist() == ["lost"] * 5
     assert lost.retransmission.tolist() == [False, False, False, True, True]
-    bare = experiment("reno_four_segments", joined=False).packets()
-    assert bare.made.isna().all() and bare.delay.isna().all() and bare.delivered.notna().all()
+    assert experiment("reno_four_segments", joined=False).packets().equals(table)
+
+
+def test_a_report_that_is_not_traced() -> None:
+    """It has deliveries, and no queues; the error has the command that traces."""
+    bare = Experiment(View(records_in(text_of("reno_four_segments", "expected.txt"))[0]))
+    packets = bare.packets()
+    assert packets.made.isna().all() and packets.delay.isna().all() and packets.delivered.notna().all()
+    for table in (bare.queues, bare.visits):
+        with pytest.raises(dnlab.InputError, match="dnlab alone --trace < scenario.txt > report.txt"):
+            table()
+    assert "not traced" in [note.kind for note in bare.notes]
 
 
 def test_other_tables() -> None:
@@ -48,7 +58,8 @@ def test_other_tables() -> None:
     assert visits.iloc[0].tolist() == [0, "1.0", 0, 1200000, 11200000]
     commands = one.commands()
     assert commands.answer.tolist() == ["ok"] * 6 and commands.text.iloc[-1] == "end"
-    assert one.records().loc[2].word == "ok" and len(one.records()) == 26
+    # 26 lines of the report, and 8 packets: a line for each creation, arrival and pass, and two identifiers.
+    assert one.records().loc[1].word == "ok" and one.records().word.value_counts()["make"] == 8
     assert (one.counters.made, one.counters.delivered, one.ended) == (8, 8, ("end", 100000000, 100000000))
     drops = experiment("codel_one_drop").drops()
     assert drops[["moment", "sender", "cause", "queue", "bytes"]].values.tolist() == [[112000000, "train 1", "codel", "1.0", 1000]]
@@ -85,8 +96,11 @@ def test_run(program: str, tmp_path: Path, monkeypatch: pytest.MonkeyPatch) -> N
     monkeypatch.setenv("DNLAB", program)
     text = (FOUR / "scenario.txt").read_text()
     report = dnlab.run(text, workers=4)
-    assert Path(report.given.report).read_bytes() == (FOUR / "expected.txt").read_bytes()
+    assert np.load(report.given.report).dtype.names[0] == "moment"
     assert dnlab.run(FOUR / "scenario.txt", out=tmp_path / "report").given.report == str(tmp_path / "report")
+    assert (tmp_path / "report").read_bytes() == report_of((FOUR / "scenario.txt").read_bytes(), "--trace")
+    dnlab.run(FOUR / "scenario.txt", out=tmp_path / "rows.npy")
+    assert (tmp_path / "rows.npy").read_bytes() == Path(report.given.report).read_bytes()
     with pytest.raises(dnlab.ProgramError, match="line 2: badword") as failed:
         dnlab.run("experiment a seed 1 budget 1\n@0 nothing\n@0 end\n", out=tmp_path / "none")
     assert failed.value.status == 1 and not (tmp_path / "none").exists()
@@ -97,7 +111,8 @@ def test_run(program: str, tmp_path: Path, monkeypatch: pytest.MonkeyPatch) -> N
 def test_run_more_than_the_program_takes(program: str, monkeypatch: pytest.MonkeyPatch) -> None:
     monkeypatch.setenv("DNLAB", program)
     text = "".join(f"# a\nexperiment e{number} seed 0 budget 10\n@0 show\n@9 end\n" for number in range(600))
-    assert len(dnlab.run(text)) == 600
+    report = dnlab.run(text)
+    assert len(report) == 600 and report["e599"].counters.made == 0 and list(report)[300] == "e300"
     with pytest.raises(dnlab.ProgramError, match="line 2003: badword"):
         dnlab.run(text.replace("experiment e500 seed 0 budget 10\n@0 show", "experiment e500 seed 0 budget 10\n@0 sho"))
 
@@ -112,7 +127,7 @@ def test_intervals() -> None:
 
 def test_without_numpy() -> None:
     """Missing packages are named, and functions that need none work. With -S Python has no packages."""
-    words = ("import dnlab, dnlab.io.scenario, dnlab.io.splitting\ntry:\n    dnlab.read\nexcept ModuleNotFoundError as fault:\n"
+    words = ("import dnlab, dnlab.io.scenario, dnlab.io.scenario_text\ntry:\n    dnlab.read\nexcept ModuleNotFoundError as fault:\n"
              "    print(fault)")
     done = subprocess.run([sys.executable, "-B", "-S", "-c", words], capture_output=True, text=True, check=False,
                           env={**os.environ, "PYTHONPATH": str(ROOT / "python")})

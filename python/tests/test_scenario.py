@@ -67,6 +67,4 @@ def test_all_examples(program: str) -> None:
 @pytest.mark.parametrize("name", [name for _, name, _ in pkgutil.walk_packages(dnlab.__path__, "dnlab.")
                                   if not name.endswith("__main__")])
 def test_examples_in_the_documentation(name: str) -> None:
-    if name.startswith("dnlab.plot.") and name not in ("dnlab.plot.page",):
-        pytest.importorskip("matplotlib")
     assert doctest.testmod(importlib.import_module(name)).failed == 0

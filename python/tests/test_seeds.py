@@ -10,14 +10,10 @@ from pathlib import Path
 
 import pandas as pd
 import pytest
-
-pytest.importorskip("jinja2", reason="jinja2 is missing (Debian: python3-jinja2)")
-pytest.importorskip("scipy", reason="scipy is missing (Debian: python3-scipy)")
-
 from conftest import ROOT, tool  # noqa: E402
 
 import dnlab  # noqa: E402
-from dnlab.sweeps.results import compared, needed  # noqa: E402
+from dnlab.sweeps.results import compared, seeds_needed  # noqa: E402
 
 MS = 10**6
 # One packet of a random size that depends on the seed; with `cut` the train is longer than the run.
@@ -96,10 +92,10 @@ def test_the_name_that_is_advised_works(template: Path) -> None:
 def test_needed_by_the_tables() -> None:
     """A deviation of 10 around 100, to within 2: t for 98 degrees is 1.9845, which times 10 over the root of 99 is 1.994;
     with 98 seeds it is 2.005. To within 10: t for 6 degrees is 2.447 and results in 9.25, for 5 degrees 2.571 and 10.5."""
-    assert needed([90.0, 100.0, 110.0], 0.02) == 99 and needed([90.0, 100.0, 110.0], 0.10) == 7
-    assert needed([5.0], 0.1) is None and needed([-1.0, 1.0], 0.1) is None and needed([3.0, 3.0], 0.1) == 2
+    assert seeds_needed([90.0, 100.0, 110.0], 0.02) == 99 and seeds_needed([90.0, 100.0, 110.0], 0.10) == 7
+    assert seeds_needed([5.0], 0.1) is None and seeds_needed([-1.0, 1.0], 0.1) is None and seeds_needed([3.0, 3.0], 0.1) == 2
     # At 99 %: t for 9 degrees is 3.250 and results in 10.3, for 10 degrees 3.169 and 9.56.
-    assert needed([90.0, 100.0, 110.0], 0.10, 99) == 11
+    assert seeds_needed([90.0, 100.0, 110.0], 0.10, 99) == 11
 
 
 def test_needed_is_said_and_a_column(template: Path) -> None:
@@ -134,7 +130,6 @@ def test_marked_cells_are_told_in_the_table(template: Path) -> None:
 
 def test_a_picture_for_a_paper(program: str, tmp_path: Path) -> None:
     """Labels have words and units, there is a panel for each setting, axes are logarithmic, and marked points are hollow."""
-    pytest.importorskip("matplotlib")
     made = dnlab.sweep(ONE, delay=[5, 20], count=[1, 5], bw=["1Mbit/s", "2Mbit/s"], seed=[1, 2], of="train 1",
                        stat="delay.p95", dnlab=program)
     figure = made.plot(along="delay", columns="count", log=["x", "y"],
@@ -173,7 +168,6 @@ def test_rows_and_columns(program: str) -> None:
 
 
 def test_a_pdf_by_the_tool(template: Path, tmp_path: Path) -> None:
-    pytest.importorskip("matplotlib")
     words = ["--set", "delay=5,20", "--of", "train 1", "--stat", "delay.p95", "--plot", tmp_path / "a.pdf"]
     status, _, err = tool("sweep", template, *words, "--label", "delay=One-way delay (ms)", "--log", "x")
     assert status == 0 and (tmp_path / "a.pdf").read_bytes().startswith(b"%PDF"), err

@@ -5,12 +5,10 @@ from typing import Any, Callable, Optional
 
 import pytest
 
-pytest.importorskip("pandas", reason="pandas is missing (Debian: python3-pandas)")
-
-import dnlab  # noqa: E402
-from dnlab.rng import Chance  # noqa: E402
-from dnlab.senders import Arrivals, Chain, Cubic, Network, NewReno, Reno, Requests, Web  # noqa: E402
-from dnlab.senders.flows import Ack, Flow, Segment  # noqa: E402
+import dnlab
+from dnlab.rng import Chance
+from dnlab.senders import Arrivals, Chain, Cubic, Network, NewReno, Reno, Requests, Web
+from dnlab.senders.flows import Ack, Flow, Segment
 
 MS, S = 10**6, 10**9
 COMMANDS = ("pipe 1 config bw {bw} delay 20 queue {queue} plr {plr}", "pipe 2 config delay 20",
@@ -271,7 +269,7 @@ def lost_twice(program: str, window: Any, **more: Any) -> tuple[Flow, int]:
 
         def losing(source: Any, target: Any, size: int, payload: Any) -> None:
             if isinstance(payload, Segment):
-                flights.append(payload.after - payload.flow._una)
+                flights.append(payload.after - payload.flow.una)
                 if payload.first == 146_000 and lost[0] < 2:
                     lost[0] += 1
                     return

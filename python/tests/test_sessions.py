@@ -167,6 +167,28 @@ def test_experiments_by_turns(session: dnlab.Session, alone: Alone) -> None:
     assert alone(session.transcript().encode()) == session.report()
 
 
+def test_a_traced_session_leaves_all_tables(program: str, traced: Alone, tmp_path: Path) -> None:
+    with dnlab.live(program, trace=True) as session:
+        link = session.experiment("by-hand", seed=1, budget=10)
+        link.command("pipe 1 config bw 1Mbit/s delay 10 queue 2")
+        link.command("add 100 pipe 1 ip from any to any")
+        # Tracing stays on, as with `dnlab alone --trace`.
+        link.command("trace 0")
+        for _ in range(4):
+            link.send(CLIENT, SERVER, 1000)
+        link.command("train 9 udp 10.0.0.2 1 10.0.1.2 2 500 count 2 gap 1", at=50 * MS)
+        link.end(100 * MS)
+        other = session.experiment("other")
+        other.send(CLIENT, SERVER, 40)
+        other.end(5)
+        assert traced(session.transcript().encode()) == session.report()
+        link.save(tmp_path / "scenario.txt", tmp_path / "report.txt")
+    packets = dnlab.read(tmp_path / "report.txt", tmp_path / "scenario.txt")["by-hand"].packets()
+    # 500 bytes take 4 ms; the fourth packet finds no room.
+    assert list(packets.bytes) == [1000] * 4 + [500] * 2
+    assert list(packets.delay.dropna()) == [18 * MS, 26 * MS, 34 * MS, 14 * MS, 18 * MS - 1]
+
+
 def test_files_in_place_of_memory(session: dnlab.Session, tmp_path: Path, link: dnlab.Link) -> None:
     transcript, report = io.BytesIO(), open(tmp_path / "kept.txt", "wb")
     with report:
@@ -255,7 +277,7 @@ def test_no_program_and_one_that_dies(program: str, tmp_path: Path) -> None:
 def test_a_killed_program_is_said(program: str) -> None:
     with dnlab.live(program) as session:
         link = session.experiment("a")
-        os.kill(session._talk._process.pid, signal.SIGKILL)
+        os.kill(session.transport.process.pid, signal.SIGKILL)
         with pytest.raises(dnlab.ProgramError, match="SIGKILL"):
             link.until(5)
         with pytest.raises(dnlab.ProgramError, match="SIGKILL"):
@@ -266,7 +288,7 @@ def test_a_session_ends_with_its_block(program: str) -> None:
     with pytest.raises(ZeroDivisionError), dnlab.live(program) as session:
         session.experiment("a")
         print(1 // 0)
-    assert session._talk._process.returncode is not None
+    assert session.transport.process.returncode is not None
     with dnlab.live(program) as session:
         link = session.experiment("a")
     with pytest.raises(dnlab.ProgramError, match="closed"):
@@ -281,7 +303,7 @@ signal.signal(signal.SIGINT, signal.default_int_handler)
 with dnlab.live() as session:
     link = session.experiment("a", budget=10, steps=10**7)
     link.command("add 100 allow ip from any to any")
-    print(session._talk._process.pid, flush=True)
+    print(session.transport.process.pid, flush=True)
     while True:
         link.send(("10.0.0.1", 1), ("10.0.0.2", 2), 40)
         link.until_mine()

@@ -7,13 +7,14 @@ from pathlib import Path
 
 import numpy as np
 import pytest
-from conftest import EXAMPLES, tool, view_of
+from conftest import EXAMPLES, records_in, rows_file, text_of, tool, view_of
 from hypothesis import given
 from hypothesis import strategies as some
 
 from dnlab.analysis.metrics import MORE
 from dnlab.analysis.series import Panel, Series, Span, fewest, panel_of, within
 from dnlab.analysis.distributions import overlaid
+from dnlab.analysis.view import View
 from dnlab.errors import InputError
 
 MS = 10**6
@@ -77,11 +78,11 @@ def test_steps_hold_what_they_held(steps: list[tuple[int, int]], begin: int, len
         assert held(part, moment) == held(whole, moment)
 
 
-def test_without_the_scenario() -> None:
+def test_untraced() -> None:
     for what in MORE:
-        panel = panel_of(view_of("reno_four_segments", joined=False), what)
-        assert not panel.series and "scenario" in panel.words
-    # With `trace 1` a report has everything.
+        panel = panel_of(View(records_in(text_of("reno_four_segments", "expected.txt"))[0]), what)
+        assert not panel.series and "--trace" in panel.words
+    # A traced report has everything.
     assert all(panel_of(view_of("traced_flow", joined=False), what).series for what in MORE)
 
 
@@ -112,7 +113,7 @@ def test_overlaid() -> None:
 
 
 def test_axes() -> None:
-    pictures = pytest.importorskip("dnlab.plot.pictures", reason="matplotlib is missing (Debian: python3-matplotlib)")
+    from dnlab.plot import pictures
     view, span = view_of("reno_four_segments"), Span(10 * MS, 30 * MS)
     panels = [panel_of(view, what, span, 10 * MS, acks=True) for what in ("cdf:sojourn", "box:sojourn", "throughput", "window")]
     shares, boxes, throughput, window = pictures.figure_of_panels(["x"], [panels], span).axes
@@ -126,8 +127,8 @@ def test_axes() -> None:
 
 
 def test_senders_are_chosen(tmp_path: Path) -> None:
-    pytest.importorskip("matplotlib")
-    report, scenario = (EXAMPLES / "reno_four_segments" / name for name in ("expected.txt", "scenario.txt"))
+    scenario = EXAMPLES / "reno_four_segments" / "scenario.txt"
+    report = rows_file(scenario, tmp_path)
     words = ["--what", "sojourn,cdf:sojourn", "--out", tmp_path / "x.svg"]
     assert tool("plot", report, scenario, "--of", "flow 1", *words)[0] == 0
     drawn = (tmp_path / "x.svg").read_text()
@@ -142,7 +143,6 @@ def report_of(count: int) -> bytes:
 
 def test_too_many_side_by_side(tmp_path: Path) -> None:
     """21 or more are refused, with what to do. They are refused before a file or standard input is read."""
-    pytest.importorskip("matplotlib")
     for count in 21, 250:
         (tmp_path / "report").write_bytes(report_of(count))
         for report, text in ((tmp_path / "report", b""), ("-", report_of(count))):
@@ -163,7 +163,6 @@ def test_too_many_side_by_side(tmp_path: Path) -> None:
                                    ["--what", "cdf"], ["--what", "box:window"], ["--bin", "0s", "--what", "throughput"]],
                          ids=" ".join)
 def test_wrong_words(words: list[str], tmp_path: Path) -> None:
-    pytest.importorskip("matplotlib")
     (tmp_path / "report").write_bytes(report_of(1))
     status, out, err = tool("plot", tmp_path / "report", *words)
     assert status == 2 and not out and "usage" in err

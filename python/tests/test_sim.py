@@ -234,7 +234,7 @@ def test_queries_of_dnspython(program: str, alone: Alone) -> None:
 def test_connections_of_aioice(program: str, alone: Alone, monkeypatch: pytest.MonkeyPatch) -> None:
     """Two ICE agents (RFC 8445) find a pair of candidates in spite of losses, and exchange 50 datagrams."""
     aioice = pytest.importorskip("aioice", reason="aioice is missing (Debian: python3-aioice)")
-    from dnlab.session.datagrams import here
+    from dnlab.sim import here
 
     # Otherwise the addresses of a host would be those of the machine.
     monkeypatch.setattr("aioice.ice.get_host_addresses", lambda use_ipv4, use_ipv6: [here()])

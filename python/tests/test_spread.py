@@ -15,12 +15,11 @@ from pathlib import Path
 
 import pytest
 import dnlab
-from conftest import EXAMPLES, ROOT, in_part, tool
+from conftest import EXAMPLES, ROOT, SBATCH, in_part, tool
 from hypothesis import given
 from hypothesis import strategies as some
 
-from dnlab.io.splitting import most_report
-from dnlab.io.splitting import experiments_in, groups, shares, texts_of
+from dnlab.io.scenario_text import experiments_in, groups, most_report, shares, texts_of
 
 SPREAD = str(ROOT / "tools" / "spread")
 PARTS = 1, 2, 3, 300
@@ -34,21 +33,6 @@ text=${{text%.}}
 echo "$text" | sed -n 's/^experiment \\([^ ]*\\).*/\\1/p' | head -n 1 >>{folder}/calls
 case $text in *"experiment bad "*) [ ! -f {folder}/broken ] || . {folder}/broken ;; esac
 printf '%s' "$text" | {program} alone
-"""
-# Runs the tasks of an array one after another, like sbatch --wait. It only understands arrays that are lists.
-SBATCH = """#!/bin/sh
-for word; do
-  case $word in
-    --array=*) tasks=${word#--array=}; tasks=${tasks%\\%*} ;;
-    --chdir=*) cd "${word#--chdir=}" || exit 1 ;;
-  esac
-done
-export SLURM_JOB_ID=7
-for SLURM_ARRAY_TASK_ID in $(seq "${tasks%-*}" "${tasks#*-}"); do
-  export SLURM_ARRAY_TASK_ID
-  sh ./task || status=1
-done
-exit ${status:-0}
 """
 # Each has 3 commands, so that 3 parts have 1 experiment each and 2 parts have 2 and 1, or 1 and 2.
 SMALL = "".join(f"# {name}\nexperiment {name} seed 0 budget 10\n@0 add 100 allow ip from any to any\n"

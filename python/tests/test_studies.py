@@ -1,5 +1,5 @@
 """Summaries and sweeps for studies: a part of the time, your own statistics, and settings as columns.
-Values are calculated by hand from the experiments of `dnlab.analysis.doctest_data`."""
+Values are calculated by hand from the experiments of `hand_calculated`."""
 import csv
 import io
 import json
@@ -7,20 +7,14 @@ from pathlib import Path
 
 import pandas as pd
 import pytest
+from conftest import report_of, text_view, tool
 
-pytest.importorskip("jinja2", reason="jinja2 is missing (Debian: python3-jinja2)")
-pytest.importorskip("scipy", reason="scipy is missing (Debian: python3-scipy)")
-
-from conftest import tool  # noqa: E402
-
-import dnlab  # noqa: E402
-from dnlab.analysis.doctest_data import FLOWS, TRAIN, Run  # noqa: E402
-from dnlab.analysis.metrics import Row  # noqa: E402
-from dnlab.analysis.metrics import Span  # noqa: E402
-from dnlab.analysis.tables import Tables  # noqa: E402
-from dnlab.analysis.view import View  # noqa: E402
-from dnlab.cli.sweep import far  # noqa: E402
-from dnlab.io import report, scenario  # noqa: E402
+import dnlab
+from hand_calculated import FLOWS, TRAIN, Run
+from dnlab.analysis.metrics import Row
+from dnlab.analysis.metrics import Span
+from dnlab.analysis.tables import Tables
+from dnlab.cli.sweep import progress_text
 
 MS = 10**6
 # TRAIN with a queue that is open.
@@ -29,9 +23,7 @@ TEMPLATE = TRAIN.scenario.decode().replace("experiment train seed 0", "experimen
 
 
 def rows_of(run: Run, span: Span) -> dict[str, Row]:
-    experiment = next(report.read(run.report))
-    view = View(experiment, scenario.read(run.scenario)[experiment.name])
-    return {row["sender"]: row for row in Tables(view, (50,), span=span).rows()}
+    return {row["sender"]: row for row in Tables(text_view(run.report, run.scenario), (50,), span=span).rows()}
 
 
 def picked(row: Row, *names: str) -> list[object]:
@@ -106,9 +98,10 @@ def test_what_can_be_no_part(tmp_path: Path, words: tuple[str, ...], said: str) 
 
 
 def test_a_part_needs_moments(tmp_path: Path) -> None:
-    """A report without its scenario doesn't have the times at which packets were created."""
-    status, out, err = tool("summary", files(tmp_path, TRAIN)[0], "--from", "1ms")
-    assert (status, out) == (2, "") and "need its scenario" in err
+    """An untraced report doesn't have the times at which packets were created."""
+    (tmp_path / "untraced").write_bytes(report_of(TRAIN.scenario))
+    status, out, err = tool("summary", tmp_path / "untraced", "--from", "1ms")
+    assert (status, out) == (2, "") and "need creation times" in err
 
 
 def test_a_sweep_takes_it_and_keeps_it_apart(tmp_path: Path, program: str) -> None:
@@ -160,9 +153,9 @@ def test_what_a_function_answers_is_never_kept(tmp_path: Path, program: str) -> 
 
 def test_what_is_said_where_it_ends_early() -> None:
     """Results of functions are not cached, so there is no hint about resuming."""
-    assert far(dnlab.sweep(TEMPLATE, queue=[2], of="all", stat="lost"), "k") == (
+    assert progress_text(dnlab.sweep(TEMPLATE, queue=[2], of="all", stat="lost"), "k") == (
         "0 of 1 experiments are kept in k; the same command continues")
-    assert "are not kept, so the same command starts again" in far(dnlab.sweep(TEMPLATE, queue=[2], stat=made), "k")
+    assert "are not kept, so the same command starts again" in progress_text(dnlab.sweep(TEMPLATE, queue=[2], stat=made), "k")
 
 
 def test_a_function_of_a_file(tmp_path: Path) -> None:

@@ -20,11 +20,7 @@ from pathlib import Path
 from typing import Callable
 
 import pytest
-
-pytest.importorskip("jinja2", reason="jinja2 is missing (Debian: python3-jinja2)")
-pytest.importorskip("scipy", reason="scipy is missing (Debian: python3-scipy)")
-
-from conftest import ROOT, tool  # noqa: E402
+from conftest import ROOT, SBATCH, tool  # noqa: E402
 
 import dnlab  # noqa: E402
 from dnlab.analysis.quantities import Interval, interval  # noqa: E402
@@ -50,22 +46,8 @@ FAKE = """#!/bin/sh
 cat >{folder}/text.$$
 sed -n 's/^experiment \\([^ ]*\\).*/\\1/p' {folder}/text.$$ >>{folder}/calls
 if [ -f {folder}/broken ] && grep -q -f {folder}/broken {folder}/text.$$; then echo memory >&2; exit 3; fi
-{program} alone <{folder}/text.$$
+{program} "$@" <{folder}/text.$$
 rm {folder}/text.$$
-"""
-SBATCH = """#!/bin/sh
-for word; do
-  case $word in
-    --array=*) tasks=${word#--array=}; tasks=${tasks%\\%*} ;;
-    --chdir=*) cd "${word#--chdir=}" || exit 1 ;;
-  esac
-done
-export SLURM_JOB_ID=7
-for SLURM_ARRAY_TASK_ID in $(seq "${tasks%-*}" "${tasks#*-}"); do
-  export SLURM_ARRAY_TASK_ID
-  sh ./task || status=1
-done
-exit ${status:-0}
 """
 
 
@@ -159,9 +141,9 @@ def test_wrong_seeds(text: str) -> None:
 
 def test_values_are_printed_as_they_were_written() -> None:
     made = Template("\n{{ plr }} {{ plr * 2 }} {{ n * 1.5 }} {{ n / 3 }} {{ 20 | ms }} {{ plr | us }} {{ '1.5' | s }}\n")
-    assert made.made("x", 1, {"plr": value_of("0.001"), "n": 2}) == "\n0.001 0.002 3 0.6666666666666666 20000000 1 1500000000\n"
-    assert Template("\n{{ v }}").made("x", 1, {"v": value_of("0.000001")}) == "\n0.000001\n"
-    assert Template("\n{{ v }}").made("x", 1, {"v": 1e-6}) == "\n0.000001\n"
+    assert made.render("x", 1, {"plr": value_of("0.001"), "n": 2}) == "\n0.001 0.002 3 0.6666666666666666 20000000 1 1500000000\n"
+    assert Template("\n{{ v }}").render("x", 1, {"v": value_of("0.000001")}) == "\n0.000001\n"
+    assert Template("\n{{ v }}").render("x", 1, {"v": 1e-6}) == "\n0.000001\n"
 
 
 # ---- faults
@@ -341,7 +323,7 @@ def test_marks_and_what_is_said(tmp_path: Path, program: str) -> None:
     assert status == 0 and {row["warnings"] for row in rows_of(out) if row["steps"] == "3"} == {"spent"}
     assert {row["warnings"] for row in rows_of(out) if row["steps"] == "100"} == {""}
     assert "2 of 4 experiments: their steps were spent" in err and "the seeds change nothing" in err
-    assert "rate of pipe 1.0 has no value in 2 of 2 experiments with delay=5, steps=3; 2 more means lack values" in err
+    assert "rate of pipe 1.0 has no value in 2 of 2 experiments with delay=5, steps=3; one more mean lacks values" in err
     assert "seeds change nothing" not in tool("sweep", template(tmp_path), "--set", "delay=5", "--seeds", "1-2",
                                               DNLAB=program)[2]
 
@@ -374,7 +356,6 @@ def test_parquet_needs_pyarrow(tmp_path: Path, program: str) -> None:
 
 def test_the_picture(program: str) -> None:
     """There is a point for each setting at the mean, with a bar as long as the interval, and a line for each other setting."""
-    pytest.importorskip("matplotlib")
     made = dnlab.sweep(ONE, delay=[5, 20, 10], seed=range(1, 4), of="train 1", stat=["delay.p50"], dnlab=program)
     axes, = made.plot().axes
     bars, = axes.containers
@@ -626,13 +607,13 @@ def test_a_setting_is_of_one_line(value: str, tmp_path: Path, program: str) -> N
 def test_texts_within_the_limits() -> None:
     """Texts can have 10^6 commands, and the usual powers and products."""
     text = "experiment {{ name }} seed {{ seed }} budget 9\n{{ traffic.every(1, 10**5, 'show') }}{{ traffic }}\n@{{ 2**40 * 3 + 10**6 }} end\n"
-    made = Template(text).made("x", 1, {})
+    made = Template(text).render("x", 1, {})
     assert made.count("show") == 10**5 and made.endswith("@3298535883328 end\n".replace("3298535883328", str(2**40 * 3 + 10**6)))
 
 
 def test_numbers_that_are_only_taken_from(tmp_path: Path) -> None:
     """Random values can come from a range of any length: the last number of 10^15 is below it."""
-    assert Template("\n{{ range(10**15) | length }} {{ range(10**15)[7] }} {{ 5 in range(9) }}\n").made("x", 1, {}) == (
+    assert Template("\n{{ range(10**15) | length }} {{ range(10**15)[7] }} {{ 5 in range(9) }}\n").render("x", 1, {}) == (
         "\n1000000000000000 7 True\n")
 
 

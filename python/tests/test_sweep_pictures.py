@@ -5,11 +5,11 @@ import pandas as pd
 import pytest
 from conftest import tool
 
-curves = pytest.importorskip("dnlab.plot.curves", reason="matplotlib is missing (Debian: python3-matplotlib)")
+from dnlab.plot import curves
 
-from dnlab.errors import InputError  # noqa: E402
-from dnlab.analysis import names  # noqa: E402
-from dnlab.plot.style import Look, judge  # noqa: E402
+from dnlab.errors import InputError
+from dnlab.analysis import names
+from dnlab.plot.style import Look, check_panels
 
 MS, MBIT = 10**6, 10**6
 # The call's delay and the flows' goodput with queues of 10 and 50 packets and with CoDel: mean and half of the interval.
@@ -75,9 +75,9 @@ def test_delay_against_goodput() -> None:
     # The numbers are joined, and the word isn't.
     assert lines(axes)[0] == [(6, 30), (9, 80)]
     with pytest.raises(InputError, match="expected two statistics.* 1$"):
-        judge(table(), ["queue"], [("train 9", "delay.p95")], Look(kind="tradeoff"))
+        check_panels(table(), ["queue"], [("train 9", "delay.p95")], Look(kind="tradeoff"))
     with pytest.raises(InputError, match="--rows and --columns"):
-        judge(table(), ["queue"], [("train 9", "delay.p95")], Look(kind="tradeoff", rows="queue"))
+        check_panels(table(), ["queue"], [("train 9", "delay.p95")], Look(kind="tradeoff", rows="queue"))
 
 
 def each() -> pd.DataFrame:

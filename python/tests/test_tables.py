@@ -2,7 +2,7 @@
 import math
 
 import pytest
-from conftest import EXAMPLES, text_of, view_of
+from conftest import records_in, text_of, view_of, views_of
 from hypothesis import given
 from hypothesis import strategies as some
 
@@ -16,7 +16,7 @@ from dnlab.analysis.tables import Tables
 from dnlab.analysis.view import View
 from dnlab.cli.summary import milliseconds, table
 from dnlab.errors import InputError
-from dnlab.io import report, scenario
+from dnlab.io import scenario
 
 
 def rows_of(view: View, percentiles=(50, 99)):
@@ -32,18 +32,18 @@ def test_codel_one_drop() -> None:
     assert [train[name] for name in times_of((50, 95, 99))] == [8000001, 120000001, 224000001, 232000001, 232000001]
     assert (train["bytes"], train["time"], train["codel"]) == (29000, 232000001, 1)
     assert train["rate"] == train["goodput"] == 29000 * 8 * 10**9 // 232000001
-    assert (rows["pipe 1.0"]["packets"], rows["pipe 1.0"]["codel"], rows["pipe 1.0"]["full"]) == (29, 1, None)
+    assert (rows["pipe 1.0"]["packets"], rows["pipe 1.0"]["codel"], rows["pipe 1.0"]["full"]) == (29, 1, 0)
     assert (train["ended"], train["warnings"], train["retransmissions"], train["jain"]) == ("end", "", None, None)
 
 
-def test_without_the_scenario() -> None:
-    bare = Tables(view_of("codel_one_drop", joined=False)).rows()[0]
+def test_untraced_and_without_the_scenario() -> None:
+    bare = Tables(View(records_in(text_of("codel_one_drop", "expected.txt"))[0])).rows()[0]
     assert (bare["sender"], bare["packets"], bare["codel"], bare["bytes"], bare["p50"], bare["seed"]) == (
         "plain", 30, 1, None, None, None)
 
 
 def test_traced_burst() -> None:
-    rows = rows_of(View(next(report.read(text_of("traced_burst", "expected.txt")))))
+    rows = rows_of(View(records_in(text_of("traced_burst", "expected.txt"))[0]))
     assert (rows["pipe 1.0"]["full"], rows["pipe 1.0"]["lost"]) == (1, 0)
     # 8 ms in service, the second packet after the first; then 1 ns in the delay line.
     assert (rows["pipe 1.0"]["min"], rows["pipe 1.0"]["max"]) == (8 * 10**6 + 1, 16 * 10**6 + 1)
@@ -97,7 +97,7 @@ counters 4 4 0 0 0 0 0 0 0 0 0
 
 def test_one_pipe_for_both_directions(alone) -> None:
     assert alone(BOTH) == BOTH_REPORT
-    view = View(next(report.read(BOTH_REPORT)), scenario.read(BOTH)["both"])
+    view, = views_of(BOTH)
     rows = rows_of(view)
     assert (rows["pipe 1.0"]["packets"], rows["pipe 1.0"]["bytes"]) == (2, 2000)
     assert (rows["pipe 1.0 back"]["packets"], rows["pipe 1.0 back"]["bytes"]) == (2, 80)
@@ -135,14 +135,14 @@ counters 3 2 0 1 0 0 0 0 0 0 0
 def test_a_flow_that_gets_nothing_counts_in_jain(alone) -> None:
     """One of two flows has everything: (x + 0)^2 / (2 * (x^2 + 0^2)) is a half."""
     assert alone(IDLE) == IDLE_REPORT
-    rows = rows_of(View(next(report.read(IDLE_REPORT)), scenario.read(IDLE)["idle"]))
+    rows = rows_of(views_of(IDLE)[0])
     assert (rows["flow 1"]["goodput"], rows["flow 2"]["goodput"]) == (960 * 8 * 10**9 // 11000000, None)
     assert (rows["flow 1"]["fct"], rows["flow 2"]["fct"]) == (11000000, None)
     assert rows["there"]["jain"] == rows["all"]["jain"] == 0.5
 
 
 def test_windows() -> None:
-    view = View(next(report.read(BOTH_REPORT)), scenario.read(BOTH)["both"])
+    view, = views_of(BOTH)
     rows = [row for row in windows_of(view, 2000001) if row["sender"] == "flow 1"]
     # The end of a window is not in it: the second segment arrives in the second window.
     assert [(row["begin"], row["end"], row["packets"], row["bytes"], row["useful"]) for row in rows[:3]] == [
@@ -157,7 +157,7 @@ def test_losses() -> None:
     assert losses(view_of("codel_one_drop")) == [
         {"experiment": "codel-one-drop", "sender": "train 1", "cause": "codel", "queue": "1.0", "packets": 1}]
     timeouts = losses(view_of("reno_timeouts"))
-    assert [(row["sender"], row["cause"], row["queue"], row["packets"]) for row in timeouts] == [("flow 1", "lost", None, 5)]
+    assert [(row["sender"], row["cause"], row["queue"], row["packets"]) for row in timeouts] == [("flow 1", "lost", "1.0", 5)]
 
 
 SILENT = b"""experiment silent seed 1 budget 2 steps 13
@@ -169,11 +169,10 @@ SILENT = b"""experiment silent seed 1 budget 2 steps 13
 """
 
 
-def test_what_is_silently_wrong(alone) -> None:
+def test_what_is_silently_wrong() -> None:
     """By hand: three commands, two emissions with their finishes, two more that the budget drops, two deliveries whose
     acknowledgements no rule allows, the command of the train and its packet, which no rule allows either: 13 steps."""
-    text = alone(SILENT)
-    view = View(next(report.read(text)), scenario.read(SILENT)["silent"])
+    view, = views_of(SILENT)
     kinds = {note.kind: note.text for note in view.notes}
     assert "flow 1 acks" in kinds["no way back"]
     assert "train 2: 1 of 1 packets were denied" in kinds["denied"]
@@ -258,8 +257,7 @@ def test_what_varies_counts_defaults_and_not_words() -> None:
 @pytest.mark.parametrize("name", ["masked_instances", "deleted_everywhere", "one_packet_held"])
 def test_rows_add_up(name: str) -> None:
     """The packets of the senders, and their fates, add up to the counters."""
-    for experiment in report.read(EXAMPLES / name / "expected.txt"):
-        view = View(experiment, scenario.read(text_of(name, "scenario.txt"))[experiment.name])
+    for view in views_of(text_of(name, "scenario.txt")):
         rows = Tables(view).rows()
         whole, senders = rows[-1], rows[:len(view.senders)]
         for column in ("packets", "delivered", "in_flight"):

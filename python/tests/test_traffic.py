@@ -6,13 +6,11 @@ from typing import Callable
 
 import pytest
 
-pytest.importorskip("jinja2", reason="jinja2 is missing (Debian: python3-jinja2)")
-
-from dnlab.rng import Chance  # noqa: E402  (what is wanted is asked for first)
-from dnlab.errors import InputError  # noqa: E402
-from dnlab.io.scenario import read  # noqa: E402
-from dnlab.sweeps.templates import Template  # noqa: E402
-from dnlab.rng import Traffic  # noqa: E402
+from dnlab.rng import Chance
+from dnlab.errors import InputError
+from dnlab.io.scenario import read
+from dnlab.sweeps.templates import Template
+from dnlab.rng import Traffic
 
 SECOND = 10**9
 TEMPLATE = """experiment {{ name }} seed {{ seed }} budget 1000
@@ -32,7 +30,7 @@ def moments(one: Traffic) -> list[int]:
 
 def test_sources_are_merged(alone: Callable[[bytes], bytes]) -> None:
     """By hand: packets at 20, 50 and 80 ms; two commands after the one at 50 ms, in their order; and one before all."""
-    text = Template(TEMPLATE).made("a", 1, {})
+    text = Template(TEMPLATE).render("a", 1, {})
     commands = read(text.encode())["a"].commands
     assert [(one.moment // 10**6, one.text.split()[-1]) for one in commands[2:-1]] == [
         (1, "300"), (20, "100"), (50, "100"), (50, "2Mbit/s"), (50, "200"), (80, "100")]
@@ -96,4 +94,4 @@ def test_it_hangs_on_the_seed_alone() -> None:
 def test_wrong_sources(source: str, wanted: str) -> None:
     """The message has the template's line."""
     with pytest.raises(InputError, match=f"line 2.*{wanted}"):
-        Template("experiment a seed 0 budget 1\n{{ " + source + " }}\n@0 end\n").made("a", 0, {})
+        Template("experiment a seed 0 budget 1\n{{ " + source + " }}\n@0 end\n").render("a", 0, {})

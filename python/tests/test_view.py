@@ -12,10 +12,9 @@ from typing import Any, Callable
 
 import numpy as np
 import pytest
-from conftest import EXAMPLES, ROOT, tool, view_of
+from conftest import EXAMPLES, ROOT, report_of, rows_file, tool, view_of
 
-pytest.importorskip("plotly", reason="plotly is missing (Debian: python3-plotly)")
-from dnlab.plot.page import Blocks, drawn  # noqa: E402  (plotly is asked for first)
+from dnlab.plot.page import Blocks, drawn
 
 Alone = Callable[[bytes], bytes]
 COOKBOOK = ROOT / "cookbook"
@@ -99,7 +98,7 @@ def near(found: Any, wanted: Any, scale: tuple[float, ...]) -> bool:
 @browsing
 def test_what_is_drawn_by_hand(tmp_path: Path) -> None:
     """Three segments at once, served in 1.2 ms each, 10 ms of delay in each direction; the first acknowledgement sends the fourth."""
-    page = page_of(tmp_path, RENO / "expected.txt", RENO / "scenario.txt")
+    page = page_of(tmp_path, rows_file(RENO / "scenario.txt", tmp_path), RENO / "scenario.txt")
     found = read_back(page, 'Plotly.Fx.hover("panel-sequence", [{curveNumber: 0, pointNumber: 3}]);'
                             'told.hover = document.querySelector("#panel-sequence .hoverlayer").textContent;'
                             'const field = document.getElementById("packet"); field.value = 1; field.dispatchEvent(new Event("input"));')
@@ -135,7 +134,7 @@ def drops_of(report: str) -> list[tuple[float, int]]:
 def test_losses_and_rates(tmp_path: Path) -> None:
     """Compares the page with the report's lines and with `summary --every`."""
     folder = COOKBOOK / "two_flows"
-    page = page_of(tmp_path, folder / "report.txt", folder / "scenario.txt")
+    page = page_of(tmp_path, rows_file(folder / "scenario.txt", tmp_path), folder / "scenario.txt")
     found = read_back(page, ACKS)
     text = (folder / "report.txt").read_text()
     sequence = found["panels"]["sequence"]
@@ -147,7 +146,7 @@ def test_losses_and_rates(tmp_path: Path) -> None:
     assert near(sequence["flow 1: sent again"]["points"], [(same[3], dropped[0][1])], (508, 40000))
     every = re.search(r"in each ([0-9]+) ms", found["titles"][-1])
     assert every
-    rows = list(csv.DictReader(io.StringIO(tool("summary", folder / "report.txt", folder / "scenario.txt", "--every", f"{every[1]}ms", "--csv")[1])))
+    rows = list(csv.DictReader(io.StringIO(tool("summary", rows_file(folder / "scenario.txt", tmp_path), folder / "scenario.txt", "--every", f"{every[1]}ms", "--csv")[1])))
     for name in ("flow 1", "flow 2", "flow 1 acks"):
         wanted = [int(row["rate"]) / 1e6 for row in rows if row["sender"] == name]
         line = found["panels"]["rate"][name]["line"]
@@ -167,7 +166,7 @@ def test_losses_and_rates(tmp_path: Path) -> None:
 @pytest.mark.parametrize("folder", sorted(path.parent for path in COOKBOOK.glob("*/scenario.txt")), ids=lambda path: str(path.name))
 def test_a_picture_of_each_of_the_cookbook(folder: Path, tmp_path: Path) -> None:
     """Each has a picture, the curves of a panel can be distinguished without colour, and the number of packets is that of the counters."""
-    page = page_of(tmp_path, folder / "report.txt", folder / "scenario.txt")
+    page = page_of(tmp_path, rows_file(folder / "scenario.txt", tmp_path), folder / "scenario.txt")
     browse(page, f"--screenshot={tmp_path / 'page.png'}")
     picture = (tmp_path / "page.png").read_bytes()
     assert picture.startswith(b"\x89PNG") and len(picture) > 20000
@@ -184,7 +183,7 @@ def test_a_picture_of_each_of_the_cookbook(folder: Path, tmp_path: Path) -> None
 @browsing
 def test_keys_chooser_and_a_phone(tmp_path: Path) -> None:
     folder = COOKBOOK / "bufferbloat"
-    page = page_of(tmp_path, folder / "report.txt", folder / "scenario.txt")
+    page = page_of(tmp_path, rows_file(folder / "scenario.txt", tmp_path), folder / "scenario.txt")
     key = "document.body.dispatchEvent(new KeyboardEvent('keydown', {key: '%s', bubbles: true}));"
     range_of = "await new Promise((next) => setTimeout(next, 500)); told.%s = document.getElementById('range').textContent;"
     found = read_back(page, "".join(key % one + range_of % name for one, name in
@@ -229,11 +228,12 @@ def longest() -> float:
 
 
 @browsing
-def test_what_is_thinned(alone: Alone, tmp_path: Path) -> None:
+def test_what_is_thinned(traced: Alone, tmp_path: Path) -> None:
     """The maximum delay is drawn in the whole picture, and each packet in a short span."""
     (tmp_path / "s").write_text(LONG)
-    (tmp_path / "r").write_bytes(alone(LONG.encode()))
-    page = page_of(tmp_path, tmp_path / "r", tmp_path / "s")
+    (tmp_path / "r").write_bytes(traced(LONG.encode()))
+    (tmp_path / "r.npy").write_bytes(report_of(LONG.encode(), "--format", "npy"))
+    page = page_of(tmp_path, tmp_path / "r.npy", tmp_path / "s")
     found = read_back(page)
     points = found["panels"]["delay"]["train 1"]["points"]
     assert 100 < len(points) <= 800 and abs(max(y for _, y in points) - longest()) < 0.002
@@ -257,14 +257,14 @@ def test_columns_are_packed() -> None:
 
 
 def test_files_and_no_network(tmp_path: Path) -> None:
-    page = page_of(tmp_path, RENO / "expected.txt", RENO / "scenario.txt")
+    page = page_of(tmp_path, rows_file(RENO / "scenario.txt", tmp_path), RENO / "scenario.txt")
     beside = (tmp_path / "dnlab-plotly.js")
     text = page.read_text()
     assert beside.stat().st_size > 10**6 and len(text) < 50000
     assert re.findall(r'(?:src|href)="([^"]*)"', text) == ["dnlab-plotly.js"] and "http" not in text
     assert tool("view", RENO / "expected.txt", RENO / "scenario.txt", "--out", tmp_path / "other.html")[1] == f"{tmp_path}/other.html: experiments: 1\n"
     beside.unlink()
-    single = page_of(tmp_path, RENO / "expected.txt", RENO / "scenario.txt", "--single").read_text()
+    single = page_of(tmp_path, rows_file(RENO / "scenario.txt", tmp_path), RENO / "scenario.txt", "--single").read_text()
     assert len(single) > 10**6 and not beside.exists() and 'src="dnlab' not in single
     status, _, err = tool("view", RENO / "expected.txt", "--out", tmp_path / "none" / "a.html")
     assert status == 3 and "a.html" in err
@@ -277,12 +277,12 @@ def test_files_and_no_network(tmp_path: Path) -> None:
 
 
 @browsing
-def test_single_and_without_the_scenario(tmp_path: Path) -> None:
+def test_single_and_untraced(tmp_path: Path) -> None:
     status, _, err = tool("view", RENO / "expected.txt", "--out", tmp_path / "page.html", "--single")
-    assert status == 0 and "no scenario" not in err and "scenario" in err
+    assert status == 0 and "made without --trace" in err
     found = read_back(tmp_path / "page.html")
     assert near(found["panels"]["sequence"]["flow 1: delivered"]["points"], [(11.2, 0), (12.4, 1460), (13.6, 2920), (32.4, 4380)], (42.4, 6000))
-    assert "scenario" in found["notes"] and "delay" not in found["panels"]
+    assert "--trace" in found["notes"] and "delay" not in found["panels"]
 
 
 def test_journeys_without_pipes() -> None:

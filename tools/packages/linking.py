@@ -9,6 +9,7 @@ import subprocess
 import archives
 from archives import Lacking
 from components import sha256
+from builds import kit_folder
 
 ROOT = pathlib.Path(__file__).resolve().parents[2]
 OUT = ROOT / "crates" / "dnlab" / "out"
@@ -23,14 +24,6 @@ RELINK = """To link the program with another C library, run this in this folder:
 dnlab.o is the object that was proved, byte for byte; BUILD.txt has its checksum.
 libos_c.a and liblibc_c.a are the C archives of the Rattle kit.
 """
-
-
-def kit_folder() -> pathlib.Path:
-    """Returns the folder of the kit that `rt` on the PATH belongs to."""
-    found = shutil.which("rt")
-    if found is None:
-        raise Lacking("rt, the command of the Rattle kit, is not on the PATH")
-    return pathlib.Path(found).resolve().parents[1]
 
 
 def kit_identity() -> str:

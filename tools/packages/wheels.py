@@ -45,7 +45,7 @@ def packages(root: pathlib.Path, program: pathlib.Path, library: pathlib.Path, p
     carried = top / "dnlab" / "bin"
     carried.mkdir()
     shutil.copy(program, carried / "dnlab")
-    # python/dnlab/library/places.py looks for it under this name.
+    # python/dnlab/library.py looks for it under this name.
     shutil.copy(library, carried / "libdnlab.so.1")
     for paper in papers.iterdir():
         shutil.copy(paper, carried)

@@ -1,9 +1,8 @@
-"""Bounds on a report, as `train 9: delay.p95 < 50ms`: read from text or a file, and judged by a summary's rows.
+"""Bounds on the metrics of a report, as `train 9: delay.p95 < 50ms`, and tolerances between the metrics of two runs.
 
-A bound is `[EXPERIMENT/]WHO: METRIC SIGN VALUE`. EXPERIMENT and WHO are names or patterns of rows (`flow *`), METRIC a name of
-`dnlab.analysis.metrics`, SIGN one of `<`, `<=`, `>`, `>=`, `==`, `!=`, VALUE an amount with its unit. It must hold in every row
-that it names, and is refused if it names none. A run in which commands were refused, or that was cut short, fails
-independently of the bounds, unless that is allowed.
+A bound is `[EXPERIMENT/]ROW: METRIC SIGN VALUE` (docs/reference/tools.md). It must hold in every row that it names, and is
+refused if it names none. A run in which commands were refused, or that was cut short, fails independently of the bounds,
+unless that is allowed.
 """
 import operator
 import re
@@ -13,12 +12,10 @@ from fractions import Fraction
 from pathlib import Path
 from typing import Any, Callable, Iterable, Iterator, NamedTuple, Optional, Sequence, Union
 
-from dnlab.analysis.metrics import Metric, is_named, metric_of, percentiles_in
-from dnlab.errors import Note
-from dnlab.analysis.metrics import Row
-from dnlab.errors import InputError
+from dnlab.analysis.metrics import WORDS, Metric, Row, is_named, metric_of, metrics, percentiles_in
+from dnlab.analysis.quantities import amount_of, fitting, shown
+from dnlab.errors import InputError, Note
 from dnlab.io.scenario_parts import DROP_CAUSES
-from dnlab.analysis.quantities import amount_of, shown
 
 SIGNS: dict[str, Callable[[Any, Any], bool]] = {"<=": operator.le, ">=": operator.ge, "==": operator.eq,
                                                 "!=": operator.ne, "<": operator.lt, ">": operator.gt, "=": operator.eq}
@@ -236,3 +233,118 @@ def _easy(bound: Bound, rows: Sequence[Row], bounded: set[tuple[str, str]]) -> s
 
 def _place(row: Row) -> str:
     return f"{row['experiment']}/{row['sender']}"
+
+
+CANT = "can't be told"
+
+
+class Tolerance(NamedTuple):
+    """How much a metric may differ: by a `share` of the first run's value, or by an amount in its base unit."""
+    text: str
+    is_pattern: bool
+    metrics: list[Metric]
+    share: Optional[Fraction]
+    amount: Optional[Fraction]
+
+    def allows(self, first: Fraction, second: Fraction) -> bool:
+        if self.share is not None:
+            return abs(second - first) <= self.share * abs(first)
+        assert self.amount is not None
+        return abs(second - first) <= self.amount
+
+
+def tolerance_of(text: str) -> Tolerance:
+    """Parses `delay.p95=5%`, `drops=2`, `delay.*=1ms` or `*=1%`. Raises `ValueError` with the cause."""
+    word, sign, value = text.partition("=")
+    if not sign:
+        raise ValueError(f"{text!r} is not a tolerance such as delay.p95=5% or drops=2")
+    found = [one for one in metrics() if fnmatchcase(one.word, word)] if "*" in word else [metric_of(word)]
+    if not found:
+        raise ValueError(f"no metric matches {word!r}; the metrics are {', '.join(WORDS)}")
+    if value.endswith("%"):
+        return Tolerance(text, "*" in word, found, amount_of(value, "share")[0], None)
+    if len({one.kind for one in found}) > 1:
+        raise ValueError(f"{text!r}: metrics with different units can share only a percentage, as 5%")
+    return Tolerance(text, "*" in word, found, None, amount_of(value, found[0].kind)[0])
+
+
+class Pair(NamedTuple):
+    """A metric of a row in both runs, None where it is unknown.
+
+    `judged` is '' if it is not judged, else `same`, `within` and a tolerance, `differs`, `beyond` and the tolerance, or `can't be
+    told` and the reason."""
+    experiment: str
+    of: str
+    metric: Metric
+    first: Optional[Fraction]
+    second: Optional[Fraction]
+    judged: str
+
+    def is_same(self) -> bool:
+        return self.first == self.second
+
+    def is_bad(self) -> bool:
+        return self.judged.startswith(("differs", "beyond", CANT))
+
+    def is_untold(self) -> bool:
+        """Returns whether neither run has the metric, although it was named."""
+        return self.judged.startswith(CANT)
+
+    def ratio(self) -> Optional[float]:
+        """Returns the second run's value divided by the first's."""
+        return float(self.second / self.first) if self.first and self.second is not None else None
+
+    def shown(self, exact: bool = True) -> list[str]:
+        """Returns both values in one unit, and their ratio, with at most three decimals unless `exact`. Values that differ are shown exactly
+        if three decimals would make them look equal, or like zero."""
+        kind = self.metric.kind
+        known = [abs(value) for value in (self.first, self.second) if value is not None]
+        unit = fitting(max(known, default=Fraction(0)), kind)
+        whole, short = ([shown(value, kind, unit, digits) if value is not None else "-" for value in (self.first, self.second)]
+                        for digits in (9, 3))
+        if exact or (whole[0] != whole[1] and short[0] == short[1]):
+            return [*whole, self._ratio_shown(exact)]
+        values = [short_one if re.search("[1-9]", short_one) else one for one, short_one in zip(whole, short)]
+        return [*values, self._ratio_shown(exact)]
+
+    def _ratio_shown(self, exact: bool) -> str:
+        ratio = self.ratio()
+        if ratio is None:
+            return "-"
+        short = f"{ratio:.3f}"
+        return f"{ratio:.9g}" if exact or (short in ("0.000", "1.000") and ratio != float(short)) else short
+
+
+def pairs(name: str, first: Sequence[Row], second: Sequence[Row], asked: Sequence[Metric],
+          tolerances: Sequence[Tolerance]) -> Iterator[Pair]:
+    """Returns the metrics of all rows of an experiment in both runs, in the first run's order. A row that one run lacks has None.
+
+    Without tolerances every metric must be the same. With tolerances, only the metrics that they name are judged, and a metric that
+    is named without a pattern must be known in every row that can have it."""
+    rows = {row["sender"]: row for row in first}
+    others = {row["sender"]: row for row in second}
+    for of in dict.fromkeys([*rows, *others]):
+        for metric in asked:
+            values = [metric.of(found[of]) if of in found else None for found in (rows, others)]
+            if values == [None, None] and any(metric in one.metrics and not one.is_pattern for one in tolerances):
+                known = rows.get(of) or others[of]
+                if metric.applies(known):
+                    yield Pair(name, of, metric, None, None, f"{CANT}: {metric.why(known)}")
+            if values[0] is not None or values[1] is not None:
+                yield Pair(name, of, metric, values[0], values[1], _judged(metric, values[0], values[1], tolerances))
+
+
+def _judged(metric: Metric, first: Optional[Fraction], second: Optional[Fraction],
+            tolerances: Sequence[Tolerance]) -> str:
+    own = [one for one in tolerances if metric in one.metrics]
+    if tolerances and not own:
+        return ""
+    if first == second:
+        return "same"
+    if not own:
+        return "differs"
+    if first is None or second is None:
+        return "differs: only one run has it"
+    # The last matching tolerance applies, so `*=1%` can precede exceptions.
+    word = "within" if own[-1].allows(first, second) else "beyond"
+    return f"{word} {own[-1].text.partition('=')[2]}"

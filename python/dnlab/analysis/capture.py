@@ -11,17 +11,13 @@ from typing import BinaryIO, Iterator, NamedTuple
 import dpkt
 import numpy as np
 
+from dnlab.analysis.packets import distinct
 from dnlab.analysis.view import View
 from dnlab.errors import InputError
-from dnlab.io.digits import Flags, Ints
-from dnlab.io.lines import ACKNOWLEDGES, DATA, DELIVER, MAKE
+from dnlab.io.rows import (ACKNOWLEDGES, DATA, DELIVER, DELIVER_ACK, LOAD_OF, MAKE_ACK, MAKE_COMMAND, Flags, Ints, header_text,
+                           headers_at)
 from dnlab.io.scenario_parts import HEADER, WINDOW
 
-SIDES = ("sender", "receiver")
-LACKING = ("experiment {}: {} of its {} packets were made without `trace 1`, so the report lacks their addresses: make"
-           " `@0 trace 1` the first command after its `experiment` line, leave it on, and run it again")
-INVENTED = ("experiment {}: {} of the packets were injected as TCP, whose flags and sequence numbers no report has:"
-            " capture them in the program that sends them, or choose other senders with --of")
 _ETHERNET = 14
 _MOST = 2**32
 
@@ -46,31 +42,11 @@ def header_of(text: str) -> Header:
     return Header(protocol, socket.inet_aton(source), int(source_port), socket.inet_aton(target), int(target_port))
 
 
-class Frame(NamedTuple):
-    """A packet of a capture: its time in ns, its captured bytes, and its length on the wire."""
-    moment: int
-    kept: bytes
-    length: int
-
-
 def judge(view: View) -> None:
     """Raises `InputError`, with what to do, unless the report has the addresses of all packets."""
     if not view.counters.made:
         raise InputError(f"experiment {view.name}: it made no packet")
-    if not view.is_traced:
-        makes = len(view.experiment.rows(MAKE))
-        raise InputError(LACKING.format(view.name, view.counters.made - makes, view.counters.made))
-
-
-def judge_injected(view: View, wanted: Flags) -> None:
-    """Raises `InputError` if injected TCP is requested, whose headers only the program knows."""
-    makes = view.experiment.rows(MAKE)
-    is_tcp = np.array([header.startswith("tcp ") for header in view.experiment.headers] + [False])
-    place = np.full(len(view.packets), -1, dtype=np.int64)
-    place[view.experiment.columns.packet[makes]] = view.experiment.columns.header[makes]
-    invented = int(np.count_nonzero(wanted & view.is_injected & is_tcp[place]))
-    if invented:
-        raise InputError(INVENTED.format(view.name, invented))
+    view.must_be_traced("it has no addresses")
 
 
 def rows_of(view: View, side: str, wanted: Flags) -> Ints:
@@ -78,11 +54,11 @@ def rows_of(view: View, side: str, wanted: Flags) -> Ints:
 
     Segments and plain packets are created at the sender and delivered at the receiver, acknowledgements vice versa. `wanted`
     selects packets, shape (packets,)."""
-    columns = view.experiment.columns
-    acknowledges = columns.kind == ACKNOWLEDGES
-    word = np.where(acknowledges == (side == "sender"), DELIVER, MAKE)
-    rows: Ints = np.flatnonzero(columns.word == word)
-    kept: Ints = rows[wanted[columns.packet[rows]]]
+    own = view.records
+    made, came = own.at(MAKE_COMMAND, MAKE_ACK), own.at(DELIVER, DELIVER_ACK)
+    of_acks, others = (came, made) if side == "sender" else (made, came)
+    rows: Ints = np.sort(np.concatenate((of_acks[LOAD_OF[own.kind[of_acks]] == ACKNOWLEDGES], others[LOAD_OF[own.kind[others]] != ACKNOWLEDGES])))
+    kept: Ints = rows[wanted[own.rows["packet"][rows]]]
     return kept
 
 
@@ -99,18 +75,16 @@ def sequences(view: View) -> Ints:
     return found % _MOST
 
 
-def frames_of(view: View, side: str, wanted: Flags) -> Iterator[Frame]:
-    """Yields the packets that pass a side, in the order of the report."""
-    experiment, table = view.experiment, view.packets
-    makes = experiment.rows(MAKE)
-    place = np.full(len(table), -1, dtype=np.int64)
-    place[experiment.columns.packet[makes]] = experiment.columns.header[makes]
-    headers = [header_of(text) for text in experiment.headers]
+def frames_of(view: View, side: str, wanted: Flags) -> Iterator[tuple[int, bytes, int]]:
+    """Yields the packets that pass a side, in the order of the report: time (ns), captured bytes, and length on the wire."""
+    own, table = view.records, view.packets
+    found, place = distinct(headers_at(own.rows, table.row))
+    headers = [header_of(header_text(one)) for one in found]
     ethernets = [header.ethernet() for header in headers]
     windows = {sends.number: sends.window for _, sends in view.sends.values()}
     sequence = sequences(view)
     rows = rows_of(view, side, wanted)
-    for moment, packet in zip(experiment.columns.moment[rows].tolist(), experiment.columns.packet[rows].tolist()):
+    for moment, packet in zip(own.take("moment", rows).tolist(), own.take("packet", rows).tolist()):
         header, size = headers[place[packet]], int(table.size[packet])
         if header.protocol == "udp":
             inner = dpkt.udp.UDP(sport=header.source_port, dport=header.target_port, ulen=size - 20)
@@ -119,7 +93,7 @@ def frames_of(view: View, side: str, wanted: Flags) -> Iterator[Frame]:
             inner = dpkt.tcp.TCP(sport=header.source_port, dport=header.target_port, seq=int(sequence[packet]),
                                  ack=upto % _MOST, flags=dpkt.tcp.TH_ACK,
                                  win=windows.get(int(table.flow[packet]), WINDOW))
-        yield Frame(moment, ethernets[place[packet]] + packed(header, inner, packet, size), _ETHERNET + size)
+        yield moment, ethernets[place[packet]] + packed(header, inner, packet, size), _ETHERNET + size
 
 
 def packed(header: Header, inner: "dpkt.Packet", packet: int, size: int) -> bytes:
@@ -136,11 +110,14 @@ def packed(header: Header, inner: "dpkt.Packet", packet: int, size: int) -> byte
 def write(view: View, side: str, wanted: Flags, out: BinaryIO) -> int:
     """Writes a nanosecond capture, and returns its number of packets."""
     judge(view)
-    judge_injected(view, wanted)
+    own = view.packets.row[np.flatnonzero(wanted & view.is_injected)]
+    invented = int(np.count_nonzero(view.records.rows["code"][own] == dpkt.ip.IP_PROTO_TCP))
+    if invented:
+        raise InputError(f"experiment {view.name}: {invented} of the packets were injected as TCP, whose flags and sequence numbers no"
+                         " report has: capture them in the program that sends them, or choose other senders with --of")
     out.write(bytes(dpkt.pcap.LEFileHdr(magic=dpkt.pcap.TCPDUMP_MAGIC_NANO, linktype=dpkt.pcap.DLT_EN10MB)))
     count = 0
-    for count, frame in enumerate(frames_of(view, side, wanted), 1):
-        second, rest = divmod(frame.moment, 10**9)
-        out.write(bytes(dpkt.pcap.LEPktHdr(tv_sec=second, tv_usec=rest, caplen=len(frame.kept), len=frame.length)))
-        out.write(frame.kept)
+    for count, (moment, kept, length) in enumerate(frames_of(view, side, wanted), 1):
+        second, rest = divmod(moment, 10**9)
+        out.write(bytes(dpkt.pcap.LEPktHdr(tv_sec=second, tv_usec=rest, caplen=len(kept), len=length)) + kept)
     return count

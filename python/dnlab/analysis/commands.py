@@ -1,153 +1,54 @@
-"""The commands of an experiment with their effects: what was applied when, what was injected, and which rule takes a packet where."""
+"""The commands of an experiment as the report and the scenario have them: which were executed, the rules at each time, what they
+send, and the senders of packets, which the text of a report lacks."""
 from __future__ import annotations
 
 import ipaddress
-from typing import TYPE_CHECKING, Mapping, NamedTuple, Optional, Sequence
+from collections import defaultdict
+from typing import TYPE_CHECKING, NamedTuple, Optional, Sequence
 
 import numpy as np
 from numpy.typing import NDArray
 
-from dnlab.io.digits import Flags, Ints
-from dnlab.io.injections import columns_of
+from dnlab.analysis.packets import distinct
+from dnlab.errors import Note
 from dnlab.io.ipfw_export import Rule, rule_of
-from dnlab.io.lines import ACKNOWLEDGES, OK, REFUSED, SPENT
-from dnlab.io.report import Recorded
-from dnlab.io.scenario_parts import INJECTED, Command, Commands, Plan
+from dnlab.io.rows import (ACKNOWLEDGES, MAKE_COMMAND, OK, REFUSED, UNKNOWN_SOURCE, Flags, Ints, Records,
+                           header_text, headers_at, number_of)
+from dnlab.io.scenario_parts import Command, Plan
 
 if TYPE_CHECKING:
     from dnlab.analysis.view import View
 
-
-class Injected(NamedTuple):
-    """The `inject` commands in order: `place` among the experiment's commands and `line`, shape (n,), and their numbers as in
-    `dnlab.io.scenario_parts.Run`, shape (7, n). All are int64."""
-    place: Ints
-    line: Ints
-    columns: Ints
-
-    @property
-    def size(self) -> Ints:
-        found: Ints = self.columns[6]
-        return found
-
-    def distinct(self) -> tuple[Ints, Ints]:
-        """Returns the headers, each once, in the order of the first, and the index of each command's header; shapes (h, 5) and
-        (n,)."""
-        return distinct(self.columns[1:6].T)
-
-    def words(self) -> list[tuple[str, ...]]:
-        """Returns the headers in scenario syntax, each once, in the order of the first."""
-        return [_words(*header) for header in self.distinct()[0].tolist()]
-
-    def at(self, which: Ints) -> "Injected":
-        """Returns some of them."""
-        return Injected(self.place[which], self.line[which], self.columns[:, which])
+def done_of(records: Records, plan: Optional[Plan]) -> list[tuple[int, Command]]:
+    """Returns the executed commands of a scenario that inject nothing, each with its number. Raises `ParseError` if the report has other
+    commands."""
+    if plan is None:
+        return []
+    rows = records.commands()
+    _compare(records, plan, rows)
+    refused = set(records.take("source", records.at(REFUSED)).tolist())
+    return [(number, one) for number, one in plan.commands.plain
+            if number < len(rows) and number not in refused and one.word != "inject"]
 
 
-def distinct(headers: Ints) -> tuple[Ints, Ints]:
-    """Returns headers (protocol, source, its port, target, its port), each once, in the order of the first, and the index of each;
-    shapes (h, 5) and (n,).
-
-    >>> distinct(np.array([[6, 1, 2, 3, 4], [17, 1, 2, 3, 4], [6, 1, 2, 3, 4]]))[1].tolist()
-    [0, 1, 0]
-    """
-    _, source = np.unique((headers[:, 1] << 16 | headers[:, 2]) << 8 | headers[:, 0], return_inverse=True)
-    _, target = np.unique(headers[:, 3] << 16 | headers[:, 4], return_inverse=True)
-    _, first, which = np.unique(source * (len(headers) + 1) + target, return_index=True, return_inverse=True)
-    order = np.argsort(first)
-    return headers[first[order]], np.argsort(order)[which]
-
-
-def injected_of(commands: Commands) -> Injected:
-    """Returns the commands that inject."""
-    single = [(place, one) for place, one in commands.plain if one.word == "inject"]
-    text = "".join(f"@{one.moment} {one.text}\n" for _, one in single).encode()
-    parts = [Injected(np.array([place for place, _ in single], dtype=np.int64),
-                      np.array([one.line for _, one in single], dtype=np.int64), columns_of(text))]
-    for place, run in commands.runs:
-        parts.append(Injected(place + np.arange(len(run.lines)), run.lines, run.columns))
-    found = Injected(*(np.concatenate(own, axis=-1) for own in zip(*parts)))
-    return found.at(np.argsort(found.place)) if single and commands.runs else found
-
-
-def _words(protocol: int, source: int, port: int, target: int, other: int) -> tuple[str, ...]:
-    """Returns a header as words.
-
-    >>> _words(17, 167772161, 1000, 1, 80)
-    ('udp', '10.0.0.1', '1000', '0.0.0.1', '80')
-    """
-    source_text, target_text = (".".join(str(one >> bits & 255) for bits in (24, 16, 8, 0)) for one in (source, target))
-    return "tcp" if protocol == 6 else "udp", source_text, str(port), target_text, str(other)
-
-
-def _sender(header: tuple[str, ...], names: Mapping[str, str]) -> str:
-    """Returns the name of a header's sender. Names belong to addresses, addresses with ports, or whole headers."""
-    keys = header[1], f"{header[1]}:{header[2]}", " ".join(header)
-    return next((names[key] for key in keys if key in names), INJECTED)
-
-
-class Done(NamedTuple):
-    """The executed commands.
-
-    `plain` has those that inject nothing, in order, each with its row; `injected` has the others, whose rows are `rows`, shape (n,).
-    `headers` are the distinct headers of injected packets, and `header` the index of each packet's, shapes (h, 5) and (n,).
-    `names` are the senders, in the order of the first packet, and `who` the index of each packet's, shape (n,)."""
-    plain: list[tuple[int, Command]]
-    injected: Injected
-    rows: Ints
-    headers: Ints
-    header: Ints
-    names: list[str]
-    who: Ints
-
-
-def injected_packets(done: Done, who: NDArray[np.int32]) -> Ints:
-    """Returns the serial numbers of the injected packets, in order, given the sender of each packet. Shape (n,)."""
-    return np.flatnonzero((who >= 0) & (who < len(done.names)))
-
-
-def done_of(experiment: Recorded, plan: Optional[Plan]) -> Done:
-    """Returns the executed commands of a scenario. Raises `ParseError` if the report has others."""
-    columns = experiment.columns
-    commands = plan.commands if plan is not None else Commands()
-    rows = np.flatnonzero((columns.word == OK) | (columns.word == REFUSED))
-    injected = injected_of(commands)
-    if plan is not None:
-        _compare(experiment, plan, rows, injected)
-    is_done = np.zeros(len(commands), dtype=np.bool_)
-    is_done[:len(rows)] = (columns.word[rows] == OK)[:len(commands)]
-    plain = [(int(rows[place]), one) for place, one in commands.plain if is_done[place] and one.word != "inject"]
-    own = injected.at(np.flatnonzero(is_done[injected.place]))
-    headers, header = own.distinct()
-    given = plan.names if plan is not None else {}
-    senders = [_sender(_words(*one), given) if given else INJECTED for one in headers.tolist()]
-    names = {name: place for place, name in enumerate(dict.fromkeys(senders))}
-    who = np.array([names[name] for name in senders], dtype=np.int64)[header]
-    return Done(plain, own, rows[own.place], headers, header, list(names), who)
-
-
-def _compare(experiment: Recorded, plan: Plan, rows: Ints, injected: Injected) -> None:
+def _compare(records: Records, plan: Plan, rows: Ints) -> None:
     """Raises `ParseError` if the report's commands have other times than the scenario's, or another number."""
     moments = np.zeros(len(plan.commands), dtype=np.int64)
-    moments[[place for place, _ in plan.commands.plain]] = [one.moment for _, one in plan.commands.plain]
-    moments[injected.place] = injected.columns[0]
-    told = experiment.columns.moment[rows]
+    moments[[number for number, _ in plan.commands.plain]] = [one.moment for _, one in plan.commands.plain]
+    for number, run in plan.commands.runs:
+        moments[number:number + len(run.lines)] = run.columns[0]
+    told = records.take("moment", rows)
     both = min(len(rows), len(moments))
     bad = np.flatnonzero(told[:both] != moments[:both])
     if len(bad):
         number = int(bad[0])
-        raise experiment.refused(int(rows[number]), f"command {number} at {told[number]}, where line {plan.commands[number].line} of the"
-                                 f" scenario has {moments[number]}")
+        raise records.refused(int(rows[number]), f"command {number} at {told[number]}, where line {plan.commands[number].line} of the"
+                              f" scenario has {moments[number]}")
     if len(rows) > both:
-        raise experiment.refused(int(rows[both]), f"the scenario has no command {both} in {plan.name}")
-    if len(moments) > both and not is_spent(experiment):
-        raise experiment.refused(len(experiment.columns), f"the report ends before command {both}, which is in line"
-                                 f" {plan.commands[both].line} of the scenario")
-
-
-def is_spent(experiment: Recorded) -> bool:
-    """Returns whether the experiment used up its steps."""
-    return len(experiment.columns) > 0 and int(experiment.columns.word[-1]) == SPENT
+        raise records.refused(int(rows[both]), f"the scenario has no command {both} in {plan.name}")
+    if len(moments) > both and not records.is_spent():
+        raise records.refused(len(records), f"the report ends before command {both}, which is in line"
+                              f" {plan.commands[both].line} of the scenario")
 
 
 # The end of a search other than a pipe; pipes have numbers above 0.
@@ -167,7 +68,7 @@ def epochs_of(view: View) -> list[Epoch]:
     """Returns the sets of rules that an experiment had, by its executed commands."""
     rules: list[tuple[int, Rule]] = []
     found = [Epoch(0, (), True)]
-    for _, command in view.done.plain:
+    for _, command in view.done:
         words = command.text.split()
         if command.word == "add":
             rules = sorted([*rules, (command.line, rule_of(command.text))], key=lambda one: one[1].number)
@@ -180,34 +81,37 @@ def epochs_of(view: View) -> list[Epoch]:
     return found
 
 
-def _header(*words: str) -> list[int]:
-    """Returns the header of `PROTOCOL ADDRESS PORT ADDRESS PORT` as numbers."""
-    ends = [int(ipaddress.IPv4Address(words[1])), int(words[2]), int(ipaddress.IPv4Address(words[3])), int(words[4])]
-    return [6 if words[0] == "tcp" else 17, *ends]
+def header_by(command: Command) -> list[int]:
+    """Returns the header that a `train` or a `flow` command sends."""
+    words = command.text.split()
+    protocol, source, port, target, other = words[2:7] if command.word == "train" else ["tcp", *words[2:6]]
+    return [6 if protocol == "tcp" else 17, number_of(source), int(port), number_of(target), int(other)]
 
 
 def headers_of(view: View) -> tuple[Ints, Ints]:
     """Returns the headers that are sent, and the index of each packet's (-1 if unknown). Shapes (n, 5) and (packets,)."""
     rows: list[list[int]] = []
     by_name: dict[str, int] = {}
-    for _, command in view.done.plain:
-        if command.sends is None:
-            continue
-        words, name = command.text.split(), command.sends.name()
-        by_name[name] = len(rows)
-        rows.append(_header(*words[2:7]) if command.word == "train" else _header("tcp", *words[2:6]))
-        if command.word == "flow":
-            protocol, source, port, target, other = rows[-1]
-            by_name[f"{name} acks"] = len(rows)
-            rows.append([protocol, target, other, source, port])
+    for _, command in view.done:
+        if command.sends is not None:
+            name = command.sends.name()
+            by_name[name] = len(rows)
+            rows.append(header_by(command))
+            if command.word == "flow":
+                protocol, source, port, target, other = rows[-1]
+                by_name[f"{name} acks"] = len(rows)
+                rows.append([protocol, target, other, source, port])
     which = np.full(len(view.packets), -1, dtype=np.int64)
+    found = [np.array(rows, dtype=np.int64).reshape(-1, _COLUMNS)]
     for name, packets in view.senders:
         if name in by_name:
             which[packets] = by_name[name]
-    injected = injected_packets(view.done, view.packets.who)
-    which[injected] = len(rows) + view.done.header[:len(injected)]
-    own = np.array(rows, dtype=np.int64).reshape(-1, _COLUMNS)
-    return np.concatenate((own, view.done.headers)), which
+            continue
+        known = packets[view.packets.row[packets] >= 0]
+        headers, index = distinct(headers_at(view.records.rows, view.packets.row[known]))
+        which[known] = sum(map(len, found)) + index
+        found.append(headers)
+    return np.concatenate(found), which
 
 
 def search(epoch: Epoch, headers: Ints, is_whole: bool = False) -> tuple[Ints, Flags]:
@@ -266,3 +170,40 @@ def is_settled(view: View, epochs: Sequence[Epoch], which: Ints) -> Flags:
     is_emission = names[view.packets.who] & (view.packets.kind != ACKNOWLEDGES)
     found: Flags = (which >= 0) & (view.packets.made >= 0) & (is_emission | ~np.isin(view.packets.made, changes))
     return found
+
+
+def find_senders(records: Records, plan: Plan, notes: list[Note]) -> frozenset[str]:
+    """Sets the senders in the rows of a text, by its scenario. An injected packet follows the `ok` of its command; a train's has the
+    train's header. Returns the trains that share a header, so that no packet of theirs can be attributed, and adds a note."""
+    makes = records.at(MAKE_COMMAND)
+    makes = makes[records.rows["source"][makes] == UNKNOWN_SOURCE]
+    if not len(makes):
+        return frozenset()
+    before = np.maximum(makes - 1, 0)
+    number = np.minimum(records.take("source", before), len(plan.commands))
+    injects = np.zeros(len(plan.commands) + 1, dtype=np.bool_)
+    injects[[place for place, one in plan.commands.plain if one.word == "inject"]] = True
+    for place, run in plan.commands.runs:
+        injects[place:place + len(run.lines)] = True
+    is_injected = (records.kind[before] == OK) & injects[number]
+    records.rows["source"][makes[is_injected]] = number[is_injected]
+    return _find_trains(records, plan, makes[~is_injected], notes)
+
+
+def _find_trains(records: Records, plan: Plan, makes: Ints, notes: list[Note]) -> frozenset[str]:
+    trains: dict[tuple[int, ...], dict[str, int]] = defaultdict(dict)
+    for _, command in plan.commands.plain:
+        if command.word == "train" and command.sends is not None and command.sends.number is not None:
+            trains[tuple(header_by(command))][command.sends.name()] = command.sends.number
+    shared: list[str] = []
+    headers, which = distinct(headers_at(records.rows, makes))
+    for place, header in enumerate(headers.tolist()):
+        names = trains.get(tuple(header), {})
+        if len(names) == 1:
+            records.name_train(makes[which == place], next(iter(names.values())))
+        elif names:
+            shared += names
+            notes.append(Note("same header", f"{', '.join(names)} have the same header, so their packets are named {header_text(header)}: the"
+                              " text of a report doesn't tell them apart, but rows do (`dnlab alone --format npy < scenario.txt >"
+                              " rows.npy`)", "", header_text(header)))
+    return frozenset(shared)

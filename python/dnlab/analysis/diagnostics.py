@@ -7,11 +7,10 @@ from typing import TYPE_CHECKING, Iterable, Iterator, NamedTuple, Optional, Sequ
 import numpy as np
 
 from dnlab.analysis.commands import unmet
-from dnlab.analysis.emissions import first_window
-from dnlab.analysis.packets import DELIVERED, DROPPED
+from dnlab.analysis.packets import OUTCOMES
 from dnlab.errors import Note
-from dnlab.io.lines import ACK, ACKNOWLEDGES, DATA, EXPIRE, OK, REFUSED, pipe_name
-from dnlab.io.scenario_parts import DEFAULTS, DROP_CAUSES, Change, Config, Sends, stretches_of
+from dnlab.io.rows import ACK, ACKNOWLEDGES, EXPIRE, MAKE_COMMAND, REFUSED, UNKNOWN_SOURCE, instance_name
+from dnlab.io.scenario_parts import DEFAULTS, Change, Config, Sends, first_window, stretches_of
 
 if TYPE_CHECKING:
     from dnlab.analysis.view import View
@@ -36,13 +35,6 @@ _ODD = range(10, 1000)
 _MOST_UNUSED = 3
 
 
-def likely_of(view: View) -> list[Note]:
-    """Returns the notes of an experiment with its scenario; none without a scenario."""
-    if view.plan is None:
-        return []
-    return [*_unsent(view), *_by_pipes(view), *_half_duplex(view), *_window_limited(view), *_unused(view), *_units(view)]
-
-
 def spoken(moment: int) -> str:
     """Returns a time in the unit that fits it.
 
@@ -58,12 +50,12 @@ def spoken(moment: int) -> str:
 def _unsent(view: View) -> Iterator[Note]:
     if view.ended.is_short():
         return
-    stopped = {command.stops for _, command in view.done.plain if command.stops is not None}
+    stopped = {command.stops for _, command in view.done if command.stops is not None}
     packets = dict(view.senders)
     for name, (moment, sends) in view.sends.items():
         own = packets.get(name, np.zeros(0, dtype=np.int64))
         is_flow = sends.word == "flow"
-        if is_flow and (sends.count == ENDLESS or sends.number in stopped):
+        if name in view.alike or is_flow and (sends.count == ENDLESS or sends.number in stopped):
             continue
         sent = int(np.count_nonzero(~view.packets.retransmission[own])) if is_flow else len(own)
         if sent < sends.count:
@@ -76,7 +68,7 @@ def _unsent(view: View) -> Iterator[Note]:
 
 def _by_pipes(view: View) -> Iterator[Note]:
     """Returns notes about successive configurations of a pipe."""
-    largest = max([*(sends.size for _, sends in view.sends.values()), int(view.done.injected.size.max(initial=0))])
+    largest = max([*(sends.size for _, sends in view.sends.values()), int(view.packets.size.max(initial=0))])
     for pipe, changes in view.changes.items():
         for stretch in stretches_of(changes):
             for place, change in enumerate(stretch[1:], 1):
@@ -120,30 +112,30 @@ def _outages(pipe: int, stretch: Sequence[Change], largest: int) -> Iterator[Not
 
 
 def _half_duplex(view: View) -> Iterator[Note]:
-    packet = view.visits.packet
-    flow, kind = view.packets.flow[packet].astype(np.int64), view.packets.kind[packet]
-    # The flow and the instance as one number.
-    key = flow << 32 | view.visits.pipe.astype(np.int64)
-    both = np.intersect1d(key[kind == DATA], key[kind == ACKNOWLEDGES])
-    for one in both.tolist():
-        number, pipe = one >> 32, one & (2**32 - 1)
+    who, names = view.packets.who, view.packets.names
+    both: list[tuple[int, int]] = []
+    for pipe, visits in view.visits.pipes():
+        here = {names[one] for one in np.flatnonzero(np.bincount(who[view.visits.packet[visits]], minlength=len(names)))}
+        both += [(int(name.split()[1]), pipe) for name in here if name.startswith("flow ") and f"{name} acks" in here]
+    for number, pipe in sorted(both):
         if any(change.config is not None and change.config.bw for change in view.changes.get(pipe // 256, [])):
-            yield Note("half-duplex", f"flow {number}: its acknowledgements wait behind its segments, in {pipe_name(pipe)}: a"
+            yield Note("half-duplex", f"flow {number}: its acknowledgements wait behind its segments, in {instance_name(pipe)}: a"
                        " pipe has one direction, so give the return path a rule and a pipe of its own", "half-duplex", f"flow {number}")
 
 
 def _window_limited(view: View) -> Iterator[Note]:
-    columns = view.experiment.columns
-    rows = np.flatnonzero((columns.word == ACK) | (columns.word == EXPIRE))
+    records = view.records
+    rows = records.at(ACK, EXPIRE)
+    flows, moment, window = (records.take(column, rows) for column in ("source", "moment", "number"))
     packets = dict(view.senders)
     for name, (begin, sends) in view.sends.items():
         if sends.word != "flow" or name not in packets:
             continue
-        own = rows[columns.flow[rows] == sends.number]
+        own = np.flatnonzero(flows == sends.number)
         sent = packets[name][~view.packets.retransmission[packets[name]]]
-        until = int(view.packets.made[sent].max()) if len(sent) == sends.count or not len(own) else int(columns.moment[own[-1]])
-        moments = np.concatenate((np.array([begin]), columns.moment[own], np.array([until])))
-        cwnd = np.concatenate((np.array([first_window(sends.smss)]), columns.number[own]))
+        until = int(view.packets.made[sent].max()) if len(sent) == sends.count or not len(own) else int(moment[own[-1]])
+        moments = np.concatenate((np.array([begin]), moment[own], np.array([until])))
+        cwnd = np.concatenate((np.array([first_window(sends.smss)]), window[own]))
         times = np.maximum(np.minimum(moments[1:], until) - moments[:-1], 0)
         held = int(times[cwnd // sends.smss > sends.window // sends.smss].sum())
         if 100 * held >= until - begin > 0:
@@ -163,10 +155,13 @@ def _unused(view: View) -> Iterator[Note]:
 
 def _units(view: View) -> Iterator[Note]:
     end = view.ended.moment
-    done, injected = view.done, view.done.injected
-    sent = [(row, command.line, command.moment, command.sends) for row, command in done.plain]
-    odd = np.flatnonzero((injected.columns[0] >= _ODD.start) & (injected.columns[0] < _ODD.stop))
-    sent += zip(done.rows[odd].tolist(), injected.line[odd].tolist(), injected.columns[0, odd].tolist(), [None] * len(odd))
+    sent = [(number, command.line, command.moment, command.sends) for number, command in view.done]
+    if view.plan is not None:
+        # A command that injects sends nothing to judge but its time, which may look like milliseconds.
+        rows = view.records.at(MAKE_COMMAND)
+        odd = np.isin(view.records.rows["moment"][rows], _ODD)
+        sent += [(number, view.plan.commands[number].line, view.plan.commands[number].moment, None)
+                 for number in view.records.take("source", rows[odd]).tolist() if number != UNKNOWN_SOURCE]
     for _, line, moment, sends in sorted(sent, key=lambda one: one[0]):
         if sends is not None and sends.count > 1 and 0 < sends.gap and sends.size * 8 * 10**9 > _FASTEST * sends.gap:
             yield _unit(line, f"gap {sends.gap} is {spoken(sends.gap)}, so the train is faster than any pipe: gaps are"
@@ -178,16 +173,14 @@ def _units(view: View) -> Iterator[Note]:
             if 0 < config.bw < _SLOWEST:
                 yield Note("units", f"line {config.line}: {config.words('bw')} is {config.bw} bit/s: is a unit missing, as in"
                            " 10Mbit/s?", "units")
-    if (view.sends or len(done.rows)) and 0 < end < _SHORT and not view.ended.is_short() and not view.counters.delivered:
-        yield _unit(done.plain[-1][1].line, f"@{end} end is {spoken(end)}, and nothing was delivered by then: times are in nanoseconds,"
+    if (view.sends or view.counters.made) and 0 < end < _SHORT and not view.ended.is_short() and not view.counters.delivered:
+        yield _unit(view.done[-1][1].line, f"@{end} end is {spoken(end)}, and nothing was delivered by then: times are in nanoseconds,"
                     f" {end} ms is @{end * 10**6}")
 
 
 def _unit(line: int, said: str, sends: Sends | None = None) -> Note:
     return Note("units", f"line {line}: {said}", "units", sends.name() if sends is not None else "")
 
-
-# `refused_of` and `marks_of` take a `dnlab.analysis.view.View`, with its scenario or without.
 
 # The meaning of each code of a refused command (docs/reference/faults.md).
 MEANS = {
@@ -202,16 +195,13 @@ MEANS = {
     24: "there are 64 pipes already",
     25: "there are 256 flows and trains already, those that have ended too",
 }
-_DENIED = DROPPED + DROP_CAUSES.index("denied")
-_NOPIPE = DROPPED + DROP_CAUSES.index("nopipe")
-_BUDGET = DROPPED + DROP_CAUSES.index("budget")
 # The maximum number of refused commands that are listed.
 _MOST_TOLD = 3
 
 
 class Refusal(NamedTuple):
-    """A refused command: its index in the experiment (from 0), its time in ns, the code, its line in the report, and its line and text
-    in the scenario (None if the scenario isn't known)."""
+    """A refused command: its index in the experiment (from 0), its time in ns, the code, its line in the report (or its row), and its
+    line and text in the scenario (None if the scenario isn't known)."""
     experiment: str
     number: int
     moment: int
@@ -232,16 +222,12 @@ class Refusal(NamedTuple):
 
 def refused_of(view: View) -> list[Refusal]:
     """Returns the refused commands of an experiment, in order."""
-    experiment = view.experiment
-    columns = experiment.columns
+    records, rows = view.records, view.records.at(REFUSED)
     commands = view.plan.commands if view.plan else []
-    found = []
-    for row in experiment.rows(REFUSED).tolist():
-        number = int(columns.number[row])
-        line, text = (commands[number].line, commands[number].text) if number < len(commands) else (None, None)
-        found.append(Refusal(experiment.name, number, int(columns.moment[row]), int(columns.more[row]),
-                             experiment.line_of(row), line, text))
-    return found
+    numbers, moments, codes = (records.take(column, rows).tolist() for column in ("source", "moment", "code"))
+    return [Refusal(records.name, number, moment, code, records.number_of(row),
+                    *((commands[number].line, commands[number].text) if number < len(commands) else (None, None)))
+            for row, number, moment, code in zip(rows.tolist(), numbers, moments, codes)]
 
 
 def codes_of(refused: Iterable[Refusal]) -> str:
@@ -260,44 +246,35 @@ def told_of(refused: Sequence[Refusal], commands: int) -> str:
 
 def marks_of(view: View) -> list[Note]:
     """Returns the notes of an experiment that cause warnings, the most serious first."""
-    return [*_refused(view), *_ends(view), *_losses(view), *likely_of(view)]
-
-
-def _refused(view: View) -> list[Note]:
-    refused = view.refused
-    if not refused:
-        return []
-    commands = int(np.count_nonzero(np.isin(view.experiment.columns.word, (OK, REFUSED))))
-    return [Note("refused", told_of(refused, commands), "refused")]
-
-
-def _ends(view: View) -> list[Note]:
-    if not view.ended.is_short():
-        return []
-    end = "" if view.ended.end is None else f", before its end at {view.ended.end} ns"
-    return [Note("spent", f"its steps were spent at {view.ended.moment} ns{end}: what follows is missing; give"
-                 " it more `steps`", "spent")]
-
-
-def _losses(view: View) -> list[Note]:
-    """Returns notes about drops that suggest a mistake: by rules, in a pipe that doesn't exist, or for the budget."""
     found = []
-    fate, kind = view.packets.outcome, view.packets.kind
-    for name, packets in view.senders:
-        denied = int(np.count_nonzero(fate[packets] == _DENIED))
-        nowhere = int(np.count_nonzero(fate[packets] == _NOPIPE))
-        over = int(np.count_nonzero(fate[packets] == _BUDGET))
-        came = int(np.count_nonzero(fate[packets] == DELIVERED))
-        if denied and not came and int(kind[packets[0]]) == ACKNOWLEDGES:
-            found.append(Note("no way back", f"{name}: all {denied} that ended were denied: no rule allows the return"
-                              " path, so the sender never saw an acknowledgement", "no-way-back", name))
-        elif denied:
-            found.append(Note("denied", f"{name}: {denied} of {len(packets)} packets were denied: no rule matched,"
-                              " or a `deny`", "denied", name))
-        if nowhere:
-            found.append(Note("nopipe", f"{name}: {nowhere} of {len(packets)} packets were dropped because a rule sends them to a pipe"
-                              " that does not exist: configure that pipe, or name another", "nopipe", name))
-        if over:
-            found.append(Note("budget", f"{name}: {over} of {len(packets)} packets were dropped because the budget"
-                              " of packets in flight was used up", "budget", name))
+    if view.refused:
+        found.append(Note("refused", told_of(view.refused, len(view.records.commands())), "refused"))
+    if view.ended.is_short():
+        end = "" if view.ended.end is None else f", before its end at {view.ended.end} ns"
+        found.append(Note("spent", f"its steps were spent at {view.ended.moment} ns{end}: what follows is missing; give"
+                          " it more `steps`", "spent"))
+    found += _losses(view)
+    if view.plan is not None:
+        # An untraced report has only what the notes about pipes and units need.
+        for kind in (_unsent, _by_pipes, _half_duplex, _window_limited, _unused, _units) if view.is_told else (_by_pipes, _units):
+            found += kind(view)
     return found
+
+
+def _losses(view: View) -> Iterator[Note]:
+    """Returns notes about drops that suggest a mistake: by rules, in a pipe that doesn't exist, or for the budget."""
+    for name, packets in view.senders:
+        counts = np.bincount(view.packets.outcome[packets], minlength=len(OUTCOMES)).tolist()
+        came, denied, nowhere, over = (counts[OUTCOMES.index(name)] for name in ("delivered", "denied", "nopipe", "budget"))
+        if denied and not came and int(view.packets.kind[packets[0]]) == ACKNOWLEDGES:
+            yield Note("no way back", f"{name}: all {denied} that ended were denied: no rule allows the return"
+                       " path, so the sender never saw an acknowledgement", "no-way-back", name)
+        elif denied:
+            yield Note("denied", f"{name}: {denied} of {len(packets)} packets were denied: no rule matched,"
+                       " or a `deny`", "denied", name)
+        if nowhere:
+            yield Note("nopipe", f"{name}: {nowhere} of {len(packets)} packets were dropped because a rule sends them to a pipe"
+                       " that does not exist: configure that pipe, or name another", "nopipe", name)
+        if over:
+            yield Note("budget", f"{name}: {over} of {len(packets)} packets were dropped because the budget"
+                       " of packets in flight was used up", "budget", name)

@@ -11,8 +11,7 @@ from dnlab.analysis.quantities import place
 from dnlab.analysis.series import MOST, Panel, Series, fewest, most, steps, too_many
 from dnlab.analysis.view import Note, View
 from dnlab.errors import InputError
-from dnlab.io.digits import Ints
-from dnlab.io.lines import ACKNOWLEDGES, pipe_name
+from dnlab.io.rows import ACKNOWLEDGES, Ints, instance_name
 
 # A limit or rate of more than this many times the values is named in the title, because its line would flatten the others.
 _TIMES = 3
@@ -25,7 +24,7 @@ def labelled(view: View) -> list[tuple[str, Ints]]:
     instances = Counter(pipe // 256 for pipe, _ in pipes)
     is_ack = view.packets.kind[view.visits.packet] == ACKNOWLEDGES
     has_acks = not view.senders or any(name.endswith(" acks") for name, _ in view.senders)
-    return [(f"pipe {pipe // 256 if pipe % 256 == 0 and instances[pipe // 256] == 1 else pipe_name(pipe)}", own)
+    return [(f"pipe {pipe // 256 if pipe % 256 == 0 and instances[pipe // 256] == 1 else instance_name(pipe)}", own)
             for pipe, own in pipes if has_acks or not is_ack[own].all()]
 
 
@@ -34,14 +33,10 @@ def queues(view: View) -> Panel:
     pipes = labelled(view)
     if not view.is_told:
         lines = [steps(view, f"delay line of {label}", *in_flight(view, own)) for label, own in pipes]
-        return Panel("Packets in delay lines (the queue needs the scenario)", "packets", most(view, "queue", lines),
+        return Panel("Packets in delay lines (the queue needs --trace)", "packets", most(view, "queue", lines),
                      "" if lines else "no packet finished in a pipe", quantity="Packets in the delay line")
     lines = [line._replace(values=np.maximum(line.values - 1, 0))
              for line in (steps(view, label, *waiting(view, own)) for label, own in pipes)]
-    lost = len(view.never_seen)
-    if lost:
-        view.more_notes.append(Note("no pipe", f"queue: {lost} packets have no line that names their pipe (held at the end,"
-                                    " or deleted while they waited), so no pipe's line counts them"))
     lines = most(view, "queue", lines)
     levels, named = drawable(limits(view, lines), lines, "packets")
     return Panel("Queue length" + named, "packets", lines + levels, "" if lines else "no packet met a pipe", quantity="Queue length")
@@ -50,7 +45,7 @@ def queues(view: View) -> Panel:
 def flights(view: View) -> Panel:
     """Returns the number of packets in flight: created, and neither delivered nor dropped."""
     if not view.is_told:
-        return Panel("Packets in flight", "packets", [], "The creation times of packets\nneed the scenario.")
+        return Panel("Packets in flight", "packets", [], "The creation times of packets\nneed --trace.")
     made, ended = view.packets.made, view.packets.ended
     line = steps(view, "in flight", *_changes(made, ended[ended >= 0]))
     return Panel("Packets in flight", "packets", [line] if len(made) else [], "" if len(made) else "no packet was created",
@@ -128,8 +123,8 @@ _PERCENTILES = (5, 25, 50, 75, 95)
 _NAMES = {"sojourn": ("One-way delay", "ms"), "throughput": ("Throughput", "Mbit/s")}
 _FRACTIONS = {"sojourn": "Fraction of packets", "throughput": "Fraction of intervals"}
 # The text of a panel that lacks something.
-_NEEDS = {"sojourn": "The creation times of packets\nneed the scenario.",
-          "throughput": "Sizes need the scenario."}
+_NEEDS = {"sojourn": "The creation times of packets\nneed --trace.",
+          "throughput": "Sizes need --trace."}
 Samples = list[tuple[str, Ints]]
 
 
@@ -171,7 +166,9 @@ def panel_of(view: View, what: str, span: Span, every: Optional[int]) -> Panel:
     if not view.is_told:
         return Panel(title, unit, [], _NEEDS[of], across=across, quantity=quantity)
     if not kind:
-        series = [_stairs(_came(label), moments, values, every) for label, moments, values in throughputs(view, every)]
+        # A rate holds until the next interval, the last to its own end.
+        series = [Series(_came(label), "steps", np.append(moments, moments[-1] + every), np.append(values, values[-1]) / 10**6)
+                  for label, moments, values in throughputs(view, every)]
         series = most(view, what, series)
         rates, named = drawable(link_rates(view), series, unit)
         return Panel(title + named, unit, series + rates, "" if series else "nothing was delivered", quantity=quantity)
@@ -209,11 +206,6 @@ def _came(label: str) -> str:
     ('delivered (injected)', 'train 9')
     """
     return "delivered (injected)" if label == "injected" else label
-
-
-def _stairs(label: str, moments: Ints, values: Ints, every: int) -> Series:
-    """Returns a rate over time, Mbit/s; it holds until the next interval, the last to its own end."""
-    return Series(label, "steps", np.append(moments, moments[-1] + every), np.append(values, values[-1]) / 10**6)
 
 
 def _times(view: View, span: Span) -> Samples:

@@ -2,8 +2,8 @@
 
 Serial numbers shift as soon as one more packet is created, so a packet is identified by its sender and its place: a train's by
 its index, a flow's by the first byte of its segment (or the number that it acknowledges) and the number of transmissions before
-it. Lines of commands (`ok`) and listings are compared only if nothing else differs. If one run was made without `trace 1`, the
-lines that only a traced run has are ignored.
+it. Lines of commands (`ok`) and listings are compared only if nothing else differs. If one run is not traced, the lines that only a
+traced run has are ignored.
 """
 from dataclasses import dataclass
 from typing import Any, NamedTuple, Optional
@@ -14,8 +14,8 @@ from numpy.typing import NDArray
 from dnlab.analysis.distributions import in_flight, waiting
 from dnlab.analysis.packets import UNKNOWN
 from dnlab.analysis.view import View
-from dnlab.io.digits import Ints
-from dnlab.io.lines import ACK, ACKNOWLEDGES, ARRIVE, DATA, DROP, EXPIRE, IDENTIFY, MAKE, OK, REFUSED, RULE, WORDS as LINE_WORDS, pipe_name
+from dnlab.io.rows import (ACK, ACKNOWLEDGES, ARRIVE, DATA, DROP, DROP_ACK, EXPIRE, IDENTIFY, MAKE_ACK, MAKE_COMMAND, OK, PASS, PIPE, REFUSED,
+                           RULE, WORD_OF, WORDS, Ints, header_text, headers_at, instance_name)
 from dnlab.io.scenario_parts import DROP_CAUSES
 
 
@@ -51,44 +51,41 @@ def names_of(view: View) -> Names:
 
 
 class Told:
-    """The lines of an experiment, each as a row of numbers that don't depend on serial numbers."""
+    """The records of an experiment, each as a row of numbers that don't depend on serial numbers."""
 
-    def __init__(self, view: View, texts: dict[str, int]) -> None:
-        """Encodes the lines. `texts` has a number for each name and text, and is shared by the runs to compare."""
+    def __init__(self, view: View, texts: dict[str, int], with_listings: bool) -> None:
+        """Encodes the records. `texts` has a number for each name and text, and is shared by the runs to compare; `with_listings` compares
+        the texts of listings, which rows don't have."""
         self.view = view
         self.names = names_of(view)
-        columns = view.experiment.columns
+        own, kind = view.records, view.records.kind
+        every = np.arange(len(own))
         codes = np.array([texts.setdefault(name, len(texts)) for name in self.names.told] + [-1], dtype=np.int32)
-        named = columns.packet >= 0
-        packet = np.where(named, columns.packet, 0)
-        is_command = (columns.word == REFUSED) | (columns.word == OK)
-        is_window = (columns.word == ACK) | (columns.word == EXPIRE)
+        self.has_packet = ((kind >= MAKE_COMMAND) & (kind <= MAKE_ACK)) | ((kind >= ARRIVE) & (kind <= DROP_ACK))
+        packet = np.where(self.has_packet, own.take("packet", every), -1)
+        is_window, is_listing = (kind == ACK) | (kind == EXPIRE), kind >= RULE
         # A command's number shifts like those of packets; its text is compared if it is known.
-        counts = is_window | (is_command & (view.plan is None))
-        more = is_window | is_command | (columns.word == DROP) | (columns.word == MAKE)
+        counts = is_window | is_listing | ((kind <= REFUSED) & (view.plan is None))
+        more = is_window | is_listing | (kind == IDENTIFY) | ((kind >= MAKE_COMMAND) & (kind <= MAKE_ACK))
 
         def of(values: Ints) -> Ints:
-            return np.where(named, values[packet], -1) if len(values) else np.full(len(columns), -1, dtype=np.int64)
+            return np.where(self.has_packet, values[packet], -1) if len(values) else np.full(len(own), -1, dtype=np.int64)
 
-        self.columns: tuple[NDArray[np.signedinteger[Any]], ...] = (
-            columns.moment, columns.word, columns.pipe, codes[of(self.names.who)], of(self.names.number),
-            of(self.names.nth).astype(np.int32), np.where(counts, columns.number, -1),
-            np.where(is_window, columns.flow, -1), np.where(more, columns.more, -1), self.texts(texts))
+        self.columns: tuple[NDArray[np.integer[Any]], ...] = (
+            own.take("moment", every), WORD_OF[kind], own.instances(every), codes[of(self.names.who)], of(self.names.number),
+            of(self.names.nth).astype(np.int32), np.where(counts, own.take("source", every), -1),
+            np.where(is_window | is_listing, own.take("number", every), -1), np.where(more, own.take("more", every), -1),
+            own.rows["src"], own.rows["dst"], own.rows["size"], own.rows["code"],
+            np.where(is_listing, own.take("packet", every), -1), self.texts(texts, with_listings))
 
-    def texts(self, texts: dict[str, int]) -> NDArray[np.int32]:
-        """Returns the numbers of texts in lines: headers, identifiers, listings, commands. Shape (rows,); -1 if there is none."""
-        experiment = self.view.experiment
-        found = np.full(len(experiment.columns), -1, dtype=np.int32)
-        headers = np.array([texts.setdefault(text, len(texts)) for text in experiment.headers] + [-1], dtype=np.int32)
-        makes = experiment.rows(MAKE)
-        found[makes] = headers[experiment.columns.header[makes]]
-        for row, text in experiment.listings.items():
-            found[row] = texts.setdefault(text, len(texts))
-        for row, (_, text) in experiment.identified.items():
+    def texts(self, texts: dict[str, int], with_listings: bool) -> NDArray[np.int32]:
+        """Returns the numbers of the texts of commands and listings. Shape (rows,); -1 if there is none."""
+        own = self.view.records
+        found = np.full(len(own), -1, dtype=np.int32)
+        for row, text in own.listings.items() if with_listings else ():
             found[row] = texts.setdefault(text, len(texts))
         if self.view.plan is not None:
-            words = experiment.columns.word
-            for row, command in zip(np.flatnonzero((words == OK) | (words == REFUSED)), self.view.plan.commands):
+            for row, command in zip(own.commands(), self.view.plan.commands):
                 found[row] = texts.setdefault(command.text, len(texts))
         return found
 
@@ -104,35 +101,44 @@ class Told:
         return f"{flow} {'byte' if kind == DATA else 'acknowledges'} {number}{again}"
 
     def line(self, row: int) -> str:
-        """Returns a line of the report as text: its number, its time, what happened and to which packet."""
-        experiment = self.view.experiment
-        columns = experiment.columns
-        word = int(columns.word[row])
-        if word >= RULE:
-            return f"line {experiment.line_of(row)}: {experiment.listings[row]}"
-        said = [f"line {experiment.line_of(row)}: {int(columns.moment[row])} ns {LINE_WORDS[word]}"]
-        if columns.packet[row] >= 0:
-            said.append(self.packet(int(columns.packet[row])))
-        if columns.pipe[row] >= 0:
-            said.append(f"{'' if word == IDENTIFY else 'at '}{pipe_name(int(columns.pipe[row]))}")
-        if word in (ACK, EXPIRE):
-            said.append(f"flow {columns.flow[row]} cwnd {columns.number[row]} ssthresh {columns.more[row]}")
-        elif word == DROP:
-            said.append(DROP_CAUSES[int(columns.more[row])])
-        elif word == MAKE:
-            said.append(f"{columns.more[row]} bytes, {experiment.headers[int(columns.header[row])]}")
-        elif word == IDENTIFY:
-            said.append(experiment.identified[row][1])
-        elif word in (OK, REFUSED):
+        """Returns a record as text: its line or row, its time, what happened and to which packet."""
+        own = self.view.records
+        one, kind = own.rows[row], int(own.kind[row])
+        if kind >= RULE:
+            return f"{own.where(row)}: {own.listings.get(row) or listed(one, kind)}"
+        said = [f"{own.where(row)}: {int(one['moment'])} ns {WORDS[WORD_OF[kind]]}"]
+        if self.has_packet[row]:
+            said.append(self.packet(int(one["packet"])))
+        if ARRIVE <= kind <= PASS or kind == IDENTIFY:
+            said.append(f"{'' if kind == IDENTIFY else 'at '}{instance_name(int(one['pipe']) * 256 + int(one['instance']))}")
+        if kind in (ACK, EXPIRE):
+            said.append(f"flow {one['source']} cwnd {one['number']} ssthresh {one['more']}")
+        elif DROP <= kind <= DROP_ACK:
+            said.append(DROP_CAUSES[int(one["code"]) - 1])
+        elif MAKE_COMMAND <= kind <= MAKE_ACK:
+            said.append(f"{one['size']} bytes, {header_text(headers_at(own.rows, np.array([row]))[0])}")
+        elif kind == IDENTIFY:
+            said.append(f"{one['code']:02x}/{one['src']:08x}/{one['dst']:08x}/{one['more'] & 65535:04x}/{one['more'] >> 16:04x}")
+        elif kind in (OK, REFUSED):
             said.append(self.command(row))
         return " ".join(said)
 
     def command(self, row: int) -> str:
         """Returns a command's text if the scenario has it, else its number, with the code of its refusal."""
-        columns, plan = self.view.experiment.columns, self.view.plan
-        number = int(columns.number[row])
+        own, plan = self.view.records, self.view.plan
+        number = int(own.rows["source"][row])
         text = f"command {number}" if plan is None else f"`{plan.commands[number].text}`"
-        return text if columns.word[row] == OK else f"{text} (code {int(columns.more[row])})"
+        return text if own.kind[row] == OK else f"{text} (code {int(own.rows['code'][row])})"
+
+
+def listed(one: Any, kind: int) -> str:
+    """Returns a row of a listing as text."""
+    if kind == RULE:
+        return f"rule {one['source']}: packets {one['number']}, bytes {one['more']}"
+    if kind == PIPE:
+        return f"pipe {one['pipe']}"
+    return (f"instance {one['pipe']}.{one['instance']} waiting {one['number']} bytes {one['more']} busy {one['code']} flight {one['packet']}"
+            f" drawn {one['source']}")
 
 
 @dataclass
@@ -152,28 +158,28 @@ class Parting:
         for place, told in enumerate(self.told):
             for pipe, own in told.view.visits.pipes():
                 names.setdefault(pipe, ["0+0"] * 4)[2 * place:2 * place + 2] = _held(told.view, own, self.moment)
-        return [(pipe_name(pipe), names[pipe]) for pipe in sorted(names)]
+        return [(instance_name(pipe), names[pipe]) for pipe in sorted(names)]
 
 
 def _held(view: View, own: Ints, moment: int) -> list[str]:
     """Returns the packets that wait and that are in the delay line of an instance, before a time and after it."""
-    known = bool((view.visits.arrival[own] >= 0).all())
     found = []
     for end in (moment - 1, moment):
         counts = [int(amounts[moments <= end].sum()) for moments, amounts in (waiting(view, own), in_flight(view, own))]
-        found.append(f"{counts[0] if known else '-'}+{counts[1]}")
+        found.append(f"{counts[0] if view.is_told else '-'}+{counts[1]}")
     return found
 
 
 def parting(first: View, second: View) -> Optional[Parting]:
-    """Returns where two experiments diverge, or None if their lines are the same except for serial numbers."""
+    """Returns where two experiments diverge, or None if their records are the same except for serial numbers."""
     texts: dict[str, int] = {}
-    told = Told(first, texts), Told(second, texts)
-    words = [one.view.experiment.columns.word for one in told]
-    traced = [(word == MAKE) | (word == IDENTIFY) | (word == ARRIVE) for word in words]
+    are_texts = first.records.first is None and second.records.first is None
+    told = Told(first, texts, are_texts), Told(second, texts, are_texts)
+    kinds = [one.view.records.kind for one in told]
+    traced = [((kind >= MAKE_COMMAND) & (kind <= MAKE_ACK)) | (kind == IDENTIFY) | (kind == ARRIVE) for kind in kinds]
     both = all(lines.any() for lines in traced)
-    kept = [np.ones(len(word), dtype=np.bool_) if both else ~lines for word, lines in zip(words, traced)]
-    events = [np.flatnonzero(own & (word != OK) & (word < RULE)) for own, word in zip(kept, words)]
+    kept = [np.ones(len(kind), dtype=np.bool_) if both else ~lines for kind, lines in zip(kinds, traced)]
+    events = [np.flatnonzero(own & (kind != OK) & (kind < RULE)) for own, kind in zip(kept, kinds)]
     rest = [np.flatnonzero(own) for own in kept]
     return _parted(told, events) or _parted(told, rest)
 
@@ -190,6 +196,6 @@ def _parted(told: tuple[Told, Told], rows: list[NDArray[np.int64]]) -> Optional[
     at = int(differs[0]) if len(differs) else count
     here = [int(own[at]) if at < len(own) else None for own in rows]
     # A listing line has no time of its own, only that of the command before it.
-    moments = [int(one.view.experiment.columns.moment[:row + 1].max()) for one, row in zip(told, here) if row is not None]
+    moments = [int(one.view.records.rows["moment"][:row + 1].max()) for one, row in zip(told, here) if row is not None]
     equal = (int(rows[0][at - 1]), int(rows[1][at - 1])) if at else None
     return Parting(told, (here[0], here[1]), equal, min(moments), (rows[0][at:], rows[1][at:]))

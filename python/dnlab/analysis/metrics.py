@@ -1,20 +1,18 @@
 """Metrics and rows of summaries: their names, units and values, and the time range that they are about."""
-import gzip
 import json
 import re
-import zlib
-from contextlib import contextmanager
 from fnmatch import fnmatchcase
 from fractions import Fraction
-from typing import IO, TYPE_CHECKING, Any, Iterable, Iterator, NamedTuple, Optional, Sequence, cast
+from typing import TYPE_CHECKING, Any, Iterable, NamedTuple, Optional, Sequence
 
 from dnlab.analysis.quantities import ENDINGS, Percentile, percentile_name, shown
-from dnlab.errors import InputError
+from dnlab.errors import InputError, reading
+from dnlab.io.files import opened_gzip
 from dnlab.io.scenario_parts import DROP_CAUSES
 
 if TYPE_CHECKING:
     from dnlab.analysis.view import View
-    from dnlab.io.digits import Flags, Ints
+    from dnlab.io.rows import Flags, Ints
 
 
 class Span(NamedTuple):
@@ -58,7 +56,7 @@ class Span(NamedTuple):
         if self.is_whole():
             return
         if not view.is_told:
-            raise InputError(f"experiment {view.name}: --from and --to need its scenario, or a report made with `trace 1`")
+            view.must_be_traced("--from and --to need creation times")
         last = view.ended.moment
         if self.begin >= last:
             raise InputError(f"experiment {view.name}: it ended at {last} ns, but --from is {self.begin} ns: choose an earlier time")
@@ -124,41 +122,7 @@ class Metric(NamedTuple):
     column: str
 
     def of(self, row: Row) -> Optional[Fraction]:
-        """Returns its value in a row, in base units (ns, bytes, bit/s, fractions, counts), or None if unknown.
-
-        Each metric, for the experiments of `dnlab.analysis.doctest_data`. Two of the train's four packets arrived, after 11 and 12 ms:
-
-        >>> from dnlab.analysis.doctest_data import FLOWS, TRAIN, rows_of
-        >>> train, pipe = (rows_of(TRAIN)[name] for name in ("train 1", "pipe 1.0"))
-        >>> def told(row, *words): return [str(metric_of(word).of(row)) for word in words]
-        >>> told(train, "packets", "delivered", "in_flight", "drops", "drops.full", "drops.lost", "loss")
-        ['4', '2', '1', '1', '1', '0', '1/4']
-        >>> told(train, "bytes", "useful", "first", "last", "time")
-        ['2000', '2000', '0', '12000000', '12000000']
-        >>> told(train, "delay.min", "delay.p50", "delay.mean", "delay.p95", "delay.max")
-        ['11000000', '11000000', '11500000', '12000000', '12000000']
-
-        16000 bits in 12 ms are 1333333 bit/s. The only difference, 1 ms, counts a sixteenth (RFC 3550):
-
-        >>> told(train, "rate", "goodput", "jitter", "refused", "ended")
-        ['1333333', '1333333', '62500', '0', '0']
-
-        The pipe served 32000 bits by 6 ms, and could have served 48000. `ended` is 0 for `end`, 1 for `spent`.
-
-        >>> round(metric_of("utilisation").of(pipe), 6) == round(Fraction(32000, 48000), 6)
-        True
-        >>> first, second, there = (rows_of(FLOWS)[name] for name in ("flow 1", "flow 2", "there"))
-
-        Flow 1 delivers 1920 bytes without headers in 12 ms; flow 2 retransmits after 1 s. With rates of 1280000 and 7679
-        bit/s Jain's index is 1287679^2 / (2 * (1280000^2 + 7679^2)):
-
-        >>> told(first, "bytes", "useful", "goodput", "retransmissions", "fct", "refused")
-        ['2000', '1920', '1280000', '0', '12000000', '1']
-        >>> told(second, "packets", "drops.denied", "loss", "goodput", "retransmissions", "fct")
-        ['2', '1', '1/2', '7679', '1', '1000000001']
-        >>> abs(metric_of("jain").of(there) - Fraction(1287679**2, 2 * (1280000**2 + 7679**2))) < Fraction(1, 10**9)
-        True
-        """
+        """Returns its value in a row, in base units (ns, bytes, bit/s, fractions, counts), or None if unknown."""
         if self.column:
             value = row.get(self.column)
             if self.kind == "ending" and value is not None:
@@ -196,8 +160,10 @@ class Metric(NamedTuple):
             return "`all` has both directions: use `there` or `back`"
         if not self.applies(row):
             return self.only() if self.word in _OF_KIND else f"rows of this kind have no {self.word}"
+        if row.get("bytes") is None and row.get("packets"):
+            return "make the report with --trace: `dnlab alone --trace < scenario.txt > report.txt`"
         if row.get("seed") is None:
-            return "give the scenario, or run it with `trace 1`"
+            return "give the scenario"
         if self.word == "fct":
             return f"it had not finished when the experiment ended, at {shown(Fraction(row['ended_at']), 'time', 's')}"
         if self.word == "utilisation":
@@ -207,7 +173,7 @@ class Metric(NamedTuple):
         if self.word == "jitter" and row.get("delivered") == 1:
             return "a single packet has no jitter"
         if self.word.startswith("drops") or self.word == "loss":
-            return "without `trace 1` no line says which pipe dropped a packet; use `all`, or a sender"
+            return "without --trace no line says which pipe dropped a packet; use `all`, or a sender"
         return "no line has it"
 
 
@@ -289,10 +255,10 @@ def stored_rows(name: str) -> Optional[dict[str, list[Row]]]:
     """Returns the rows of a file of `dnlab-summary --json`, by experiment, or None for a report. Standard input is a report."""
     if name == "-":
         return None
-    with opened(name) as file:
-        if file.read(1) != b"[":
+    with reading(name), open(name, "rb") as packed, opened_gzip(packed) as file:
+        if file.peek(1)[:1] != b"[":
             return None
-        text = b"[" + file.read()
+        text = file.read()
     try:
         rows = json.loads(text)
         found: dict[str, list[Row]] = {}
@@ -304,17 +270,3 @@ def stored_rows(name: str) -> Optional[dict[str, list[Row]]]:
     except (ValueError, TypeError):
         raise InputError(f"{name}: it is not a complete summary: `dnlab-summary REPORT SCENARIO --json` makes one") from None
     return found
-
-
-@contextmanager
-def opened(name: str) -> Iterator[IO[bytes]]:
-    """Opens a file, decompressed if it is gzip. Raises `InputError` if it can't be read."""
-    try:
-        with open(name, "rb") as file:
-            is_packed = file.read(2) == b"\x1f\x8b"
-        with gzip.open(name) if is_packed else open(name, "rb") as plain:
-            yield cast(IO[bytes], plain)
-    except (EOFError, zlib.error, gzip.BadGzipFile) as fault:
-        raise InputError(f"{name}: line 1: its gzip is cut or damaged ({fault})") from None
-    except OSError as fault:
-        raise InputError(f"{name}: {fault.strerror}") from None

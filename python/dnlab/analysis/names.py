@@ -6,7 +6,7 @@ from typing import Any, Iterable, Mapping, Optional, Sequence
 
 from dnlab.analysis.statistics import percentile_of
 from dnlab.errors import InputError
-from dnlab.io.scenario_parts import SCALES, Config, Plan, config_of
+from dnlab.io.scenario_parts import Config, Plan, config_of, rate_text
 
 # A source is an address, or address and port, as `10.0.0.1` and `10.0.0.1:1000`. Only the scenario says which packets were
 # injected, so names are put into its plans, and everything made from these has them.
@@ -55,12 +55,17 @@ def with_names(plans: Optional[dict[str, Plan]], names: Mapping[str, str], wante
     return {own: plan._replace(names=names) for own, plan in plans.items()}
 
 
+_INJECTED = re.compile(r"^@[0-9]+ inject (tcp|udp) ([0-9.]+) ([0-9]+) ([0-9.]+) ([0-9]+) ", re.MULTILINE)
+
+
+def headers_in(plan: Plan) -> list[tuple[str, ...]]:
+    """Returns the headers that a scenario injects (protocol, source, its port, target, its port), each once, in the order of the first."""
+    return list(dict.fromkeys(_INJECTED.findall(plan.commands.text().decode())))
+
+
 def sources_of(plan: Plan) -> list[tuple[str, str]]:
     """Returns the addresses, and addresses with ports, that inject, each once, in the order of the first."""
-    from dnlab.analysis.commands import injected_of
-
-    headers = injected_of(plan.commands).words()
-    return list(dict.fromkeys((address, f"{address}:{port}") for _, address, port, _, _ in headers))
+    return list(dict.fromkeys((address, f"{address}:{port}") for _, address, port, _, _ in headers_in(plan)))
 
 
 def _check(plans: Iterable[Plan], names: Mapping[str, str]) -> None:
@@ -133,22 +138,13 @@ def spelled(config: Config) -> dict[str, str]:
     >>> spelled(config_of(1, "pipe 1 config bw 8000Kbit/s"))
     {'bw': 'bw 8Mbit/s', 'delay': 'delay 0', 'queue': 'queue 50', 'plr': 'plr 0', 'discipline': 'droptail', 'mask': ''}
     """
-    times = [f" {name} {_time(value)}" for name, value in (("target", config.target), ("interval", config.interval))
+    times = [f" {name} {value // 10**6 if value % 10**6 == 0 else f'{value // 10**3}us'}" for name, value in (("target", config.target), ("interval", config.interval))
              if config.codel and value is not None]
     queue = f"{config.bytes // 1024}KBytes" if config.bytes is not None else f"{config.slots}"
     plr = f"{config.plr / 10**6:.6f}".rstrip("0").rstrip(".")
-    return {"bw": f"bw {_rate(config.bw)}", "delay": f"delay {config.delay // 10**6}", "queue": f"queue {queue}",
+    return {"bw": f"bw {rate_text(config.bw) if config.bw else 0}", "delay": f"delay {config.delay // 10**6}", "queue": f"queue {queue}",
             "plr": f"plr {plr}", "discipline": "codel" + "".join(times) if config.codel else "droptail",
             "mask": f"mask {config.mask}" if config.mask else ""}
-
-
-def _rate(value: int) -> str:
-    unit = next((unit for unit, scale in reversed(SCALES.items()) if unit and value and value % scale == 0), "")
-    return f"{value // SCALES[unit]}{unit}bit/s" if value else "0"
-
-
-def _time(value: int) -> str:
-    return str(value // 10**6) if value % 10**6 == 0 else f"{value // 10**3}us"
 
 
 def _sequence(values: Iterable[str]) -> str:

@@ -1,21 +1,29 @@
 """The outcome of each packet of an experiment, and its path through pipes, as columns."""
 from dataclasses import dataclass
 from functools import cached_property
-from typing import Optional
+from typing import Any, Mapping
 
 import numpy as np
 from numpy.typing import NDArray
 
-from dnlab.analysis.makings import Makings
-from dnlab.io.digits import Flags, Ints
-from dnlab.io.scenario_parts import DROP_CAUSES as CAUSES
-from dnlab.io.lines import ACKNOWLEDGES, ARRIVE, DATA, DELIVER, DROP, FINISH, KINDS, MAKE, PASS, PLAIN
-from dnlab.io.report import Recorded
+from dnlab.io.rows import (ACKNOWLEDGES, ARRIVE, DATA, DELIVER, DELIVER_ACK, DROP, DROP_ACK, FINISH, KINDS,
+                           LOAD_OF, MAKE_ACK, MAKE_COMMAND, MAKE_TRAIN, PASS, PLAIN, UNKNOWN_SOURCE, Flags,
+                           Ints, Records, Rows, header_text, headers_at)
+from dnlab.io.scenario_parts import INJECTED, DROP_CAUSES as CAUSES
 
 HELD, DELIVERED, DROPPED = 0, 1, 2
 OUTCOMES = ("held", "delivered") + CAUSES
-_CODEL = CAUSES.index("codel")
 UNKNOWN = "unknown"
+
+
+def sender_name(header: tuple[int, ...], is_injected: bool, names: Mapping[str, str]) -> str:
+    """Returns the name of a plain packet's sender: for an injected one the user's for its address, its address with port, or its
+    whole header; for a text, which doesn't tell, the header."""
+    if is_injected and not names:
+        return INJECTED
+    words = header_text(header)
+    _, address, port, _, _ = words.split()
+    return next((names[key] for key in (address, f"{address}:{port}", words) if key in names), INJECTED) if is_injected else words
 
 
 @dataclass
@@ -27,9 +35,10 @@ class Packets:
     outcome int8   an index in `OUTCOMES`: `held`, `delivered`, or the cause of its drop
     size    int64  bytes, with headers
     who     int32  its sender, an index in `names`
-    kind    int8   of the load, an index in `dnlab.io.lines.KINDS`
+    kind    int8   of the load, an index in `dnlab.io.rows.KINDS`
     flow    int32  of its load
-    number  int64  of its load: the first byte, or the acknowledged number"""
+    number  int64  of its load: the first byte, or the acknowledged number
+    row     int64  the row that creates it"""
     names: list[str]
     made: Ints
     ended: Ints
@@ -39,6 +48,7 @@ class Packets:
     kind: NDArray[np.int8]
     flow: NDArray[np.int32]
     number: Ints
+    row: Ints
 
     def __len__(self) -> int:
         return len(self.made)
@@ -64,22 +74,38 @@ class Packets:
         delivered = self.outcome == DELIVERED
         rows = np.flatnonzero(delivered & (self.kind == DATA))
         new: Flags = delivered & (self.kind == PLAIN)
-        new[self._first_of_each(rows[np.argsort(self.ended[rows], kind="stable")])] = True
+        new[self._first_of_each(rows[_order(self.ended[rows])])] = True
         return new
 
     def _first_of_each(self, rows: Ints) -> Ints:
         """Returns the first transmission of each segment among some packets."""
         key = (self.flow[rows].astype(np.int64) << 40) | self.number[rows]
+        if len(key) < 2 or bool((key[1:] > key[:-1]).all()):
+            return rows
         _, first = np.unique(key, return_index=True)
         return rows[first]
 
     def senders(self) -> list[tuple[str, Ints]]:
         """Returns the senders, in the order of the first packet, with the packets of each."""
-        order = np.argsort(self.who, kind="stable")
-        ordered = self.who[order]
-        cuts = np.flatnonzero(ordered[1:] != ordered[:-1]) + 1
-        parts = sorted((part for part in np.split(order, cuts) if len(part)), key=lambda part: int(part[0]))
+        parts = sorted(_parts(self.who), key=lambda part: int(part[0]))
         return [(self.names[self.who[part[0]]] if self.who[part[0]] >= 0 else UNKNOWN, part) for part in parts]
+
+
+def _order(values: "NDArray[np.integer[Any]]") -> Ints:
+    """Returns a stable order of values; values that are in order need no sort, and those of 16 bits only a fast one."""
+    if len(values) < 2 or bool((values[1:] >= values[:-1]).all()):
+        return np.arange(len(values))
+    is_short = int(values.min()) >= 0 and int(values.max()) < 65536
+    return np.argsort(values.astype(np.uint16) if is_short else values, kind="stable")
+
+
+def _parts(values: "NDArray[np.integer[Any]]") -> list[Ints]:
+    """Returns the places of each value, in the order of the values."""
+    if not len(values):
+        return []
+    order = _order(values)
+    ordered = values[order]
+    return np.split(order, np.flatnonzero(ordered[1:] != ordered[:-1]) + 1)
 
 
 @dataclass
@@ -87,12 +113,12 @@ class Visits:
     """A row for each visit of a packet to an instance, by packet and time; shapes (visits,). Unknown values are -1.
 
     packet   int64  serial number
-    pipe     int32  pipe * 256 + instance
+    pipe     int64  pipe * 256 + instance
     arrival  int64  ns
     finish   int64  ns: the end of service; -1 if it wasn't served
     exit     int64  ns: when it left, or was dropped there"""
     packet: Ints
-    pipe: NDArray[np.int32]
+    pipe: Ints
     arrival: Ints
     finish: Ints
     exit: Ints
@@ -102,112 +128,155 @@ class Visits:
 
     def pipes(self) -> list[tuple[int, Ints]]:
         """Returns the instances by number, with the visits to each."""
-        order = np.argsort(self.pipe, kind="stable")
-        ordered = self.pipe[order]
-        cuts = np.flatnonzero(ordered[1:] != ordered[:-1]) + 1
-        return [(int(self.pipe[part[0]]), part) for part in np.split(order, cuts) if len(part)]
+        return [(int(self.pipe[part[0]]), part) for part in _parts(self.pipe)]
 
 
-def packets_of(experiment: Recorded, makings: Optional[Makings] = None) -> Packets:
-    """Returns the packets of an experiment, with senders and times from `makings`, else from its `make` lines."""
-    columns = experiment.columns
-    count = experiment.counters.made
-    ended = np.full(count, -1, dtype=np.int64)
+def packets_of(records: Records, given: Mapping[str, str] = {}) -> Packets:
+    """Returns the packets of an experiment, as far as the rows have them; `given` has the user's names for sources of injected ones."""
+    count = records.counters.made
+    made, ended, size, number, row = (np.full(count, -1, dtype=np.int64) for _ in range(5))
     fate = np.zeros(count, dtype=np.int8)
-    for word in (DELIVER, DROP):
-        rows = experiment.rows(word)
-        ended[columns.packet[rows]] = columns.moment[rows]
-        fate[columns.packet[rows]] = DELIVERED if word == DELIVER else columns.more[rows] + DROPPED
-    if makings is not None:
-        return Packets(makings.names, makings.moment, ended, fate, makings.size, makings.who, makings.kind,
-                       makings.flow, makings.number)
-    return _by_lines(experiment, ended, fate)
+    kind, flow = np.full(count, -1, dtype=np.int8), np.full(count, -1, dtype=np.int32)
+    makes = records.at(MAKE_COMMAND, MAKE_ACK)
+    for low, high in ((DELIVER, DELIVER_ACK), (DROP, DROP_ACK)):
+        ends = records.at(low, high)
+        own = records.pick(ends)
+        ended[own["packet"]] = own["moment"]
+        fate[own["packet"]] = DELIVERED if low == DELIVER else own["code"] + (DROPPED - 1)
+        if len(makes) < count:
+            _load(own, own["packet"], kind, flow, number)
+    own = records.pick(makes)
+    # All packets are in order, unless the report is traced only in part.
+    packet: Any = slice(None) if len(makes) == count else own["packet"]
+    made[packet], size[packet], row[packet] = own["moment"], own["size"], makes
+    _load(own, packet, kind, flow, number)
+    names, who = _senders(own, kind, flow, given)
+    return Packets(names, made, ended, fate, size, who, kind, flow, number, row)
 
 
-def _by_lines(experiment: Recorded, ended: Ints, fate: NDArray[np.int8]) -> Packets:
-    """Returns packets as far as the report's own lines have them."""
-    columns = experiment.columns
-    count = len(ended)
-    made, size, number = (np.full(count, -1, dtype=np.int64) for _ in range(3))
-    flow, header = (np.full(count, -1, dtype=np.int32) for _ in range(2))
-    kind = np.full(count, -1, dtype=np.int8)
-    for word in (DELIVER, DROP, MAKE):
-        rows = experiment.rows(word)
-        packets = columns.packet[rows]
-        kind[packets], flow[packets], number[packets] = columns.kind[rows], columns.flow[rows], columns.number[rows]
-        if word == MAKE:
-            made[packets], size[packets], header[packets] = columns.moment[rows], columns.more[rows], columns.header[rows]
-    # Their senders: flow and kind, or the header of a plain packet, if a line has it.
-    key = np.where(kind == PLAIN, header.astype(np.int64) + 1, flow.astype(np.int64))
-    key = np.where(kind < 0, -1, key * 4 + kind)
-    keys, who = np.unique(key, return_inverse=True)
-    names = [_name(int(one), experiment.headers) for one in keys]
-    codes = np.where(key < 0, -1, who).astype(np.int32)
-    return Packets(names, made, ended, fate, size, codes, kind, flow, number)
+def _load(own: Rows, packet: Any, kind: NDArray[np.int8], flow: NDArray[np.int32], number: Ints) -> None:
+    """Sets the loads of the packets that some rows name."""
+    loads = LOAD_OF[own["kind"]]
+    kind[packet] = loads
+    if (loads != PLAIN).any():
+        flow[packet] = np.where(loads == PLAIN, -1, own["source"].astype(np.int32))
+        number[packet] = np.where(loads == PLAIN, -1, own["number"])
 
 
-def _name(key: int, headers: list[str]) -> str:
+def _senders(made: Rows, kind: NDArray[np.int8], flow: NDArray[np.int32],
+             names: Mapping[str, str]) -> tuple[list[str], NDArray[np.int32]]:
+    """Returns the names of the senders, and the index of each packet's, by the rows that create packets; -1 if it is unknown."""
+    # A flow's number and direction; below 0 a train's number; else the place of a name.
+    key = np.where(kind > PLAIN, flow.astype(np.int64) * 4 + kind, -1)
+    plain = np.flatnonzero(made["kind"] <= MAKE_TRAIN)
+    packet, source = made["packet"][plain], made["source"][plain].astype(np.int64)
+    is_train = made["kind"][plain] == MAKE_TRAIN
+    key[packet[is_train]] = source[is_train] * 4 + ACKNOWLEDGES + 1
+    found: dict[str, int] = {}
+    for others in (~is_train & (source != UNKNOWN_SOURCE), ~is_train & (source == UNKNOWN_SOURCE)):
+        if others.any():
+            headers, which = distinct(headers_at(made, plain[others]))
+            is_injected = bool(source[others][0] != UNKNOWN_SOURCE)
+            codes = [found.setdefault(sender_name(tuple(one), is_injected, names), len(found)) for one in headers.tolist()]
+            key[packet[others]] = np.array(codes, dtype=np.int64)[which] * 4 + PLAIN
+    lonely = (kind == PLAIN) & (key < 0)
+    if lonely.any():
+        key[lonely] = found.setdefault(KINDS[PLAIN], len(found)) * 4 + PLAIN
+    given = list(found)
+    keys, who = _codes(key)
+    return [_name(one, given) for one in keys], who
+
+
+def _codes(key: Ints) -> tuple[list[int], NDArray[np.int32]]:
+    """Returns the keys from 0 on, each once, in the order of the first, and the index of each one's, -1 for keys below 0."""
+    first = np.full(int(key.max(initial=-1)) + 2, len(key), dtype=np.int64)
+    first[key[::-1]] = np.arange(len(key))[::-1]
+    first[-1] = len(key)
+    keys = np.flatnonzero(first < len(key))
+    keys = keys[np.argsort(first[keys])]
+    code = np.full(len(first), -1, dtype=np.int32)
+    code[keys] = np.arange(len(keys))
+    return keys.tolist(), code[key]
+
+
+def _name(key: int, given: list[str]) -> str:
     if key < 0:
         return UNKNOWN
-    kind, number = key % 4, key // 4
-    if kind == PLAIN:
-        return headers[number - 1] if number else KINDS[PLAIN]
-    return f"flow {number}" + (" acks" if kind == ACKNOWLEDGES else "")
+    number, kind = divmod(key, 4)
+    return (given[number] if kind == PLAIN else f"flow {number}" if kind == DATA else f"flow {number} acks" if kind == ACKNOWLEDGES
+            else f"train {number}")
 
 
-def visits_of(experiment: Recorded, packets: Packets) -> Visits:
-    """Returns the visits of all packets to pipes, as far as lines have them: `arrive` and `finish` lines, and CoDel's drops, which are in
-    the pipe of the preceding finish."""
-    columns = experiment.columns
-    word = columns.word
-    rows = np.flatnonzero((word == FINISH) | (word == DELIVER) | (word == DROP) | (word == PASS) | (word == ARRIVE))
-    rows = rows[np.argsort(columns.packet[rows], kind="stable")]
-    word, packet, moment = word[rows], columns.packet[rows], columns.moment[rows]
-    same = np.concatenate((np.zeros(1, dtype=np.bool_), packet[1:] == packet[:-1]))[:len(rows)]
-    waits = same & np.concatenate((np.zeros(1, dtype=np.bool_), word[:-1] == ARRIVE))[:len(rows)]
-    by_codel = (word == DROP) & (columns.more[rows] == _CODEL) & ~waits
-    begins = (word == ARRIVE) | ((word == FINISH) & ~waits) | by_codel
+def distinct(headers: Ints) -> tuple[Ints, Ints]:
+    """Returns headers (protocol, source, its port, target, its port), each once, in the order of the first, and the index of each;
+    shapes (h, 5) and (n,).
+
+    >>> distinct(np.array([[6, 1, 2, 3, 4], [17, 1, 2, 3, 4], [6, 1, 2, 3, 4]]))[1].tolist()
+    [0, 1, 0]
+    """
+    begin = (headers[:, 1] << 16 | headers[:, 2]) << 8 | headers[:, 0]
+    end = headers[:, 3] << 16 | headers[:, 4]
+    if len(headers) and (begin == begin[0]).all() and (end == end[0]).all():
+        return headers[:1], np.zeros(len(headers), dtype=np.int64)
+    _, source = np.unique(begin, return_inverse=True)
+    _, target = np.unique(end, return_inverse=True)
+    _, first, which = np.unique(source * (len(headers) + 1) + target, return_index=True, return_inverse=True)
+    order = np.argsort(first)
+    return headers[first[order]], np.argsort(order)[which]
+
+
+def visits_of(records: Records, packets: Packets) -> Visits:
+    """Returns the visits of all packets to pipes, as far as the rows have them: without tracing, `arrive` is missing, a visit begins with
+    the finish, and its arrival is unknown."""
+    arrives, finishes = records.pick(records.at(ARRIVE)), records.at(FINISH)
+    comes = np.zeros(len(packets), dtype=np.bool_)
+    comes[arrives["packet"]] = True
+    served = records.rows["packet"][finishes]
+    if int(np.count_nonzero(comes)) == len(arrives) and bool(comes[served].all()):
+        return _single_visits(records, packets, arrives, served, records.rows["moment"][finishes])
+    return _many_visits(records)
+
+
+def _single_visits(records: Records, packets: Packets, arrives: Rows, served: Ints, moments: Ints) -> Visits:
+    """Returns the visits if no packet came to a second instance: nothing has to be sorted by packet."""
+    order = _order(arrives["packet"])
+    finish, left = np.full(len(packets), -1, dtype=np.int64), np.full(len(packets), -1, dtype=np.int64)
+    finish[served] = moments
+    # A drop behind the service is none of the instance; the first way out is the `pass`, if there is one.
+    ends = (packets.outcome == DELIVERED) | ((packets.outcome >= DROPPED) & (finish < 0))
+    left[ends] = packets.ended[ends]
+    passes = records.at(PASS)
+    left[records.rows["packet"][passes]] = records.rows["moment"][passes]
+    packet = arrives["packet"][order].astype(np.int64)
+    pipe = arrives["pipe"][order].astype(np.int64) * 256 + arrives["instance"][order]
+    return Visits(packet, pipe, arrives["moment"][order].astype(np.int64), finish[packet], left[packet])
+
+
+def _many_visits(records: Records) -> Visits:
+    rows = records.at(ARRIVE, DROP_ACK)
+    packet = records.rows["packet"][rows]
+    order = np.argsort(packet, kind="stable")
+    rows, packet = rows[order], packet[order].astype(np.int64)
+    kind, moment = records.kind[rows], records.rows["moment"][rows]
+    begins = (kind == ARRIVE) | _unseen(kind, packet)
     first = np.flatnonzero(begins)
     visit = np.cumsum(begins) - 1
-    inside = (visit >= 0) & (packet[first[visit]] == packet) if len(first) else np.zeros(len(rows), dtype=np.bool_)
-    pipe = columns.pipe[rows[first]]
-    codel = np.flatnonzero(by_codel[first])
-    pipe[codel] = _servers(experiment, rows[first[codel]])
-    finish, left = (np.full(len(first), -1, dtype=np.int64) for _ in range(2))
-    served = np.flatnonzero(word == FINISH)
+    inside = (visit >= 0) & (packet[first[visit]] == packet) if len(first) else begins
+    finish, left, arrival = (np.full(len(first), -1, dtype=np.int64) for _ in range(3))
+    served = np.flatnonzero(inside & (kind == FINISH))
     finish[visit[served]] = moment[served]
-    # The first line after which a packet has left; assigned last to first, so that the first remains.
-    leaves = np.flatnonzero((inside & ((word == PASS) | (word == DELIVER))) | ((word == DROP) & (waits | by_codel)))
-    left[visit[leaves[::-1]]] = moment[leaves[::-1]]
-    serial = packet[first].astype(np.int64)
-    before = np.concatenate((np.zeros(1, dtype=np.bool_), serial[1:] == serial[:-1]))[:len(first)]
-    came = np.where(before, np.roll(left, 1), packets.made[serial])
-    arrival = np.where(word[first] == ARRIVE, moment[first], came)
-    return Visits(serial, pipe, arrival, finish, left)
+    # Assigned last to first, so that the first row after which a packet has left remains; a drop ends no visit that was left before.
+    leaves = np.flatnonzero(inside & (kind >= PASS))[::-1]
+    leaves = leaves[~((kind[leaves] >= DROP) & (finish[visit[leaves]] >= 0))]
+    left[visit[leaves]] = moment[leaves]
+    come = kind[first] == ARRIVE
+    arrival[come] = moment[first[come]]
+    return Visits(packet[first], records.instances(rows[first]), arrival, finish, left)
 
 
-def _servers(experiment: Recorded, rows: Ints) -> NDArray[np.int32]:
-    """Returns the pipes of the last finish before some rows."""
-    finishes = experiment.rows(FINISH)
-    at = np.searchsorted(finishes, rows) - 1
-    lonely = np.flatnonzero(at < 0)
-    if len(lonely):
-        raise experiment.refused(int(rows[lonely].min()), "a drop by CoDel before any finish")
-    pipes: NDArray[np.int32] = experiment.columns.pipe[finishes[at]]
-    return pipes
-
-
-def never_seen(packets: Packets, visits: Visits) -> Ints:
-    """Returns the packets that entered a pipe that no line names: held at the end, or deleted while they waited. Shape (n,)."""
-    last = np.full(len(packets), -1, dtype=np.int64)
-    last[visits.packet] = np.arange(len(visits))
-    waits = last < 0
-    waits[last >= 0] = visits.exit[last[last >= 0]] >= 0
-    deleted = packets.outcome == DROPPED + CAUSES.index("deleted")
-    found: Ints = np.flatnonzero(waits & ((packets.outcome == HELD) | deleted))
+def _unseen(kind: NDArray[np.uint8], packet: Ints) -> Flags:
+    """Returns which rows, in the order of packets, are finishes without an `arrive`."""
+    waits = np.zeros(len(kind), dtype=np.bool_)
+    waits[1:] = (packet[1:] == packet[:-1]) & (kind[:-1] == ARRIVE)
+    found: Flags = (kind == FINISH) & ~waits
     return found
-
-
-def nowhere(packets: Packets, visits: Visits) -> int:
-    """Returns how many packets entered a pipe that no line names."""
-    return len(never_seen(packets, visits))

@@ -10,7 +10,7 @@ from typing import TYPE_CHECKING, Any, BinaryIO, Callable, Iterable, Iterator, N
 from dnlab.analysis.metrics import PERCENTILES, columns_of, span_of
 from dnlab.analysis.names import columns_in, varied, with_names
 from dnlab.analysis.quantities import Percentile
-from dnlab.errors import InputError, ParseError
+from dnlab.errors import InputError, reading
 from dnlab.io import scenario
 from dnlab.io.files import Origin, check_beside, unpacked
 from dnlab.io.pieces import Piece, pieces
@@ -45,22 +45,16 @@ def cores() -> int:
 
 def bytes_of(name: str) -> bytes:
     """Returns the bytes of a file, or of standard input (`-`), decompressed if gzip. Raises `InputError` if they can't be read."""
-    try:
+    with reading(name):
         return unpacked(sys.stdin.buffer.read() if name == "-" else Path(name).read_bytes())
-    except OSError as fault:
-        raise InputError(f"{name}: {fault.strerror}") from None
-    except ParseError as refused:
-        raise InputError(f"{name}: {refused}") from None
 
 
 def plans_of(names: Sequence[str]) -> Optional[dict[str, Plan]]:
     """Returns the experiments of some scenarios, by name, or None if no scenario is named."""
     plans: dict[str, Plan] = {}
     for name in names:
-        try:
+        with reading(name):
             found = scenario.read(bytes_of(name))
-        except ParseError as refused:
-            raise InputError(f"{name}: {refused}") from None
         for plan in found.values():
             if plan.name in plans:
                 raise InputError(f"{name}: line {plan.line}: a second experiment {plan.name}")
@@ -68,18 +62,15 @@ def plans_of(names: Sequence[str]) -> Optional[dict[str, Plan]]:
     return plans if names else None
 
 
-def pieces_of(report: str, wanted: Sequence[str] = ()) -> Iterator[Piece]:
-    """Yields the experiments of a report's file, or of standard input. Errors have the file's name."""
+def pieces_of(report: str, wanted: Sequence[str] = (), plans: Optional[Mapping[str, Plan]] = None) -> Iterator[Piece]:
+    """Yields the experiments of a report's file, or of standard input; those of rows have the names of the plans. Errors have the
+    file's name."""
     source: Union[str, BinaryIO] = sys.stdin.buffer if report == "-" else report
     missing = set(wanted)
-    try:
-        for piece in pieces(source, wanted):
+    with reading(report):
+        for piece in pieces(source, wanted, None if plans is None else list(plans)):
             missing.discard(piece.name)
             yield piece
-    except OSError as fault:
-        raise InputError(f"{report}: {fault.strerror}") from None
-    except ParseError as refused:
-        raise InputError(f"{report}: {refused}") from None
     for name in wanted:
         if name in missing:
             raise InputError(f"{report}: it has no experiment {name}")
@@ -118,13 +109,13 @@ def map_experiments(given: Inputs, function: "Callable[[View], T]", plans: Optio
     # Imported here, because running and reading a scenario needs no processes.
     from dnlab.processes.process_pool import Progress
 
-    found: Iterable[Piece] = pieces_of(given.report, wanted)
+    found: Iterable[Piece] = pieces_of(given.report, wanted, plans)
     total = None
     if given.report != "-":
         found = list(found)
         total = len(found)
         if workers is None:
-            workers = cores() if sum(map(len, found)) >= _WORTH else 1
+            workers = cores() if sum(one.size() for one in found) >= _WORTH else 1
         workers = max(1, min(workers, total))
         if most is not None and total > most:
             raise TooMany(str(total), most)
@@ -174,7 +165,7 @@ def _made_anew(report: bytes, scenarios: Sequence[bytes], given_names: Mapping[s
     from dnlab.processes.subprocesses import TempDir
 
     room = TempDir()
-    files = [room.path / "report.txt", *(room.path / f"scenario{place}.txt" for place in range(len(scenarios)))]
+    files = [room.path / "report", *(room.path / f"scenario{place}.txt" for place in range(len(scenarios)))]
     for file, data in zip(files, [report, *scenarios]):
         file.write_bytes(data)
     return Report(files[0], files[1:], room, names=given_names)
@@ -183,8 +174,8 @@ def _made_anew(report: bytes, scenarios: Sequence[bytes], given_names: Mapping[s
 class Report(Mapping[str, "Experiment"]):
     """A mapping from names to experiments, which are read and checked on demand. One at a time stays in memory."""
 
-    def __init__(self, report: Union[str, Path], scenario: Names = (), keep: Any = None,
-                 origin: Optional[Origin] = None, names: Optional[Mapping[str, str]] = None) -> None:
+    def __init__(self, report: Union[str, Path], scenario: Names = (), keep: Any = None, origin: Optional[Origin] = None,
+                 names: Optional[Mapping[str, str]] = None, plans: Optional[dict[str, Plan]] = None) -> None:
         files = [scenario] if isinstance(scenario, (str, Path)) else scenario
         self.given = Inputs(str(report), tuple(str(name) for name in files))
         # Objects that must live as long as the report: the file of a run without a name.
@@ -193,18 +184,27 @@ class Report(Mapping[str, "Experiment"]):
         self.origin: Optional[Origin] = origin
         # Names for senders of injected packets, by source.
         self._names = dict(names or {})
-        self.plans: Optional[dict[str, Plan]] = with_names(plans_of(self.given.scenarios), self._names)
-        self._pieces: dict[str, Piece] = {piece.name: piece for piece in pieces_of(self.given.report)}
+        self.plans: Optional[dict[str, Plan]] = with_names(plans or plans_of(self.given.scenarios), self._names)
         self._last: "Optional[Experiment]" = None
+        # The rows of a run are opened for the first table, which loads NumPy.
+        if plans is None:
+            self._check()
+        if origin is None:
+            self.origin = check_beside(self.given.report, self.plans, self.given.scenario())
+        if not len(self):
+            warnings.warn(f"{self.given.report}: it is empty, and has no experiment: was the scenario empty, or all in"
+                          " comments?", stacklevel=3)
+
+    @cached_property
+    def _pieces(self) -> dict[str, Piece]:
+        return {piece.name: piece for piece in pieces_of(self.given.report, plans=self.plans)}
+
+    def _check(self) -> None:
+        """Raises `InputError` if the report and its scenario have different experiments."""
         for name in self._pieces:
             if self.plans is not None and name not in self.plans:
                 raise InputError(f"{self.given.scenario()}: it has no experiment {name}")
         lacking(self.given.report, self.given.scenario(), [name for name in self.plans or {} if name not in self._pieces])
-        if origin is None:
-            self.origin = check_beside(self.given.report, self.plans, self.given.scenario())
-        if not self._pieces:
-            warnings.warn(f"{self.given.report}: it is empty, and has no experiment: was the scenario empty, or all in"
-                          " comments?", stacklevel=3)
 
     def __reduce__(self) -> "tuple[Any, tuple[bytes, list[bytes], dict[str, str]]]":
         """Makes pickling to another process or machine include the bytes of its files."""
@@ -228,11 +228,14 @@ class Report(Mapping[str, "Experiment"]):
             self._last = Experiment(view, self._varied.get(name))
         return self._last
 
+    def _order(self) -> list[str]:
+        return list(self._pieces) if self.plans is None or "_pieces" in self.__dict__ else list(self.plans)
+
     def __iter__(self) -> Iterator[str]:
-        return iter(self._pieces)
+        return iter(self._order())
 
     def __len__(self) -> int:
-        return len(self._pieces)
+        return len(self._order())
 
     def __repr__(self) -> str:
         return f"Report({self.given.report!r}, {len(self)} experiments)"
@@ -267,7 +270,7 @@ class Report(Mapping[str, "Experiment"]):
 
 
 def read(report: Union[str, Path], scenario: Names = (), names: Optional[Mapping[str, str]] = None) -> Report:
-    """Opens a report, with its scenario or scenarios if you pass any.
+    """Opens a report, a text or rows (`dnlab alone --format npy`), with its scenario or scenarios if you pass any.
 
     names  names for senders of injected packets, by address or address:port: {"10.0.0.1:1000": "mine"}
 

@@ -7,16 +7,14 @@ import numpy as np
 import pandas as pd
 
 from dnlab.analysis.diagnostics import Refusal
-from dnlab.analysis.emissions import first_window
 from dnlab.analysis.metrics import PERCENTILES, columns_of, span_of
-from dnlab.analysis.packets import DROPPED, OUTCOMES, UNKNOWN
+from dnlab.analysis.packets import DROPPED, OUTCOMES, UNKNOWN, Packets
 from dnlab.analysis.quantities import Percentile, interval as interval_of
 from dnlab.analysis.tables import Tables, dropping_pipes, losses, windows_of
 from dnlab.analysis.view import Ended, Note, View
-from dnlab.io.digits import Ints
-from dnlab.io.lines import ACK, DROP, EXPIRE, KINDS, OK, REFUSED, WORDS, pipe_name
-from dnlab.io.report import Counters
-from dnlab.io.scenario_parts import DROP_CAUSES
+from dnlab.io.rows import (ACK, ARRIVE, DROP, DROP_ACK, EXPIRE, IDENTIFY, KINDS, LOAD_OF, MAKE_ACK,
+                           MAKE_COMMAND, PASS, PLAIN, REFUSED, RULE, WORD_OF, WORDS, Counters, instance_name)
+from dnlab.io.scenario_parts import DROP_CAUSES, first_window
 
 
 def whole(values: Any) -> Any:
@@ -35,108 +33,13 @@ def named(codes: Any, names: Sequence[str]) -> Any:
 def pipes_named(codes: Any) -> Any:
     """Returns the names of instances as in reports; -1 becomes <NA>."""
     values, places = np.unique(np.asarray(codes, dtype=np.int64), return_inverse=True)
-    names = [pipe_name(int(value)) for value in values if value >= 0]
+    names = [instance_name(int(value)) for value in values if value >= 0]
     return pd.Categorical.from_codes(places - int(len(names) < len(values)), categories=names)
 
 
-def packets(view: View) -> pd.DataFrame:
-    table, visits = view.packets, view.visits
-    last = np.full(len(table), -1, dtype=np.int64)
-    last[visits.packet] = visits.pipe
-    who = np.where(table.who < 0, len(table.names), table.who)
-    return pd.DataFrame({
-        "made": whole(table.made), "delivered": whole(np.where(table.outcome == 1, table.ended, -1)),
-        "delay": whole(table.delay), "bytes": whole(table.size), "sender": named(who, [*table.names, UNKNOWN]),
-        "queue": pipes_named(last), "outcome": named(table.outcome, OUTCOMES), "ended": whole(table.ended),
-        "kind": named(table.kind, KINDS), "flow": whole(table.flow), "number": whole(table.number),
-        "retransmission": table.retransmission}, index=pd.RangeIndex(len(table), name="packet"))
-
-
-def visits(view: View) -> pd.DataFrame:
-    table = view.visits
-    return pd.DataFrame({"packet": table.packet, "queue": pipes_named(table.pipe), "arrival": whole(table.arrival),
-                         "finish": whole(table.finish), "exit": whole(table.exit)})
-
-
-def windows(view: View) -> pd.DataFrame:
-    columns = view.experiment.columns
-    rows = np.flatnonzero((columns.word == ACK) | (columns.word == EXPIRE))
-    begun = [(moment, sends) for moment, sends in view.sends.values() if sends.word == "flow"]
-    event = np.concatenate((np.zeros(len(begun), dtype=np.int64), np.where(columns.word[rows] == ACK, 1, 2)))
-
-    def column(first: Sequence[Optional[int]], rest: Any) -> Ints:
-        return np.concatenate((np.array(first, dtype=np.int64), rest))
-
-    frame = pd.DataFrame({
-        "moment": column([moment for moment, _ in begun], columns.moment[rows]),
-        "flow": column([sends.number for _, sends in begun], columns.flow[rows]),
-        "event": named(event, ("begin", "ack", "expire")),
-        "cwnd": column([first_window(sends.smss) for _, sends in begun], columns.number[rows]),
-        "ssthresh": column([sends.ssthresh for _, sends in begun], columns.more[rows])})
-    return frame.sort_values("moment", kind="stable", ignore_index=True)
-
-
-def queues(view: View) -> pd.DataFrame:
-    parts = []
-    table = view.visits
-    for pipe, own in table.pipes():
-        came, finish = table.arrival[own], table.finish[own]
-        left = np.where(table.exit[own] >= 0, table.exit[own], view.packets.ended[table.packet[own]])
-        served = np.where(finish >= 0, finish, table.exit[own])
-        flies = finish >= 0
-        moments = np.concatenate((came, served[served >= 0], finish[flies], left[flies & (left >= 0)]))
-        counts = [len(came), int((served >= 0).sum()), int(flies.sum()), int((flies & (left >= 0)).sum())]
-        waiting = np.repeat(np.array([1, -1, 0, 0]), counts)
-        flying = np.repeat(np.array([0, 0, 1, -1]), counts)
-        known = bool((came >= 0).all())
-        order = np.argsort(moments, kind="stable")
-        moments = moments[order]
-        ends = np.flatnonzero(np.append(moments[1:] != moments[:-1], True))
-        ends = ends[moments[ends] >= 0]
-        waits = np.cumsum(waiting[order])[ends]
-        parts.append(pd.DataFrame({
-            "moment": moments[ends], "queue": pipe_name(pipe),
-            "waiting": whole(waits if known else np.full(len(ends), -1)), "in_flight": np.cumsum(flying[order])[ends]}))
-    names = ["moment", "queue", "waiting", "in_flight"]
-    frame = pd.concat(parts) if parts else pd.DataFrame(columns=names)
-    frame["queue"] = frame["queue"].astype("category")
-    return frame.sort_values(["moment", "queue"], kind="stable", ignore_index=True)
-
-
-def drops(view: View) -> pd.DataFrame:
-    columns = view.experiment.columns
-    rows = view.experiment.rows(DROP)
-    serial = columns.packet[rows].astype(np.int64)
-    table = view.packets
-    last = np.full(len(table), -1, dtype=np.int64)
-    last[view.visits.packet] = np.arange(len(view.visits))
-    who = np.where(table.who[serial] < 0, len(table.names), table.who[serial])
-    return pd.DataFrame({
-        "moment": columns.moment[rows], "packet": serial, "sender": named(who, [*table.names, UNKNOWN]),
-        "cause": named(table.outcome[serial].astype(np.int64) - DROPPED, DROP_CAUSES),
-        "queue": pipes_named(dropping_pipes(view, serial, last[serial])), "bytes": whole(table.size[serial])})
-
-
-def commands(view: View) -> pd.DataFrame:
-    columns = view.experiment.columns
-    rows = np.flatnonzero((columns.word == OK) | (columns.word == REFUSED))
-    refused = columns.word[rows] == REFUSED
-    plan = view.plan.commands[:len(rows)] if view.plan else None
-    return pd.DataFrame({
-        "moment": columns.moment[rows],
-        "text": [command.text for command in plan] if plan is not None else pd.array([None] * len(rows), "string"),
-        "line": whole([command.line for command in plan] if plan is not None else np.full(len(rows), -1)),
-        "answer": named(refused.astype(np.int64), ("ok", "refused")),
-        "code": whole(np.where(refused, columns.more[rows], -1))}, index=pd.RangeIndex(len(rows), name="command"))
-
-
-def records(view: View) -> pd.DataFrame:
-    columns = view.experiment.columns
-    return pd.DataFrame({
-        "word": named(columns.word, WORDS), "moment": whole(columns.moment), "packet": whole(columns.packet),
-        "queue": pipes_named(columns.pipe), "kind": named(columns.kind, KINDS), "flow": whole(columns.flow),
-        "number": whole(columns.number), "more": whole(columns.more)},
-        index=pd.RangeIndex(view.experiment.line + 1, view.experiment.line + 1 + len(columns), name="line"))
+def senders(table: Packets, packets: Any = slice(None)) -> Any:
+    """Returns the names of the senders of some packets."""
+    return named(table.who[packets] % (len(table.names) + 1), [*table.names, UNKNOWN])
 
 
 def of_rows(rows: Sequence[dict[str, Any]], names: Sequence[str]) -> pd.DataFrame:
@@ -147,7 +50,7 @@ def of_rows(rows: Sequence[dict[str, Any]], names: Sequence[str]) -> pd.DataFram
         known = [value for value in values if value is not None]
         if known and all(isinstance(value, int) for value in known):
             kind = "UInt64" if max(known) >= 2**63 else "Int64"
-            frame[name] = pd.array(values, dtype=kind)
+            frame[name] = pd.array([None if value is None else int(value) for value in values], dtype=kind)
         elif known and all(isinstance(value, str) for value in known):
             frame[name] = pd.array(values, dtype="string")
     return frame
@@ -213,32 +116,100 @@ class Experiment:
 
     def packets(self) -> pd.DataFrame:
         """Returns a row per packet: made, delivered, delay (ns), bytes, sender, queue (the last one known), outcome (`held`, `delivered`,
-        or the cause of its drop), ended (ns, also for drops), kind, flow and number of its load, retransmission (sent before)."""
-        return packets(self.view)
+        or the cause of its drop), ended (ns, also for drops), kind, flow and number of its load, retransmission (sent before).
+
+        A report that isn't traced has no made, delay and bytes (<NA>)."""
+        table, visits = self.view.packets, self.view.visits
+        last = np.full(len(table), -1, dtype=np.int64)
+        last[visits.packet] = visits.pipe
+        return pd.DataFrame({
+            "made": whole(table.made), "delivered": whole(np.where(table.outcome == 1, table.ended, -1)),
+            "delay": whole(table.delay), "bytes": whole(table.size), "sender": senders(table),
+            "queue": pipes_named(last), "outcome": named(table.outcome, OUTCOMES), "ended": whole(table.ended),
+            "kind": named(table.kind, KINDS), "flow": whole(table.flow), "number": whole(table.number),
+            "retransmission": table.retransmission}, index=pd.RangeIndex(len(table), name="packet"))
 
     def visits(self) -> pd.DataFrame:
-        """Returns a row per visit of a packet to an instance: packet, queue, arrival, finish and exit (ns)."""
-        return visits(self.view)
+        """Returns a row per visit of a packet to an instance: packet, queue, arrival, finish and exit (ns). Raises `InputError` for a
+        report that isn't traced."""
+        self.view.must_be_traced("it has no visits")
+        table = self.view.visits
+        return pd.DataFrame({"packet": table.packet, "queue": pipes_named(table.pipe), "arrival": whole(table.arrival),
+                             "finish": whole(table.finish), "exit": whole(table.exit)})
 
     def windows(self) -> pd.DataFrame:
         """Returns a row per `ack` and `expire` line and start of a flow: moment (ns), flow, event, cwnd and ssthresh (bytes)."""
-        return windows(self.view)
+        records = self.view.records
+        rows = records.at(ACK, EXPIRE)
+        begun = pd.DataFrame([(moment, sends.number, 0, first_window(sends.smss), sends.ssthresh) for moment, sends
+                              in self.view.sends.values() if sends.word == "flow"],
+                             columns=["moment", "flow", "event", "cwnd", "ssthresh"], dtype="int64")
+        columns = {name: records.take(column, rows) for name, column in
+                   (("moment", "moment"), ("flow", "source"), ("cwnd", "number"), ("ssthresh", "more"))}
+        frame = pd.concat([begun, pd.DataFrame({**columns, "event": np.where(records.kind[rows] == ACK, 1, 2)})])
+        frame["event"] = named(frame["event"], ("begin", "ack", "expire"))
+        return frame.sort_values("moment", kind="stable", ignore_index=True)
 
     def queues(self) -> pd.DataFrame:
-        """Returns a row per change of an instance: moment (ns), queue, waiting (or in service), in_flight (in the delay line)."""
-        return queues(self.view)
+        """Returns a row per change of an instance: moment (ns), queue, waiting (or in service), in_flight (in the delay line).
+        Raises `InputError` for a report that isn't traced."""
+        self.view.must_be_traced("it has no queues")
+        table = self.view.visits
+        flies = table.finish >= 0
+        served = np.where(flies, table.finish, table.exit)
+        left = np.where(table.exit >= 0, table.exit, self.view.packets.ended[table.packet])
+        changes = pd.concat([pd.DataFrame({"pipe": table.pipe[of], "moment": moments[of], "waiting": waits, "in_flight": flying})
+                             for of, moments, waits, flying in (
+                                 (table.arrival >= 0, table.arrival, 1, 0), (served >= 0, served, -1, 0),
+                                 (flies, table.finish, 0, 1), (flies & (left >= 0), left, 0, -1))])
+        frame = changes.groupby(["pipe", "moment"]).sum().groupby("pipe").cumsum().reset_index()
+        queue = pipes_named(frame.pop("pipe"))
+        frame.insert(1, "queue", queue.reorder_categories(sorted(queue.categories)))
+        frame["waiting"] = whole(frame["waiting"])
+        return frame.sort_values(["moment", "queue"], kind="stable", ignore_index=True)
 
     def drops(self) -> pd.DataFrame:
         """Returns a row per drop: moment (ns), packet, sender, cause, queue if known, bytes."""
-        return drops(self.view)
+        records = self.view.records
+        rows = records.at(DROP, DROP_ACK)
+        serial = records.take("packet", rows)
+        table = self.view.packets
+        return pd.DataFrame({
+            "moment": records.take("moment", rows), "packet": serial, "sender": senders(table, serial),
+            "cause": named(table.outcome[serial].astype(np.int64) - DROPPED, DROP_CAUSES),
+            "queue": pipes_named(dropping_pipes(self.view, serial)), "bytes": whole(table.size[serial])})
 
     def commands(self) -> pd.DataFrame:
         """Returns a row per command: moment (ns), text, line, answer (`ok`, `refused`), code."""
-        return commands(self.view)
+        records = self.view.records
+        rows = records.commands()
+        refused = records.kind[rows] == REFUSED
+        plan = self.view.plan.commands[:len(rows)] if self.view.plan else None
+        return pd.DataFrame({
+            "moment": records.take("moment", rows),
+            "text": [command.text for command in plan] if plan is not None else pd.array([None] * len(rows), "string"),
+            "line": whole([command.line for command in plan] if plan is not None else np.full(len(rows), -1)),
+            "answer": named(refused.astype(np.int64), ("ok", "refused")),
+            "code": whole(np.where(refused, records.take("code", rows), -1))}, index=pd.RangeIndex(len(rows), name="command"))
 
     def records(self) -> pd.DataFrame:
-        """Returns the report's lines: word, moment, packet, queue, kind, flow, number, more."""
-        return records(self.view)
+        """Returns the report's records, by its lines or rows: word, moment, packet, queue, kind, flow, number, more."""
+        own, kind = self.view.records, self.view.records.kind
+        every = np.arange(len(own))
+        is_loaded, has_window = LOAD_OF[kind] > PLAIN, (kind == ACK) | (kind == EXPIRE)
+        is_make, is_command = (kind >= MAKE_COMMAND) & (kind <= MAKE_ACK), kind <= REFUSED
+        is_drop, has_place = (kind >= DROP) & (kind <= DROP_ACK), ((kind >= ARRIVE) & (kind <= PASS)) | (kind == IDENTIFY)
+        has_packet = is_make | (LOAD_OF[kind] >= 0) | ((kind >= ARRIVE) & (kind <= PASS))
+        source, number, code = (own.take(column, every) for column in ("source", "number", "code"))
+        more = np.select([is_drop, kind == REFUSED, has_window, is_make],
+                         [code - 1, code, own.take("more", every), own.take("size", every)], -1)
+        return pd.DataFrame({
+            "word": named(WORD_OF[kind], WORDS[:-1]), "moment": whole(np.where(kind < RULE, own.take("moment", every), -1)),
+            "packet": whole(np.where(has_packet, own.take("packet", every), -1)),
+            "queue": pipes_named(np.where(has_place, own.instances(every), -1)), "kind": named(LOAD_OF[kind], KINDS),
+            "flow": whole(np.where(is_loaded | has_window, source, -1)),
+            "number": whole(np.select([is_command, is_loaded | has_window], [source, number], -1)), "more": whole(more)},
+            index=pd.RangeIndex(own.number_of(0), own.number_of(0) + len(own), name="row" if own.first is not None else "line"))
 
     def summary(self, percentiles: Sequence[Percentile] = PERCENTILES, begin: int = 0,
                 end: Optional[int] = None) -> pd.DataFrame:

@@ -10,14 +10,11 @@ from typing import Callable, NamedTuple, Optional, Sequence
 import numpy as np
 from numpy.typing import NDArray
 
-from dnlab.analysis.emissions import first_window
 from dnlab.analysis.packets import DELIVERED, DROPPED
-from dnlab.analysis.metrics import ALIASES
-from dnlab.analysis.metrics import Span
+from dnlab.analysis.metrics import ALIASES, Span
 from dnlab.analysis.view import Note, View
-from dnlab.io.digits import Ints
-from dnlab.io.scenario_parts import DROP_CAUSES
-from dnlab.io.lines import ACK, DATA, DROP, EXPIRE, Columns
+from dnlab.io.rows import ACK, DROP_DATA, EXPIRE, Ints, Records
+from dnlab.io.scenario_parts import DROP_CAUSES, first_window
 
 # With more lines, a panel is unreadable without colour. Windows are drawn for at most FLOWS flows.
 MOST = 8
@@ -176,12 +173,12 @@ def too_many(panel_name: str, count: int, kept: int = MOST) -> Note:
 def windows(view: View, limit: Optional[int] = FLOWS, effective: bool = True) -> Panel:
     """Returns cwnd and ssthresh of each flow, with losses and timeouts, and the effective window, which limits the bytes in flight, if the
     flow's `window` is below cwnd. With a limit, only the 16 flows with most changes are shown, and no ssthresh above the axis."""
-    columns = view.experiment.columns
     # Which flows the panel shows is decided by --of.
     shown = {name for name, _ in view.senders}
-    rows = np.flatnonzero((columns.word == ACK) | (columns.word == EXPIRE))
-    flows = [flow for flow in np.unique(columns.flow[rows]).tolist() if f"flow {flow}" in shown or not view.is_told]
-    found = {flow: flow_windows(view, flow, rows[columns.flow[rows] == flow]) for flow in flows}
+    rows = view.records.at(ACK, EXPIRE)
+    own = view.records.take("source", rows)
+    flows = [flow for flow in np.unique(own).tolist() if f"flow {flow}" in shown or not view.is_told]
+    found = {flow: flow_windows(view, flow, rows[own == flow]) for flow in flows}
     if not found:
         return Panel("Congestion window", "bytes", [], "no flow: no `ack` or `expire` line")
     cwnds = most(view, "window", [parts[0] for parts in found.values()], limit)
@@ -192,29 +189,29 @@ def windows(view: View, limit: Optional[int] = FLOWS, effective: bool = True) ->
     lines = [one for one in lines if len(one.moments) and not np.isnan(one.values).all()]
     sizes = {view.sends[f"flow {flow}"][1].smss for flow in found if f"flow {flow}" in view.sends}
     return Panel("Congestion window", "bytes", lines, top=top, segment=sizes.pop() if len(sizes) == 1 else 0,
-                 note=_INFLATION if any(inflates(columns, flow) for flow in flows) else "")
+                 note=_INFLATION if any(inflates(view.records, rows[own == flow]) for flow in flows) else "")
 
 
-def inflates(columns: Columns, flow: int) -> bool:
-    """Returns whether a flow enters fast recovery: a third duplicate acknowledgement lowers ssthresh."""
-    rows = np.flatnonzero((columns.flow == flow) & ((columns.word == ACK) | (columns.word == EXPIRE)))
-    falls = np.diff(columns.more[rows]) < 0
-    return bool((falls & (columns.word[rows][1:] == ACK)).any())
+def inflates(records: Records, rows: Ints) -> bool:
+    """Returns whether a flow enters fast recovery, by its windows: a third duplicate acknowledgement lowers ssthresh."""
+    falls = np.diff(records.take("more", rows)) < 0
+    return bool((falls & (records.kind[rows][1:] == ACK)).any())
 
 
 def flow_windows(view: View, flow: int, rows: Ints) -> list[Series]:
     """Returns cwnd, the effective window where it is smaller, ssthresh, losses and timeouts of a flow; losses are drawn on cwnd."""
-    columns = view.experiment.columns
-    moments, cwnd, ssthresh = columns.moment[rows], columns.number[rows], columns.more[rows]
+    records = view.records
+    moments, cwnd, ssthresh = (records.take(column, rows) for column in ("moment", "number", "more"))
     moment, sends = view.sends.get(f"flow {flow}", (0, None))
     if sends is not None:
         moments = np.concatenate((np.array([moment]), moments))
         cwnd = np.concatenate((np.array([first_window(sends.smss)]), cwnd))
         ssthresh = np.concatenate((np.array([sends.ssthresh]), ssthresh))
-    dropped = (columns.word == DROP) & (columns.kind == DATA) & (columns.flow == flow)
-    timeouts = columns.moment[rows[columns.word[rows] == EXPIRE]]
+    dropped = records.at(DROP_DATA)
+    dropped = dropped[records.rows["source"][dropped] == flow]
+    timeouts = records.take("moment", rows[records.kind[rows] == EXPIRE])
     marks, name = [], f"cwnd {flow}"
-    for label, at in (("loss", columns.moment[dropped]), ("timeout", timeouts)):
+    for label, at in (("loss", records.take("moment", dropped)), ("timeout", timeouts)):
         held = np.maximum(np.searchsorted(moments, at, side="right") - 1, 0)
         marks.append(Series(f"{label} {flow}", "marks", at, cwnd[held], name))
     lines = [Series(name, "steps", moments, cwnd)]
@@ -226,7 +223,7 @@ def flow_windows(view: View, flow: int, rows: Ints) -> list[Series]:
 def sojourns(view: View, limit: Optional[int] = MOST) -> Panel:
     """Returns the one-way delay of each delivered packet, at its delivery."""
     if not view.is_told:
-        return Panel("One-way delay", "ms", [], "The creation times of packets\nneed the scenario.")
+        return Panel("One-way delay", "ms", [], "The creation times of packets\nneed --trace.")
     table, delay = view.packets, view.packets.delay
     series = []
     for who, packets in view.senders:
@@ -254,7 +251,7 @@ def rates(view: View, limit: Optional[int] = MOST) -> Panel:
         served = own[visits.finish[own] >= 0]
         series.append(steps(view, f"through {label}", visits.finish[served], amounts[visits.packet[served]]))
     series = most(view, "delivered", series, limit)
-    title = "Delivered data, cumulative" if known else "Delivered packets, cumulative (bytes need the scenario)"
+    title = "Delivered data, cumulative" if known else "Delivered packets, cumulative (bytes need --trace)"
     return Panel(title, "bytes" if known else "packets", series, "" if series else "nothing was delivered",
                  quantity="Delivered data" if known else "Delivered")
 

@@ -82,12 +82,6 @@ def grouped(rows: Sequence[Row], by: Sequence[str], columns: Sequence[str]) -> l
     return found
 
 
-def tell_empty(tool: str, given: Inputs, total: int) -> None:
-    """Reports on standard error that the report is empty: its program failed, or its scenario was empty."""
-    if not total:
-        say(tool, f"{given.report}: it is empty, and has no experiment: was the scenario empty, or all in comments?")
-
-
 def tell(tool: str, notes: Iterable[tuple[str, Note]], total: int) -> None:
     """Prints the notes of experiments on standard error: each kind once, with the number of experiments that have it."""
     kinds: dict[str, list[tuple[str, Note]]] = {}

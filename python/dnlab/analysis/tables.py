@@ -13,8 +13,7 @@ from dnlab.analysis.packets import DELIVERED, DROPPED, HELD
 from dnlab.analysis.quantities import Percentile, jain, place
 from dnlab.analysis.view import View, flows_of
 from dnlab.errors import InputError
-from dnlab.io.digits import Ints
-from dnlab.io.lines import DATA, PLAIN, pipe_name
+from dnlab.io.rows import DATA, PLAIN, Ints, instance_name
 from dnlab.io.scenario_parts import DROP_CAUSES, HEADER
 
 # The maximum number of rows per experiment in a table of intervals.
@@ -62,30 +61,25 @@ def _sums(at: Ints, values: Ints, count: int) -> Ints:
 
 def losses(view: View) -> list[Row]:
     """Returns drops by sender, cause and pipe (None if no line has it): experiment, sender, cause, pipe, packets."""
-    table, visits = view.packets, view.visits
-    last = np.full(len(table), -1, dtype=np.int64)
-    last[visits.packet] = np.arange(len(visits))
+    table = view.packets
     rows: list[Row] = []
     for name, packets in view.senders:
         dropped = packets[table.outcome[packets] >= DROPPED]
-        visit = last[dropped]
-        pipe = dropping_pipes(view, dropped, visit)
+        pipe = dropping_pipes(view, dropped)
         for cause, code in enumerate(range(DROPPED, DROPPED + len(DROP_CAUSES))):
             own = pipe[table.outcome[dropped] == code]
             for value, count in zip(*np.unique(own, return_counts=True)):
                 rows.append({"experiment": view.name, "sender": name, "cause": DROP_CAUSES[cause],
-                             "queue": pipe_name(int(value)) if value >= 0 else None, "packets": int(count)})
+                             "queue": instance_name(int(value)) if value >= 0 else None, "packets": int(count)})
     return rows
 
 
-def dropping_pipes(view: View, packets: Ints, last: Ints) -> Ints:
+def dropping_pipes(view: View, packets: Ints) -> Ints:
     """Returns the pipes that dropped packets, which are those where they waited, by their last visits; -1 if no line has it."""
     visits = view.visits
-    if not len(visits):
-        return np.full(len(packets), -1, dtype=np.int64)
-    at = np.maximum(last, 0)
-    there = (last >= 0) & (visits.finish[at] < 0) & (visits.exit[at] == view.packets.ended[packets])
-    return np.where(there, visits.pipe[at].astype(np.int64), -1)
+    found = np.full(len(view.packets), -1, dtype=np.int64)
+    found[visits.packet] = np.where((visits.finish < 0) & (visits.exit == view.packets.ended[visits.packet]), visits.pipe, -1)
+    return found[packets]
 
 
 def spread(times: Optional[Ints], percentiles: Sequence[Percentile], with_mean: bool = False) -> Row:
@@ -163,6 +157,7 @@ class Tables:
 
     def __post_init__(self) -> None:
         self.span.check(self.view)
+        self._made: list[tuple[Ints, Row]] = []
 
     def rows(self) -> list[Row]:
         """Returns all rows of the experiment, that of the whole last."""
@@ -205,6 +200,14 @@ class Tables:
 
     def packets(self, of: str, packets: Ints) -> Row:
         """Returns a row of packets: bytes, last and rate are of deliveries, first is the creation of the first packet."""
+        # The packets of one direction are often those of its only sender.
+        known = next((row for own, row in self._made if len(own) == len(packets) and bool((own == packets).all())), None)
+        if known is None:
+            known = self._packets(packets)
+            self._made.append((packets, known))
+        return {"sender": of, **known}
+
+    def _packets(self, packets: Ints) -> Row:
         table = self.view.packets
         fate, ended = table.outcome[packets], table.ended[packets]
         delivered, made = self.arrived(packets), packets[self.span.has(table.made[packets])]
@@ -212,7 +215,7 @@ class Tables:
         lost = fate[(fate >= DROPPED) & self.span.has(ended)].astype(np.int64) - DROPPED
         causes = np.bincount(lost, minlength=len(DROP_CAUSES))
         held = ((fate == HELD) | self.span.is_over(ended)) & ~self.span.is_over(table.made[packets])
-        return {"sender": of, "packets": len(made), "delivered": len(delivered),
+        return {"packets": len(made), "delivered": len(delivered),
                 "in_flight": int(np.count_nonzero(held)), "bytes": size,
                 **self.over(table.made[made], table.ended[delivered], size),
                 **dict(zip(DROP_CAUSES, causes.tolist())),
@@ -249,7 +252,7 @@ class Tables:
     def pipe(self, pipe: int, visits: Ints) -> list[Row]:
         """Returns the rows of an instance: one, or one for each direction if it had packets of both."""
         back = self.view.is_back[self.view.visits.packet[visits]]
-        name = f"pipe {pipe_name(pipe)}"
+        name = f"pipe {instance_name(pipe)}"
         if back.all() or not back.any():
             return [self.visits(name, visits)]
         return [self.visits(name, visits[~back]), self.visits(f"{name} back", visits[back])]
@@ -257,8 +260,7 @@ class Tables:
     def visits(self, of: str, visits: Ints) -> Row:
         """Returns a row of an instance: packets that it served, of which `delivered` have left it.
 
-        Which pipe dropped a packet is known from its arrival there, with `trace 1`; otherwise only for CoDel's drops, from the
-        preceding finish."""
+        Which pipe dropped a packet is known from its arrival there, which only traced reports have."""
         table, packets = self.view.visits, self.view.packets
         finish, left, packet = table.finish[visits], table.exit[visits], table.packet[visits]
         is_served, now = finish >= 0, self.span
@@ -269,7 +271,7 @@ class Tables:
         times = np.where(arrival < 0, -1, table.exit[gone] - arrival)
         lost = packets.outcome[packet[~is_served & (left >= 0) & now.has(left)]].astype(np.int64) - DROPPED
         causes = np.bincount(lost[lost >= 0], minlength=len(DROP_CAUSES)).tolist()
-        known = DROP_CAUSES if self.view.is_traced else ("codel",)
+        known = DROP_CAUSES if self.view.is_told else ()
         known_span = self.over(table.arrival[served], table.finish[served], size)
         return {"sender": of, "packets": len(served), "delivered": len(gone), "in_flight": int(np.count_nonzero(held)),
                 "bytes": size, **known_span, "utilisation": self.utilisation(of, known_span, size),

@@ -6,24 +6,25 @@ import sys
 import textwrap
 from contextlib import contextmanager
 from fractions import Fraction
-from typing import TYPE_CHECKING, Any, Iterable, Iterator, NoReturn, TextIO, cast
+from typing import TYPE_CHECKING, Any, Callable, Iterable, Iterator, NoReturn, TextIO, TypeVar, cast
 
 from dnlab import __version__
 from dnlab.analysis.quantities import TIMES
-from dnlab.errors import InputError
+from dnlab.errors import InputError, ResourceError
 from dnlab.programs import is_repository
 
 if TYPE_CHECKING:
     from dnlab.analysis.metrics import Span
 
+T = TypeVar("T")
 # Characters that control a terminal: C0 and C1 except tab and line feed, and those that change the direction of text.
 _STEERING = re.compile("[\x00-\x08\x0b-\x1f\x7f-\x9f\u200e\u200f\u2028-\u202e\u2066-\u2069]")
 
 
-def shown(text: str) -> str:
+def escaped(text: str) -> str:
     r"""Returns a text in which each control character is replaced by Python's escape.
 
-    >>> shown("a\x1b[2Jb\n")
+    >>> escaped("a\x1b[2Jb\n")
     'a\\x1b[2Jb\n'
     """
     return _STEERING.sub(lambda found: found[0].encode("unicode_escape").decode(), text)
@@ -36,7 +37,7 @@ class _Shown:
         self.direct = direct
 
     def write(self, text: str) -> int:
-        self.direct.write(shown(text))
+        self.direct.write(escaped(text))
         return len(text)
 
     def __getattr__(self, name: str) -> Any:
@@ -72,7 +73,11 @@ def guarded() -> Iterator[None]:
 
 class Parser(argparse.ArgumentParser):
     """A parser whose help shows the names of the installed commands (or the paths in a checkout of the repository), and whose errors
-    name only required arguments."""
+    name only required arguments. `offered` has the words that a shell completes after an option without `choices`."""
+
+    def __init__(self, **how: Any) -> None:
+        super().__init__(**how)
+        self.offered: dict[str, Iterable[str]] = {}
 
     def format_help(self) -> str:
         return as_installed(super().format_help())
@@ -82,25 +87,52 @@ class Parser(argparse.ArgumentParser):
                       .replace("required: A, B, SCENARIO", "required: A, B"))
 
 
-def as_installed(text: str) -> str:
-    """Returns a help text with the names of the installed commands, unless the package is in its repository.
+class _Complete(argparse.Action):
+    """Prints what a shell can complete: the values of an option or, without one, all options, each with its help after a tab."""
 
-    >>> renamed("usage: tools/plot [-h]\\n./dnlab alone < s.txt | tools/plot - s.txt")
-    'usage: dnlab-plot [-h]\\ndnlab alone < s.txt | dnlab-plot - s.txt'
-    """
+    def __call__(self, parser: argparse.ArgumentParser, _: argparse.Namespace, value: Any, option: object = None) -> NoReturn:
+        assert isinstance(parser, Parser)
+        named = parser._option_string_actions.get(value)
+        if value:
+            found = [*parser.offered.get(value, named and named.choices or ())]
+        else:
+            found = [f"{name}\t{parser._get_formatter()._expand_help(one)}" for one in parser._actions
+                     for name in one.option_strings if name.startswith("--") and one.help != argparse.SUPPRESS]
+        print("\n".join(found))
+        parser.exit()
+
+
+def as_installed(text: str) -> str:
+    """Returns a help text with the names of the installed commands, unless the package is in its repository."""
     return text if is_repository() else renamed(text)
 
 
 def renamed(text: str) -> str:
-    """Returns a help text with the names of installed commands."""
+    """Returns a help text with the names of installed commands.
+
+    >>> renamed("usage: tools/plot [-h]\\n./dnlab alone < s.txt | tools/plot - s.txt")
+    'usage: dnlab-plot [-h]\\ndnlab alone < s.txt | dnlab-plot - s.txt'
+    """
     return re.sub(r"\btools/(?=[a-z]+\b)", "dnlab-", text).replace("./dnlab ", "dnlab ")
 
 
-def parser_of(name: str, about: str, more: str) -> argparse.ArgumentParser:
+def parser_of(name: str, about: str, more: str) -> Parser:
     """Returns a parser whose help ends with an example and the exit statuses."""
-    parser = Parser(prog=f"tools/{name}" if is_repository() else f"dnlab-{name}", description=about, epilog=more, formatter_class=argparse.RawDescriptionHelpFormatter)
+    parser = Parser(prog=f"tools/{name}" if is_repository() else f"dnlab-{name}", description=about, epilog=more,
+                    formatter_class=argparse.RawDescriptionHelpFormatter)
     parser.add_argument("--version", action="version", version=f"dnlab-{name} {__version__}")
+    # No abbreviation of another option begins so.
+    parser.add_argument("--_complete", action=_Complete, metavar="OPTION", help=argparse.SUPPRESS)
     return parser
+
+
+@contextmanager
+def writing(name: str) -> Iterator[None]:
+    """Raises `ResourceError` with the name of a file that can't be written within the block."""
+    try:
+        yield
+    except OSError as fault:
+        raise ResourceError(f"{name}: {fault.strerror}") from None
 
 
 def listed(words: Iterable[str], between: str = ", ", indent: int = 10) -> str:
@@ -137,7 +169,7 @@ def add_span(parser: argparse.ArgumentParser) -> None:
     parser.add_argument("--to", dest="end", type=moment_of, metavar="TIME", help="ignore what happened later [the end]")
 
 
-def span_in(parser: argparse.ArgumentParser, given: argparse.Namespace) -> "Span":
+def checked_span(parser: argparse.ArgumentParser, given: argparse.Namespace) -> "Span":
     """Returns the range of `--from` and `--to`; an empty one is a usage error."""
     # Imported here, because it needs numpy and not all commands do.
     from dnlab.analysis.metrics import span_of
@@ -148,12 +180,43 @@ def span_in(parser: argparse.ArgumentParser, given: argparse.Namespace) -> "Span
         parser.error(str(fault))
 
 
-def taken(parser: argparse.ArgumentParser, words: list[str]) -> argparse.Namespace:
+def parse_files(parser: argparse.ArgumentParser, words: list[str]) -> argparse.Namespace:
     """Parses the arguments; options can be anywhere, and only one file can be standard input."""
     given = parser.parse_intermixed_args(words)
     if [given.report, *given.scenarios].count("-") > 1:
         parser.error("standard input can't be both the report and the scenario")
     return given
+
+
+def checked(function: Callable[[str], T]) -> Callable[[str], T]:
+    """Returns a converter whose `ValueError` argparse reports with its own text."""
+    def read(text: str) -> T:
+        try:
+            return function(text)
+        except ValueError as fault:
+            raise argparse.ArgumentTypeError(str(fault)) from None
+    return read
+
+
+def words_in(text: str) -> list[str]:
+    """Returns words that are separated by commas."""
+    return text.split(",")
+
+
+def add_of(parser: argparse.ArgumentParser, help: str) -> None:
+    """Adds `--of`, patterns of rows."""
+    parser.add_argument("--of", action="append", default=[], metavar="PATTERN", help=help)
+
+
+def add_percentiles(parser: argparse.ArgumentParser) -> None:
+    """Adds `--percentiles`."""
+    parser.add_argument("--percentiles", type=percentiles_of, default=["50", "99"], metavar="P,P..",
+                        help="percentiles of the one-way delay [50,99]")
+
+
+def add_workers(parser: argparse.ArgumentParser, more: str = "all cores if the report is long") -> None:
+    """Adds `--workers`."""
+    parser.add_argument("--workers", type=count_of, metavar="N", help=f"number of processes [{more}]")
 
 
 def time_of(text: str) -> int:
@@ -202,12 +265,6 @@ _MOST_INCHES = 400
 LEGENDS = ("right", "inside", "none")
 
 
-def picture(text: str) -> str:
-    if text.rsplit(".", 1)[-1] not in ("svg", "png", "pdf"):
-        raise argparse.ArgumentTypeError(f"{text!r} must end in .svg, .png or .pdf")
-    return text
-
-
 def size_of(text: str) -> tuple[float, float]:
     """Returns a width and a height, in inches.
 
@@ -234,10 +291,16 @@ def label_of(text: str) -> tuple[str, str]:
     return name, label
 
 
-def font_of(text: str) -> str:
-    if not re.fullmatch(r"[^,]+(,[0-9]+(\.[0-9]+)?)?", text):
-        raise argparse.ArgumentTypeError(f"{text!r}: expected a family, points or both, as 'DejaVu Serif', 12 or serif,12")
-    return text
+def matching(pattern: str, what: str) -> Callable[[str], str]:
+    """Returns a converter that accepts what matches a pattern; for other texts it reports what was expected."""
+    def read(text: str) -> str:
+        if not re.fullmatch(pattern, text):
+            raise argparse.ArgumentTypeError(f"{text!r}{what}")
+        return text
+    return read
+
+
+picture = matching(r".*\.(svg|png|pdf)|svg|png|pdf", " must end in .svg, .png or .pdf")
 
 
 def add_design(parser: argparse.ArgumentParser, named: str) -> None:
@@ -246,7 +309,8 @@ def add_design(parser: argparse.ArgumentParser, named: str) -> None:
     parser.add_argument("--label", action="append", default=[], type=label_of, metavar="NAME=TEXT",
                         help=f"the text shown for {named} (repeatable)")
     parser.add_argument("--size", type=size_of, metavar="WxH", help="width and height with their unit, as 16x9cm or 6x4in")
-    parser.add_argument("--font", type=font_of, metavar="FONT",
+    font = matching(r"[^,]+(,[0-9]+(\.[0-9]+)?)?", ": expected a family, points or both, as 'DejaVu Serif', 12 or serif,12")
+    parser.add_argument("--font", type=font, metavar="FONT",
                         help="a family, points or both, as 'DejaVu Serif', 12 or serif,12 [9 points]")
     parser.add_argument("--style", metavar="NAME", help="a matplotlib style sheet, by name or file, as ggplot or grayscale")
     parser.add_argument("--legend", choices=LEGENDS, default="right",

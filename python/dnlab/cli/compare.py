@@ -4,15 +4,12 @@ import json
 from dataclasses import dataclass, field
 from typing import TYPE_CHECKING, Any, Iterator, NamedTuple, Optional, Sequence
 
-from dnlab.analysis.comparison import Pair, Tolerance, pairs, tolerance_of
-from dnlab.analysis.bounds import plain_amount
-from dnlab.analysis.metrics import is_named, metrics, percentiles_in
-from dnlab.analysis.metrics import Row
-from dnlab.analysis.metrics import stored_rows
+from dnlab.analysis.bounds import Pair, pairs, plain_amount, tolerance_of
+from dnlab.analysis.metrics import Row, is_named, metrics, percentiles_in, stored_rows
 from dnlab.analysis.reports import lacking, pieces_of, plans_of
 from dnlab.cli.summary import lines_of
-from dnlab.cli.arguments import count_of, parser_of, percentiles_of
-from dnlab.errors import DIFFERS, INPUT, InputError, status_of
+from dnlab.cli.arguments import add_of, add_percentiles, checked, count_of, parser_of
+from dnlab.errors import DIFFERS, InputError
 from dnlab.io.files import check_beside
 from dnlab.io.pieces import Piece
 from dnlab.io.scenario_parts import Plan
@@ -43,9 +40,8 @@ A and B may be compressed with gzip. A or B may also be the output of
 
 Experiments are matched by name; --experiment deep=codel compares A's experiment
 deep with B's experiment codel. A and B may be the same file. One scenario
-applies to both reports; of two, the first is A's and the second B's. Without
-it, sizes and the times at which packets were created are missing, unless the
-report was made with `trace 1`.
+applies to both reports; of two, the first is A's and the second B's. Sizes,
+delays and queues are in reports made with --trace, and in rows.
 
 Example:
   tools/compare before.txt after.txt scenario.txt --tolerance delay.p95=5%
@@ -59,12 +55,12 @@ machine (a package, disk space)."""
 class Part(NamedTuple):
     """The comparison of two experiments, without their columns.
 
-    `rows` is the number of selected rows in both, `parted` where they diverge (time in ns, and the first line of each), None if
+    `rows` is the number of selected rows in both, `divergence` where they diverge (time in ns, and the first line of each), None if
     they do not, and `said` the same as lines of text."""
     name: str
     rows: int
     pairs: list[Pair]
-    parted: Optional[dict[str, Any]]
+    divergence: Optional[dict[str, Any]]
     said: list[str]
 
 
@@ -81,7 +77,7 @@ class Run:
         self.stored = stored_rows(self.report)
         if self.stored is None:
             self.plans = plans_of(self.scenario)
-            self.pieces = {piece.name: piece for piece in pieces_of(self.report)}
+            self.pieces = {piece.name: piece for piece in pieces_of(self.report, plans=self.plans)}
             check_beside(self.report, self.plans, ", ".join(self.scenario))
 
     def names(self) -> list[str]:
@@ -108,13 +104,6 @@ class Run:
         return self.stored is None or not column or all(column in row for rows in self.stored.values() for row in rows)
 
 
-def tolerance(text: str) -> Tolerance:
-    try:
-        return tolerance_of(text)
-    except ValueError as fault:
-        raise argparse.ArgumentTypeError(str(fault)) from None
-
-
 def words(given: Sequence[str]) -> argparse.Namespace:
     parser = parser_of("compare", __doc__ or "", EXAMPLE)
     parser.add_argument("a", metavar="A", help="a report, or - for standard input")
@@ -122,12 +111,10 @@ def words(given: Sequence[str]) -> argparse.Namespace:
     parser.add_argument("scenarios", metavar="SCENARIO", nargs="*", help="the scenario of both, or A's and B's")
     parser.add_argument("--experiment", action="append", default=[], metavar="NAME[=OTHER]",
                         help="only this experiment of A, and OTHER of B (repeatable) [all]")
-    parser.add_argument("--of", action="append", default=[], metavar="PATTERN",
-                        help="only these rows, as 'flow 1', 'train *', 'pipe 1.0' (repeatable) [all]")
-    parser.add_argument("--tolerance", action="append", default=[], type=tolerance, metavar="METRIC=VALUE",
+    add_of(parser, "only these rows, as 'flow 1', 'train *', 'pipe 1.0' (repeatable) [all]")
+    parser.add_argument("--tolerance", action="append", default=[], type=checked(tolerance_of), metavar="METRIC=VALUE",
                         help="how much a metric may differ (repeatable)")
-    parser.add_argument("--percentiles", type=percentiles_of, default=["50", "99"], metavar="P,P..",
-                        help="percentiles of the one-way delay [50,99]")
+    add_percentiles(parser)
     parser.add_argument("--lines", type=count_of, default=3, metavar="N",
                         help="number of lines to show from each report where they diverge [3]")
     parser.add_argument("--all", action="store_true", help="also show metrics that are the same")
@@ -151,7 +138,7 @@ def names_of(wanted: Sequence[str], first: Run, second: Run) -> list[tuple[str, 
     return asked or [(name, name) for name in first.names() if name in second.names()]
 
 
-def only(first: Optional[Plan], second: Optional[Plan], lines: int) -> list[str]:
+def differing_commands(first: Optional[Plan], second: Optional[Plan], lines: int) -> list[str]:
     """Returns the settings and commands that only one of two plans has, as lines of text."""
     if first is None or second is None:
         return []
@@ -184,11 +171,11 @@ def parts_of(given: argparse.Namespace, first: Run, second: Run) -> Iterator[Par
             yield Part(shown, len(rows[0]) + len(rows[1]), made, None, [f"{shown}: only rows are compared, since a summary has no lines"])
             continue
         found = parting(one, two)
-        yield Part(shown, len(rows[0]) + len(rows[1]), made, parted(shown, found),
-                   told(shown, found, only(one.plan, two.plan, given.lines), given.lines))
+        yield Part(shown, len(rows[0]) + len(rows[1]), made, divergence_record(shown, found),
+                   divergence_lines(shown, found, differing_commands(one.plan, two.plan, given.lines), given.lines))
 
 
-def parted(name: str, found: "Optional[Parting]") -> Optional[dict[str, Any]]:
+def divergence_record(name: str, found: "Optional[Parting]") -> Optional[dict[str, Any]]:
     """Returns where two experiments diverge, for JSON."""
     if found is None:
         return None
@@ -196,7 +183,7 @@ def parted(name: str, found: "Optional[Parting]") -> Optional[dict[str, Any]]:
     return {"experiment": name, "moment": found.moment, **lines}
 
 
-def told(name: str, found: "Optional[Parting]", differs: Sequence[str], lines: int) -> list[str]:
+def divergence_lines(name: str, found: "Optional[Parting]", differs: Sequence[str], lines: int) -> list[str]:
     """Returns where two experiments diverge, and how their scenarios differ, as lines of text."""
     if found is None:
         return [f"{name}: the same, line by line"]
@@ -225,7 +212,7 @@ def as_json(parts: Sequence[Part], missing: Sequence[str]) -> str:
         "metrics": [{"experiment": pair.experiment, "sender": pair.of, "metric": pair.metric.word,
                      "a": plain_amount(pair.metric, pair.first), "b": plain_amount(pair.metric, pair.second), "ratio": pair.ratio(),
                      "judged": pair.judged} for part in parts for pair in part.pairs],
-        "partings": [part.parted for part in parts if part.parted],
+        "partings": [part.divergence for part in parts if part.divergence],
         "missing": list(missing)}, indent=1)
 
 
@@ -243,8 +230,8 @@ def missing_of(given: argparse.Namespace, first: Run, second: Run) -> list[str]:
             for name in other.names() if name not in one.names()]
 
 
-def untold(given: argparse.Namespace, runs: Sequence[Run], found: Sequence[Pair]) -> Optional[str]:
-    """Returns why a tolerance judges nothing, or None if each tolerance judges a metric."""
+def check_judged(given: argparse.Namespace, runs: Sequence[Run], found: Sequence[Pair]) -> None:
+    """Raises `InputError` for a tolerance that judges no metric."""
     for one in given.tolerance:
         own = [pair for pair in found if pair.metric in one.metrics]
         if not any(not pair.is_untold() for pair in own):
@@ -252,44 +239,36 @@ def untold(given: argparse.Namespace, runs: Sequence[Run], found: Sequence[Pair]
             without = [run.report for run in runs if not run.has(metric.column)]
             why = (f"{without[0]} was made without it (dnlab-summary --json --percentiles 50,95,99)" if without
                    else own[0].judged.partition(": ")[2] if own else metric.only())
-            return f"--tolerance {one.text}: no row has this metric, so nothing is judged: {why}"
-    return None
+            raise InputError(f"--tolerance {one.text}: no row has this metric, so nothing is judged: {why}")
 
 
-def tell_unjudged(given: argparse.Namespace, found: Sequence[Pair]) -> None:
+def print_unjudged(given: argparse.Namespace, found: Sequence[Pair]) -> None:
     """Reports on standard error the metrics of a pattern that no row has without the scenario."""
     told = {pair.metric for pair in found}
     names = dict.fromkeys(metric.word for one in given.tolerance if one.is_pattern for metric in one.metrics
                           if metric not in told and metric.kind in ("time", "rate", "size"))
     if names and not given.scenarios:
-        say("compare", f"without the scenario no row has {', '.join(names)}, so these are not judged")
+        say("compare", f"without --trace and the scenario no row has {', '.join(names)}, so these are not judged")
 
 
 def main(words_given: Sequence[str]) -> int:
     given = words(words_given)
     first, second = Run(given.a, given.scenarios[:1]), Run(given.b, given.scenarios[-1:])
-    try:
-        first.open()
-        second.open()
-        missing = missing_of(given, first, second)
-        parts = list(parts_of(given, first, second))
-    except InputError as faulty:
-        say("compare", faulty)
-        return status_of(faulty)
+    first.open()
+    second.open()
+    missing = missing_of(given, first, second)
+    parts = list(parts_of(given, first, second))
     found = [pair for part in parts for pair in part.pairs]
     if parts and not any(part.rows for part in parts):
-        say("compare", f"no row matches {' or '.join(given.of)}; dnlab-summary shows the rows")
-        return INPUT
-    said = untold(given, (first, second), found) if parts else None
-    if said is not None:
-        say("compare", said)
-        return INPUT
-    tell_unjudged(given, found)
+        raise InputError(f"no row matches {' or '.join(given.of)}; dnlab-summary shows the rows")
+    if parts:
+        check_judged(given, (first, second), found)
+    print_unjudged(given, found)
     if given.json:
         print(as_json(parts, missing))
     else:
         for part in parts:
             print("\n".join(part.said))
         print("\n".join(missing) + "\n" if missing else "", table(found, given.all, given.exact), sep="", end="")
-    has_parted = not given.tolerance and any(part.parted for part in parts)
+    has_parted = not given.tolerance and any(part.divergence for part in parts)
     return DIFFERS if missing or has_parted or any(pair.is_bad() for pair in found) else 0

@@ -15,10 +15,10 @@ from dnlab.analysis.metrics import WORDS, Span
 from dnlab.analysis.names import names_of, with_names
 from dnlab.analysis.quantities import UNITS, named
 from dnlab.analysis.reports import Inputs, Report, bytes_of, plans_of
-from dnlab.cli.arguments import add_names, add_span, add_texts, count_of, listed, parser_of, shown, span_in, taken
-from dnlab.errors import DIFFERS, MACHINE, InputError, ProgramError, ResourceError, status_of
+from dnlab.cli.arguments import (add_names, add_span, add_texts, add_workers, checked, checked_span, escaped, listed, parse_files,
+                                 parser_of)
+from dnlab.errors import DIFFERS, MACHINE, InputError, ProgramError, ResourceError, reading
 from dnlab.io.files import whole_file
-from dnlab.programs import say
 
 # XML 1.0 allows no other control characters, not even as references.
 _NOT_IN_XML = re.compile("[^\t\n\r -\ud7ff\ue000-\ufffd\U00010000-\U0010ffff]")
@@ -104,7 +104,7 @@ sender (`unsent`). Use --allow to permit these.
 
 Example:
   tools/expect --run scenario.txt --bounds bounds.txt
-  ./dnlab alone < scenario.txt | tools/expect - scenario.txt \\
+  ./dnlab alone --trace < scenario.txt | tools/expect - scenario.txt \\
     'train 9: delay.p95 < 50ms' 'all: drops.budget == 0'
 
 Exit status: 0 all hold, 1 one doesn't, 2 wrong usage, not a bound for this
@@ -116,52 +116,41 @@ def words(given: Sequence[str]) -> argparse.Namespace:
     parser = parser_of("expect", __doc__ or "", EXAMPLE)
     is_run = any(word == "--run" or word.startswith("--run=") for word in given)
     add_texts(parser, is_run)
-    parser.add_argument("--run", metavar="SCENARIO", type=a_file, help="run this scenario and judge its report, instead of REPORT")
+    parser.add_argument("--run", metavar="SCENARIO", help="run this scenario and judge its report, instead of REPORT")
     add_names(parser)
     parser.add_argument("--bounds", action="append", default=[], metavar="FILE",
                         help="a file of bounds (repeatable); bounds can also be arguments, each in quotes")
     parser.add_argument("--first", action="store_true", help="stop at the first bound that fails")
     parser.add_argument("--all", action="store_true", help="judge all bounds (the default)")
-    parser.add_argument("--allow", action="append", default=[], type=allowed, metavar="MARK,..",
+    parser.add_argument("--allow", action="append", default=[], type=checked(allowed_of), metavar="MARK,..",
                         help=f"don't fail for this: {', '.join(FAILING)}")
+    parser.offered["--allow"] = FAILING
     parser.add_argument("-q", "--quiet", action="store_true", help="print only what fails")
     parser.add_argument("--junit", metavar="FILE", help="also write the verdict as JUnit's XML")
     parser.add_argument("--github", action="store_true", help="also print annotations for GitHub Actions, with file and line")
-    parser.add_argument("--color", choices=("auto", "always", "never"), default="auto", help="colour the verdicts [on a terminal, unless NO_COLOR is set]")
+    parser.add_argument("--color", choices=("auto", "always", "never"), default="auto",
+                        help="colour the verdicts [on a terminal, unless NO_COLOR is set]")
     parser.add_argument("--json", action="store_true", help="print a JSON object, with values in ns, bytes, bit/s, or as fractions")
     add_span(parser)
-    parser.add_argument("--workers", type=count_of, metavar="N",
-                        help="number of processes [all cores if the report is long]")
+    add_workers(parser)
     said = [word for before, word in zip(["", *given], given) if is_bound(word, before)]
-    found = taken(parser, [word for before, word in zip(["", *given], given) if not is_bound(word, before)])
+    found = parse_files(parser, [word for before, word in zip(["", *given], given) if not is_bound(word, before)])
     found.said = said
     found.allow = [word for words in found.allow for word in words]
+    if found.run == "-":
+        parser.error("argument --run: a file is required, since it is read twice")
     if is_run and found.report is not None:
         parser.error("--run replaces REPORT and SCENARIO: leave them out")
     if found.json and found.github:
         parser.error("--json and --github can't be combined")
     if found.all and found.first:
         parser.error("--all and --first can't be combined")
-    span_in(parser, found)
+    checked_span(parser, found)
     if not said and not found.bounds:
         parser.error(f"no bound is given; a bound is {FORM}")
     if [found.report, *found.scenarios, *found.bounds].count("-") > 1:
         parser.error("standard input can be only one of the files")
     return found
-
-
-def a_file(text: str) -> str:
-    """Returns the name of a scenario file; standard input is refused, since the file is read twice."""
-    if text == "-":
-        raise argparse.ArgumentTypeError("a file is required, since it is read twice")
-    return text
-
-
-def allowed(text: str) -> list[str]:
-    try:
-        return allowed_of(text)
-    except ValueError as fault:
-        raise argparse.ArgumentTypeError(str(fault)) from None
 
 
 def is_bound(word: str, before: str = "") -> bool:
@@ -211,18 +200,17 @@ def show_line(line: str, holds: bool, is_coloured: bool) -> None:
         return
     verdict, space, rest = line.partition(" ")
     # The stream escapes control characters on a terminal, but not what is written to `direct`.
-    print(f"\x1b[{32 if holds else 31}m{verdict}\x1b[0m{space}{shown(rest)}", file=getattr(sys.stdout, "direct", sys.stdout))
+    print(f"\x1b[{32 if holds else 31}m{verdict}\x1b[0m{space}{escaped(rest)}", file=getattr(sys.stdout, "direct", sys.stdout))
 
 
-def ran(given: argparse.Namespace) -> Report:
+def run_scenario(given: argparse.Namespace) -> Report:
     """Runs the scenario of `--run` and returns its report, which becomes the report to judge and lives as long as the result."""
     # Imported here, because only --run needs a program.
     from dnlab.sweeps.runs import run
 
     try:
-        report = run(Path(given.run))
-    except OSError as fault:
-        raise InputError(f"{given.run}: {fault.strerror}") from None
+        with reading(given.run):
+            report = run(Path(given.run))
     except ProgramError as failed:
         raise (ResourceError if failed.status == MACHINE else InputError)(f"{given.run}: {failed.said}") from None
     given.report, given.scenarios = report.given.report, [given.run]
@@ -234,19 +222,15 @@ def main(words_given: Sequence[str]) -> int:
     # Imported here, so that --help works without numpy.
     from dnlab.analysis.summary import summed, tell
 
-    try:
-        bounds = bounds_of(given)
-        kept = ran(given) if given.run is not None else None
-        plans = with_names(plans_of(given.scenarios), names_of(given.names), given.experiment)
-        found = list(summed(Inputs(given.report, tuple(given.scenarios)), plans, given.experiment,
-                            percentiles_for(bounds), workers=given.workers, span=Span(given.begin, given.end)))
-        if not found:
-            raise InputError(f"{given.report}: it has no experiment, so no bound can hold")
-        judged = list(judge(bounds, [row for one in found for row in one.rows], given.first, given.allow))
-        del kept
-    except InputError as faulty:
-        say("expect", faulty)
-        return status_of(faulty)
+    bounds = bounds_of(given)
+    kept = run_scenario(given) if given.run is not None else None
+    plans = with_names(plans_of(given.scenarios), names_of(given.names), given.experiment)
+    found = list(summed(Inputs(given.report, tuple(given.scenarios)), plans, given.experiment,
+                        percentiles_for(bounds), workers=given.workers, span=Span(given.begin, given.end)))
+    if not found:
+        raise InputError(f"{given.report}: it has no experiment, so no bound can hold")
+    judged = list(judge(bounds, [row for one in found for row in one.rows], given.first, given.allow))
+    del kept
     notes = [(one.name, note) for one in found for note in one.notes]
     failed = failing(notes, given.allow)
     show(judged, failed, given)

@@ -9,11 +9,9 @@ from typing import Sequence
 
 from dnlab.cli.arguments import count_of, parser_of, time_of
 from dnlab.emulation import guest, kernel_cache, run
-from dnlab.emulation.experiment import check_network
-from dnlab.emulation.experiment import Experiment
-from dnlab.emulation.terminal import Terminal
+from dnlab.emulation.experiment import Experiment, check_network
 from dnlab.emulation.run import Options
-from dnlab.errors import InputError, ProgramError, ResourceError, status_of
+from dnlab.errors import InputError, ResourceError, reading
 from dnlab.processes import subprocesses
 from dnlab.processes.subprocesses import TempDir
 from dnlab.programs import say
@@ -82,11 +80,9 @@ def read_file(name: str) -> Experiment:
     # Imported here, so that --help works without yaml.
     from dnlab.emulation import hosts_file
 
-    try:
+    with reading(name):
         experiment = (hosts_file.experiment_of(sys.stdin.buffer.read(), "standard input", Path("."))
                       if name == "-" else hosts_file.read(Path(name)))
-    except OSError as fault:
-        raise InputError(f"{name}: {fault.strerror}") from None
     for warning in check_network(experiment):
         say("hosts", warning)
     return experiment
@@ -114,7 +110,7 @@ def open_shell(link: str) -> int:
     if not re.fullmatch(r"[ -~]+", link):
         raise InputError(f"--shell {link!r}: expected options of `pipe config`, as 'bw 10Mbit/s delay 20'")
     subprocesses.set_message(lambda: "the shell was ended")
-    with TempDir() as room, Terminal() as terminal:
+    with TempDir() as room, guest.Terminal() as terminal:
         experiment = run.experiment_of(link, os.environ.get("SHELL") or "/bin/sh", terminal.path)
         return run.run_shell(experiment, kernel_cache.kernel(), room.path, terminal)
 
@@ -140,7 +136,8 @@ def print_table(folder: Path) -> int:
     return 0
 
 
-def hosts(given: argparse.Namespace) -> int:
+def main(words_given: Sequence[str]) -> int:
+    given = words(words_given)
     if given.table is not None:
         return print_table(given.table)
     if given.shell is not None:
@@ -149,18 +146,3 @@ def hosts(given: argparse.Namespace) -> int:
         print(kernel_cache.kernel().folder)
         return 0
     return run_file(given)
-
-
-def main(words_given: Sequence[str]) -> int:
-    subprocesses.handle_signals("hosts")
-    given = words(words_given)
-    try:
-        return hosts(given)
-    except (InputError, OSError) as fault:
-        said, status = str(fault), status_of(fault)
-        if isinstance(fault, OSError) and fault.filename:
-            said = f"{fault.filename}: {fault.strerror}"
-    except ProgramError as failed:
-        said, status = failed.said, failed.status
-    say("hosts", said)
-    return status

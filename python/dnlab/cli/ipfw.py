@@ -6,8 +6,8 @@ import sys
 from pathlib import Path
 from typing import Sequence
 
-from dnlab.cli.arguments import moment_of, parser_of
-from dnlab.errors import InputError, ParseError, cause_of, status_of
+from dnlab.cli.arguments import matching, moment_of, parser_of
+from dnlab.errors import InputError, ParseError, reading
 from dnlab.io import tc_export
 from dnlab.io.files import whole_file
 from dnlab.io.ipfw_export import Machine, chosen, script_of, setting_of
@@ -38,16 +38,16 @@ pass. Each line of ipfw that differs here is reported on standard error:
 Example:
   tools/from-ipfw rules.sh --if em1=10.0.1.0/24 --out scenario.txt
   tools/from-ipfw rules.sh --me 203.0.113.10 --traffic senders.txt \\
-    --out scenario.txt && ./dnlab alone < scenario.txt > report.txt
+    --out scenario.txt && ./dnlab alone --trace < scenario.txt > report.txt
 
 Exit status: 0 written, 2 wrong usage, a script that isn't understood or lines
 that are refused, 3 something is missing on this machine."""
 
 
-def behind_of(text: str) -> tuple[str, str]:
+def prefix_of(text: str) -> tuple[str, str]:
     """Returns an interface and the addresses behind it.
 
-    >>> behind_of("em1=10.0.1.0/24"), behind_of("dc0=any")
+    >>> prefix_of("em1=10.0.1.0/24"), prefix_of("dc0=any")
     (('em1', '10.0.1.0/24'), ('dc0', 'any'))
     """
     name, _, prefix = text.partition("=")
@@ -70,7 +70,7 @@ def address_of(text: str) -> str:
 def from_ipfw_words(given: Sequence[str]) -> argparse.Namespace:
     parser = parser_of("from-ipfw", FROM_IPFW_ABOUT, FROM_IPFW_EXAMPLE)
     parser.add_argument("file", metavar="FILE", help="a script or a listing, or - for standard input")
-    parser.add_argument("--if", action="append", default=[], type=behind_of, metavar="NAME=PREFIX", dest="behind",
+    parser.add_argument("--if", action="append", default=[], type=prefix_of, metavar="NAME=PREFIX", dest="behind",
                         help="the addresses behind an interface, a prefix or `any` (repeatable)")
     parser.add_argument("--me", type=address_of, metavar="ADDRESS", help="the address that `me` stands for")
     parser.add_argument("--flatten", action="store_true", help="send to the pipes of queues and schedulers instead; weights are lost")
@@ -89,10 +89,8 @@ def from_ipfw_words(given: Sequence[str]) -> argparse.Namespace:
 
 def text_of(name: str) -> str:
     """Returns the text of a file or of standard input."""
-    try:
+    with reading(name):
         data = sys.stdin.buffer.read() if name == "-" else Path(name).read_bytes()
-    except OSError as fault:
-        raise InputError(f"{name}: {fault.strerror}") from None
     return data.decode("utf-8", "replace").replace("\r\n", "\n")
 
 
@@ -115,7 +113,7 @@ def traffic_of(name: str) -> list[tuple[int, str]]:
     return [(command.moment, command.text) for command in plans[0].commands if command.word != "end"]
 
 
-def tell(became: Sequence[Translation], is_all: bool) -> None:
+def print_translations(became: Sequence[Translation], is_all: bool) -> None:
     """Reports the translation of the lines on standard error."""
     for one in became:
         if is_all or one.kind in (APPROXIMATED, REFUSED):
@@ -123,7 +121,7 @@ def tell(became: Sequence[Translation], is_all: bool) -> None:
             print(f"{one.kind}: {one.text}" + (f"\n    {said}" if said else ""), file=sys.stderr)
 
 
-def made(given: argparse.Namespace, imported: Import) -> str:
+def scenario_text(given: argparse.Namespace, imported: Import) -> str:
     """Returns the scenario, after checking it as the program would."""
     traffic = traffic_of(given.traffic) if given.traffic else []
     last = max([imported.moment, *(moment for moment, _ in traffic)])
@@ -141,25 +139,17 @@ def made(given: argparse.Namespace, imported: Import) -> str:
 
 def from_ipfw(words_given: Sequence[str]) -> int:
     given = from_ipfw_words(words_given)
-    try:
-        imported = Import(dict(given.behind), given.me, given.flatten, given.drop_unmatchable, given.moment)
-        imported.take_all(lines_of(text_of(given.file), given.file))
-        if not imported.became:
-            raise InputError(f"{given.file}: it has no line of ipfw")
-        text = made(given, imported)
-        tell(imported.became, given.all)
-        counts = imported.tally()
-        say("from-ipfw", f"{given.file}: {len(imported.became)} lines: " + ", ".join(f"{count} {kind}" for kind, count in counts.items()))
-        if counts[REFUSED] and not given.lenient:
-            raise InputError("nothing was written, because lines were refused; --lenient writes the rest, with these as comments")
-        if given.out in (None, "-"):
-            sys.stdout.write(text)
-        else:
-            with whole_file(given.out) as file:
-                file.write(text.encode("ascii"))
-    except (InputError, OSError) as fault:
-        say("from-ipfw", cause_of(fault))
-        return status_of(fault)
+    imported = Import(dict(given.behind), given.me, given.flatten, given.drop_unmatchable, given.moment)
+    imported.take_all(lines_of(text_of(given.file), given.file))
+    if not imported.became:
+        raise InputError(f"{given.file}: it has no line of ipfw")
+    text = scenario_text(given, imported)
+    print_translations(imported.became, given.all)
+    counts = imported.tally()
+    say("from-ipfw", f"{given.file}: {len(imported.became)} lines: " + ", ".join(f"{count} {kind}" for kind, count in counts.items()))
+    if counts[REFUSED] and not given.lenient:
+        raise InputError("nothing was written, because lines were refused; --lenient writes the rest, with these as comments")
+    write(text, given.out)
     return 0
 
 
@@ -192,7 +182,7 @@ def to_ipfw_words(given: Sequence[str]) -> argparse.Namespace:
     parser = parser_of("to-ipfw", TO_IPFW_ABOUT, TO_IPFW_EXAMPLE)
     add_scenario(parser)
     which = parser.add_mutually_exclusive_group()
-    which.add_argument("--if", action="append", default=[], type=behind_of, metavar="NAME=PREFIX", dest="behind",
+    which.add_argument("--if", action="append", default=[], type=prefix_of, metavar="NAME=PREFIX", dest="behind",
                        help="the addresses behind an interface of the router (repeatable)")
     which.add_argument("--host", action="store_true", help="the packets start or end on this machine")
     parser.add_argument("--timed", action="store_true", help="also write later commands, with `sleep` between them")
@@ -202,10 +192,8 @@ def to_ipfw_words(given: Sequence[str]) -> argparse.Namespace:
 
 def plan_of(file: str, name: "str | None") -> Plan:
     """Returns the selected experiment of a scenario."""
-    try:
+    with reading(file):
         return chosen(read(text_of(file).encode("utf-8")), name, file)
-    except ParseError as fault:
-        raise InputError(f"{file}: {fault}") from None
 
 
 def write(text: str, out: "str | None") -> None:
@@ -219,17 +207,13 @@ def write(text: str, out: "str | None") -> None:
 
 def to_ipfw(words_given: Sequence[str]) -> int:
     given = to_ipfw_words(words_given)
+    plan = plan_of(given.scenario, given.experiment)
     try:
-        plan = plan_of(given.scenario, given.experiment)
-        try:
-            setting = setting_of(plan, given.timed)
-        except InputError as fault:
-            raise InputError(f"{given.scenario}: {fault}: --timed writes it after a `sleep`") from None
-        machine = Machine(None if given.host else dict(given.behind))
-        write(script_of(setting, machine, given.scenario, given.iperf), given.out)
-    except (InputError, OSError) as fault:
-        say("to-ipfw", cause_of(fault))
-        return status_of(fault)
+        setting = setting_of(plan, given.timed)
+    except InputError as fault:
+        raise InputError(f"{given.scenario}: {fault}: --timed writes it after a `sleep`") from None
+    machine = Machine(None if given.host else dict(given.behind))
+    write(script_of(setting, machine, given.scenario, given.iperf), given.out)
     return 0
 
 
@@ -269,10 +253,7 @@ def hosts_of(text: str) -> list[str]:
     return [str(ipaddress.IPv4Address(one)) for one in range(begin, end + 1)]
 
 
-def device_of(text: str) -> str:
-    if not re.fullmatch(r"[A-Za-z0-9_.:@-]{1,15}", text):
-        raise argparse.ArgumentTypeError(f"{text!r} is not an interface such as eth0")
-    return text
+device_of = matching(r"[A-Za-z0-9_.:@-]{1,15}", " is not an interface such as eth0")
 
 
 def to_tc_words(given: Sequence[str]) -> argparse.Namespace:
@@ -286,14 +267,10 @@ def to_tc_words(given: Sequence[str]) -> argparse.Namespace:
 
 def to_tc(words_given: Sequence[str]) -> int:
     given = to_tc_words(words_given)
+    plan = plan_of(given.scenario, given.experiment)
     try:
-        plan = plan_of(given.scenario, given.experiment)
-        try:
-            setting = setting_of(plan, False)
-        except InputError as fault:
-            raise InputError(f"{given.scenario}: {fault}: put the settings of one time into an experiment of their own") from None
-        write(tc_export.script_of(setting, Place(given.dev, given.enter, tuple(given.hosts)), given.scenario), given.out)
-    except (InputError, OSError) as fault:
-        say("to-tc", cause_of(fault))
-        return status_of(fault)
+        setting = setting_of(plan, False)
+    except InputError as fault:
+        raise InputError(f"{given.scenario}: {fault}: put the settings of one time into an experiment of their own") from None
+    write(tc_export.script_of(setting, Place(given.dev, given.enter, tuple(given.hosts)), given.scenario), given.out)
     return 0

@@ -1,23 +1,22 @@
-"""Draws a report over time: windows, queues, one-way delays, drops."""
+"""Draws a report over time: windows, queues, one-way delays, drops; as a picture, or as a page for a browser."""
 import argparse
 from functools import partial
-from typing import TYPE_CHECKING, NamedTuple, Optional, Sequence
+from typing import TYPE_CHECKING, Iterator, NamedTuple, Optional, Sequence
 
-from dnlab.analysis.metrics import is_named
+from dnlab.analysis.metrics import ALIASES, MORE, WHAT, Span, is_named
 from dnlab.analysis.names import names_of, with_names
-from dnlab.errors import Note
-from dnlab.analysis.metrics import ALIASES, MORE, WHAT
-from dnlab.analysis.metrics import Span
 from dnlab.analysis.reports import Inputs, TooMany, map_experiments, plans_of
-from dnlab.cli.arguments import add_design, design_of, picture
-from dnlab.cli.arguments import add_names, add_texts, count_of, moment_of, parser_of, taken, time_of
-from dnlab.errors import InputError, status_of
-from dnlab.programs import say
+from dnlab.cli.arguments import (
+    add_design, add_names, add_of, add_texts, add_workers, design_of, moment_of, parser_of, picture, parse_files, time_of, words_in,
+    writing)
+from dnlab.errors import InputError, Note
 
 if TYPE_CHECKING:
     from dnlab.analysis.series import Panel
     from dnlab.analysis.view import View
+    from dnlab.plot import page
 
+ABOUT = """Draws a report over time: windows, queues, one-way delays, drops."""
 EXAMPLE = """The picture has a column for each experiment and a panel for each of --what:
   window     congestion window and ssthresh of each flow, at most 16, in
              segments, with losses (x) and timeouts (triangle)
@@ -40,15 +39,15 @@ With --overlay all experiments share one column, and each line has the name of
 its experiment. --effective adds the effective window, the minimum of cwnd and
 the flow's `window`, as a wide band. --acks adds acknowledgements.
 
-Reports don't contain sizes and the times at which packets are created. They are
-computed from the scenario, and checked against every line; without it, the
-panels that need them say so.
+REPORT is a text made with --trace, or rows (`dnlab alone --format npy`). A text
+without --trace has no sizes and no creation times, and the panels that need
+them say so.
 Long series are thinned without a visible change: each of 1500 intervals of time
 keeps its first, minimum, maximum and last value.
 It needs matplotlib (Debian: apt-get install python3-matplotlib).
 
 Example:
-  ./dnlab alone < scenario.txt > report.txt
+  ./dnlab alone --trace < scenario.txt > report.txt
   tools/plot report.txt scenario.txt --what window,queue --out windows.svg
   tools/plot report.txt scenario.txt --only q50-s1,q200-s1 --overlay \\
     --of 'train 9' --what sojourn,cdf:sojourn --from 1s
@@ -69,7 +68,7 @@ class Drawn(NamedTuple):
     notes: list[Note]
 
 
-def chosen(text: str) -> list[str]:
+def panels_of(text: str) -> list[str]:
     names = text.split(",")
     for name in names:
         if name not in (*WHAT, *MORE, *ALIASES):
@@ -78,15 +77,15 @@ def chosen(text: str) -> list[str]:
 
 
 def words(given: Sequence[str]) -> argparse.Namespace:
-    parser = parser_of("plot", __doc__ or "", EXAMPLE)
+    parser = parser_of("plot", ABOUT, EXAMPLE)
     add_texts(parser)
     add_names(parser)
-    parser.add_argument("--only", action="append", default=[], type=lambda text: text.split(","),
+    parser.add_argument("--only", action="append", default=[], type=words_in,
                         metavar="NAME,..", help="only these experiments, separated by commas")
-    parser.add_argument("--what", type=chosen, default=list(WHAT),
+    parser.add_argument("--what", type=panels_of, default=list(WHAT),
                         help=f"panels, separated by commas [{','.join(WHAT)}]")
-    parser.add_argument("--of", action="append", default=[], metavar="PATTERN",
-                        help="only these senders, as 'flow 1' or 'train *' (not in queue, flight, drops; repeatable)")
+    parser.offered["--what"] = (*WHAT, *MORE)
+    add_of(parser, "only these senders, as 'flow 1' or 'train *' (not in queue, flight, drops; repeatable)")
     parser.add_argument("--from", type=moment_of, default=0, dest="begin", metavar="TIME",
                         help="start of the time axis, as 500ms [0s]")
     parser.add_argument("--to", type=moment_of, dest="end", metavar="TIME", help="end of the time axis [the last event]")
@@ -98,9 +97,8 @@ def words(given: Sequence[str]) -> argparse.Namespace:
     parser.add_argument("--out", type=picture, default="plot.svg", metavar="FILE",
                         help="the output file, .svg, .png or .pdf [plot.svg]")
     add_design(parser, "a sender, a pipe or an experiment, as 'train 9=the call'")
-    parser.add_argument("--workers", type=count_of, metavar="N",
-                        help="number of processes [all cores if the report is long]")
-    found = taken(parser, list(given))
+    add_workers(parser)
+    found = parse_files(parser, list(given))
     found.experiment += [name for names in found.only for name in names]
     if found.end is not None and found.end <= found.begin:
         parser.error("--to must be later than --from")
@@ -165,23 +163,95 @@ def main(words_given: Sequence[str]) -> int:
     from dnlab.plot import pictures
     from dnlab.plot.style import save
 
-    try:
-        design = design_of(given)
-        drawn = draw(given)
-        names, columns = [one.name for one in drawn], [one.panels for one in drawn]
-        notes = [(one.name, note) for one in drawn for note in one.notes]
-        if given.overlay:
-            panels, more = overlaid(names, columns)
-            names, columns = [", ".join(names) if len(names) < 4 else f"{len(names)} experiments"], [panels]
-            notes += more
-        figure = pictures.figure_of_panels(names, columns, Span(given.begin, given.end), design)
+    design = design_of(given)
+    drawn = draw(given)
+    names, columns = [one.name for one in drawn], [one.panels for one in drawn]
+    notes = [(one.name, note) for one in drawn for note in one.notes]
+    if given.overlay:
+        panels, more = overlaid(names, columns)
+        names, columns = [", ".join(names) if len(names) < 4 else f"{len(names)} experiments"], [panels]
+        notes += more
+    figure = pictures.figure_of_panels(names, columns, Span(given.begin, given.end), design)
+    with writing(given.out):
         save(figure, given.out)
-    except InputError as faulty:
-        say("plot", faulty)
-        return status_of(faulty)
-    except OSError as fault:
-        say("plot", f"{given.out}: {fault.strerror}")
-        return status_of(fault)
     tell("plot", notes, len(drawn))
     print(f"{given.out}: experiments: {len(drawn)}, panels per experiment: {len(given.what)}")
+    return 0
+
+
+VIEW_ABOUT = """Makes a page of HTML to look at runs of dnlab in a browser, packet by packet."""
+VIEW_EXAMPLE = """The page has, over one axis of time: the bytes of a flow (sent, sent again,
+acknowledged, dropped), windows, the packets at each pipe, delays, and the
+throughput next to the rates of the pipes. In the page you choose the
+experiment, a second one beside it, a flow, which changes every panel, windows
+in bytes or segments, and whether acknowledgements are drawn.
+Zoom by dragging, by its buttons or by the keys + - left right 0; a double click
+shows all. Pointing at a packet shows its journey; a click on it, or its serial
+number in the field `packet`, keeps the journey on the page. A series with too
+many points is thinned for the span in sight, and keeps the peaks of that span.
+page.html#NAME,FROM,TO (ns) opens at an experiment and a span,
+#NAME,FROM,TO,OTHER at two.
+
+plotly's script stands as dnlab-plotly.js beside the page, once for all pages of
+a folder; with --single it is within. Of a report made without --trace the page
+has what there is, and says what it lacks.
+It needs python3-plotly (Debian).
+
+Example:
+  ./dnlab alone --trace < scenario.txt > report.txt
+  tools/view report.txt scenario.txt --out page.html && xdg-open page.html
+  tools/view report.txt scenario.txt --experiment codel --single
+
+Exit status: 0 written, 2 wrong usage or a faulty input, 3 a file that can't be
+written, or a package that is missing."""
+# A page holds all its experiments; with more of them a browser takes long to open it.
+_MOST_EXPERIMENTS = 256
+
+
+def view_words(given: Sequence[str]) -> argparse.Namespace:
+    parser = parser_of("view", VIEW_ABOUT, VIEW_EXAMPLE)
+    add_texts(parser)
+    parser.add_argument("--out", default="view.html", metavar="FILE", help="what is written [view.html]")
+    parser.add_argument("--single", action="store_true", help="with plotly's script (8 MB) within: one file to pass on")
+    add_workers(parser)
+    return parse_files(parser, list(given))
+
+
+def page_of_one(view: "View") -> "tuple[page.Drawn, list[Note]]":
+    """Returns what the page shows of an experiment, and its notes. Runs in another process."""
+    from dnlab.plot.page import drawn
+
+    return drawn(view), view.notes + view.more_notes
+
+
+def view(words_given: Sequence[str]) -> int:
+    given = view_words(words_given)
+    # Imported here, because the help must work without plotly and numpy.
+    from plotly.offline import get_plotlyjs
+
+    from dnlab.analysis.summary import tell, whole
+    from dnlab.plot import page
+
+    notes: list[tuple[str, Note]] = []
+    names: list[str] = []
+
+    def experiments() -> "Iterator[page.Drawn]":
+        plans = plans_of(given.scenarios)
+        texts = Inputs(given.report, tuple(given.scenarios))
+        made = map_experiments(texts, page_of_one, plans, given.experiment, given.workers, "view", _MOST_EXPERIMENTS)
+        for found, own in whole(texts, plans, given.experiment, made, lambda one: str(one[0].head["name"])):
+            names.append(found.head["name"])
+            notes.extend((names[-1], note) for note in own)
+            yield found
+        if not names:
+            raise InputError(f"{given.report}: it has no experiment, so there is nothing to draw")
+
+    title = "standard input" if given.report == "-" else given.report
+    try:
+        with writing(given.out):
+            written = page.write(given.out, f"dnlab: {title}", experiments(), get_plotlyjs(), given.single)
+    except TooMany as many:
+        raise InputError(f"{given.report}: {many}: name some by --experiment") from None
+    tell("view", notes, len(names))
+    print(f"{', '.join(written)}: experiments: {len(names)}")
     return 0

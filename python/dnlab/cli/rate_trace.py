@@ -8,13 +8,13 @@ from typing import Iterable, Iterator, NamedTuple, Optional, Sequence
 
 from dnlab.cli.arguments import count_of, moment_of, parser_of, time_of
 from dnlab.cli.ipfw import plan_of, write
-from dnlab.errors import InputError, cause_of, status_of
+from dnlab.errors import InputError, reading
 from dnlab.io.scenario import Judged
-from dnlab.io.scenario_parts import BIT_UNITS, MOST_BYTES, SCALES, Plan, rate_of
+from dnlab.io.scenario_parts import BIT_UNITS, MOST_BYTES, SCALES, Plan, rate_of, rate_text
 from dnlab.programs import say
 
 # A pipe has no outages: `bw 0` is unlimited, and the packet in service keeps its finish time whatever rate follows. An outage that
-# holds packets is therefore imitated with rates at which a packet of a known size finishes when the outage ends (`held`).
+# holds packets is therefore imitated with rates at which a packet of a known size finishes when the outage ends (`rates_of_outage`).
 # This many bytes can leave at each time of a Mahimahi trace.
 OPPORTUNITY = 1504
 _MS, _SECOND = 10**6, 10**9
@@ -46,9 +46,8 @@ class Trace(NamedTuple):
 def of_file(path: str, every: int) -> Trace:
     """Returns a trace: integers are Mahimahi's, counted over `every` ns; else it is a table. Raises `InputError` with the line."""
     try:
-        text = Path(path).read_bytes().decode("ascii")
-    except OSError as fault:
-        raise InputError(f"{path}: {fault.strerror}") from None
+        with reading(path):
+            text = Path(path).read_bytes().decode("ascii")
     except UnicodeDecodeError:
         raise InputError(f"{path}: it is not a trace: expected Mahimahi's numbers, or a table of times and rates") from None
     lines = text.splitlines()
@@ -123,17 +122,6 @@ def _rate(word: str) -> int:
     return rate
 
 
-def lowered(trace: Trace, lowest: int) -> Trace:
-    """Returns the trace with rates below the lowest as outages."""
-    return trace._replace(rates=[one if one.rate >= lowest else one._replace(rate=0) for one in trace.rates])
-
-
-def slow(trace: Trace, size: int) -> list[Rate]:
-    """Returns the rates, except outages, at which a packet of this size takes longer than the rate lasts."""
-    ends = [one.moment for one in trace.rates[1:]] + [trace.end]
-    return [one for one, end in zip(trace.rates, ends) if one.rate and end > one.moment and 8 * _SECOND * size > one.rate * (end - one.moment)]
-
-
 class Outage(NamedTuple):
     """A time range in ns without service, and the rate after it, bit/s (None if the trace ends with it)."""
     begin: int
@@ -151,7 +139,7 @@ def outages(trace: Trace) -> list[Outage]:
     return found
 
 
-def held(outage: Outage, size: int, step: int) -> Iterator[Rate]:
+def rates_of_outage(outage: Outage, size: int, step: int) -> Iterator[Rate]:
     """Yields rates for an outage. A packet of `size` bytes whose service starts within it finishes as if its service had started at the end
     of the outage, at most `step` ns later. A shorter one finishes earlier, in proportion to its size."""
     bits = 8 * size
@@ -161,7 +149,7 @@ def held(outage: Outage, size: int, step: int) -> Iterator[Rate]:
         yield Rate(moment, max(1, -(-bits * _SECOND // (finish - moment))))
 
 
-def changes(trace: Trace, how: str, size: int, step: int) -> Iterator[tuple[int, int, bool]]:
+def config_changes(trace: Trace, how: str, size: int, step: int) -> Iterator[tuple[int, int, bool]]:
     """Yields the times at which a pipe is configured, each with its rate in bit/s and whether all arriving packets are lost from then on.
     `how` is the effect of an outage: `hold` or `drop`."""
     gone = {one.begin: one for one in outages(trace)}
@@ -170,7 +158,7 @@ def changes(trace: Trace, how: str, size: int, step: int) -> Iterator[tuple[int,
         if one.rate == 0:
             outage = gone.get(one.moment)
             if outage is not None and how == "hold":
-                yield from ((each.moment, each.rate, False) for each in held(outage, size, step))
+                yield from ((each.moment, each.rate, False) for each in rates_of_outage(outage, size, step))
                 rate = -1
             elif outage is not None:
                 # Queued packets leave at the previous rate; a link that starts with an outage has none.
@@ -179,16 +167,6 @@ def changes(trace: Trace, how: str, size: int, step: int) -> Iterator[tuple[int,
         elif one.rate != rate or is_lost:
             rate, is_lost = one.rate, False
             yield one.moment, rate, False
-
-
-def word_of(rate: int) -> str:
-    """Returns a rate in scenario syntax.
-
-    >>> word_of(12000000), word_of(1234)
-    ('12Mbit/s', '1234bit/s')
-    """
-    scale = next((one for one in "GMK" if rate and rate % SCALES[one] == 0), "")
-    return f"{rate // SCALES[scale]}{scale}bit/s"
 
 
 def options_of(words: str) -> str:
@@ -206,17 +184,11 @@ def lines_of(found: Iterable[tuple[int, int, bool]], pipe: int, options: str, be
     made, size = [], 0
     for moment, rate, is_lost in found:
         rest = f"plr 1 {lossless}" if is_lost else options
-        made.append((begin + moment, f"pipe {pipe} config bw {word_of(rate)} {rest}".rstrip()))
+        made.append((begin + moment, f"pipe {pipe} config bw {rate_text(rate)} {rest}".rstrip()))
         size += len(made[-1][1]) + 20
         if size > MOST_BYTES:
             raise InputError(f"the commands would have more than {MOST_BYTES} bytes: choose a longer --every or --step, or a part of the trace")
     return made
-
-
-def could(trace: Trace) -> int:
-    """Returns how many bits the link can carry over the trace."""
-    ends = [one.moment for one in trace.rates[1:]] + [trace.end]
-    return sum(one.rate * (end - one.moment) for one, end in zip(trace.rates, ends)) // _SECOND
 
 
 EXAMPLE = """FILE has Mahimahi's milliseconds, at each of which a packet of 1504 bytes may
@@ -240,7 +212,7 @@ then.
 Example:
   tools/rate-trace verizon.trace --config 'delay 20 queue 100' --outage drop
   tools/rate-trace lte.csv --scenario link.txt --outage hold --out changing.txt
-  ./dnlab alone < changing.txt > report.txt
+  ./dnlab alone --trace < changing.txt > report.txt
 
 Exit status: 0 written, 2 wrong usage or a faulty input, 3 something is missing
 on this machine."""
@@ -280,7 +252,7 @@ def trace_of(given: argparse.Namespace) -> Trace:
     trace = of_file(given.file, given.every)
     if given.repeat is not None:
         trace = trace.repeated(given.repeat)
-    trace = lowered(trace, given.lowest)
+    trace = trace._replace(rates=[one if one.rate >= given.lowest else one._replace(rate=0) for one in trace.rates])
     gone = outages(trace)
     if gone and given.outage == "refuse":
         raise InputError(f"{given.file}: {len(gone)} outages, the first from {gone[0].begin} to {gone[0].end} ns: choose --outage hold or drop"
@@ -288,7 +260,7 @@ def trace_of(given: argparse.Namespace) -> Trace:
     return trace
 
 
-def merged(plan: Plan, made: Sequence[tuple[int, str]], pipe: int) -> str:
+def with_commands(plan: Plan, made: Sequence[tuple[int, str]], pipe: int) -> str:
     """Returns the experiment with the new commands added, each after the experiment's own commands of the same time. Commands after the
     experiment's end are left out."""
     own = [(command.moment, command.text) for command in plan.commands if command.word != "end"]
@@ -309,14 +281,14 @@ def own_options(plan: Plan, pipe: int, file: str) -> str:
     return options_of(own[0].text.split(" config", 1)[1])
 
 
-def made_of(given: argparse.Namespace) -> str:
+def output_text(given: argparse.Namespace) -> str:
     """Returns the text to write."""
     trace = trace_of(given)
     plan = plan_of(given.scenario, given.experiment) if given.scenario else None
     options = own_options(plan, given.pipe, given.scenario) if plan else options_of(given.config)
-    made = lines_of(changes(trace, given.outage, given.size, given.step), given.pipe, options, given.begin)
+    made = lines_of(config_changes(trace, given.outage, given.size, given.step), given.pipe, options, given.begin)
     if plan is not None:
-        text = merged(plan, made, given.pipe)
+        text = with_commands(plan, made, given.pipe)
         judged = text
     else:
         text = "".join(f"@{moment} {words}\n" for moment, words in made)
@@ -324,27 +296,25 @@ def made_of(given: argparse.Namespace) -> str:
     fault = Judged(judged.encode("ascii", "replace")).fault
     if fault:
         raise InputError(f"the output would not be a valid scenario: {fault[1]}: {judged.splitlines()[fault[0] - 1][:80]}")
-    tell(given, trace, len(made))
+    print_summary(given, trace, len(made))
     return text
 
 
-def tell(given: argparse.Namespace, trace: Trace, count: int) -> None:
+def print_summary(given: argparse.Namespace, trace: Trace, count: int) -> None:
     """Prints a summary of the trace on standard error."""
     gone = outages(trace)
+    lasting = [(one, end - one.moment) for one, end in zip(trace.rates, [*(one.moment for one in trace.rates[1:]), trace.end])]
+    capacity = sum(one.rate * time for one, time in lasting) // _SECOND
     lost = f", {len(gone)} outages of {sum(one.end - one.begin for one in gone) / 10**9:g} s in all ({given.outage})" if gone else ""
-    say("rate-trace", f"{count} commands over {trace.end / 10**9:g} s: the link can carry {could(trace) / 8 / 10**6:.6g} MB{lost}")
-    low = slow(trace, given.size)
+    say("rate-trace", f"{count} commands over {trace.end / 10**9:g} s: the link can carry {capacity / 8 / 10**6:.6g} MB{lost}")
+    low = [one for one, time in lasting if one.rate and time > 0 and 8 * _SECOND * given.size > one.rate * time]
     if low:
         say("rate-trace", f"{len(low)} rates are so low that a packet of {given.size} bytes takes longer than the rate lasts, the first"
-              f" {word_of(low[0].rate)} at {low[0].moment} ns: it keeps its finish time, and the link is busy until then; --lowest makes"
+              f" {rate_text(low[0].rate)} at {low[0].moment} ns: it keeps its finish time, and the link is busy until then; --lowest makes"
               " such rates outages")
 
 
 def main(words_given: Sequence[str]) -> int:
     given = words(words_given)
-    try:
-        write(made_of(given), given.out)
-    except (InputError, OSError) as fault:
-        say("rate-trace", cause_of(fault))
-        return status_of(fault)
+    write(output_text(given), given.out)
     return 0

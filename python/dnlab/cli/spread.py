@@ -5,24 +5,19 @@ import shutil
 import sys
 import tempfile
 from pathlib import Path
-from typing import Iterator, Mapping, Optional, Sequence
+from typing import IO, Iterator, Mapping, Optional, Sequence
 
 from dnlab.cli.arguments import parser_of
 from dnlab.errors import ParseError, ProgramError, cause_of
-from dnlab.io.files import Origin, origin_of, write_beside
-from dnlab.io.files import with_name
-from dnlab.io.files import unpacked
+from dnlab.io.files import origin_of, unpacked, whole_file, with_name, write_beside
 from dnlab.io.scenario import Judged, read
 from dnlab.io.scenario_parts import MOST_BYTES, MOST_EXPERIMENTS, Plan
-from dnlab.io.splitting import Fault, Part, experiments_in, heading_fault, lines_in, repeated, shares, texts_of
+from dnlab.io.scenario_text import Fault, Part, experiments_in, heading_fault, lines_in, repeated, shares, texts_of
 from dnlab.processes import subprocesses
-from dnlab.processes.process_pool import ProcessPool
-from dnlab.processes.process_pool import Progress
+from dnlab.processes.process_pool import ProcessPool, Progress
 from dnlab.processes.subprocesses import TempDir
 from dnlab.programs import program as program_of
-from dnlab.sweeps.engines import failure, join_reports, run_parts
-from dnlab.sweeps.engines import Job, RunFailedError, RunOptions
-
+from dnlab.sweeps.engines import Job, RunFailedError, RunOptions, failure, run_parts
 
 EXAMPLE = """The scenarios are split at their experiments into N parts with about the same
 number of commands. `dnlab alone` runs each part, and each report is checked
@@ -64,6 +59,8 @@ def parser_of_words() -> argparse.ArgumentParser:
     parser.add_argument("--program", metavar="PATH", help="path of dnlab on the other machines [as here]")
     parser.add_argument("--out", metavar="REPORT", help="the report's file [standard output]")
     parser.add_argument("--work", metavar="FOLDER", help="folder for the parts [REPORT.parts, or a temporary one]")
+    parser.add_argument("--trace", action="store_true", help="trace all packets, which delays and queues need")
+    parser.add_argument("--format", choices=("text", "npy"), default="text", help="write lines (text), or rows for NumPy (npy, traced) [text]")
     parser.add_argument("--resume", action="store_true", help="reuse the finished parts in the folder")
     return parser
 
@@ -87,15 +84,16 @@ def words(given: Sequence[str]) -> argparse.Namespace:
         parser.error(f"--out {args.out}: not a regular file")
     if args.out is not None and not os.path.isdir(os.path.dirname(args.out) or "."):
         parser.error(f"--out {args.out}: its folder does not exist")
-    fault = how_of(args).fault()
+    fault = options_of(args).fault()
     if fault is not None:
         parser.error(fault)
     return args
 
 
-def how_of(args: argparse.Namespace) -> RunOptions:
+def options_of(args: argparse.Namespace) -> RunOptions:
     """Returns the options of the run."""
-    return RunOptions(args.parts, args.jobs, args.ssh, args.slurm, args.program, args.work, args.resume)
+    form = ("--format", "npy") if args.format == "npy" else ("--trace",) if args.trace else ()
+    return RunOptions(args.parts, args.jobs, args.ssh, args.slurm, args.program, args.work, args.resume, form)
 
 
 def text_of(name: str) -> bytes:
@@ -109,7 +107,7 @@ def text_of(name: str) -> bytes:
         raise RunFailedError(2, f"spread: {name}: {refused}\n") from None
 
 
-def counted(program: str, text: bytes) -> "Fault | tuple[int, int]":
+def count_commands(program: str, text: bytes) -> "Fault | tuple[int, int]":
     """Returns the number of experiments and commands, as counted by `dnlab check`, or the fault. Raises `RunFailedError` for any other
     answer."""
     done = subprocesses.run([program, "check"], text)
@@ -125,12 +123,12 @@ def counted(program: str, text: bytes) -> "Fault | tuple[int, int]":
     return int(fields[1]), int(fields[2])
 
 
-def judged(program: str, text: bytes, parts: Sequence[Part], names: set[str]) -> "Fault | tuple[int, int]":
-    """Like `counted`, for a scenario of any length, which is checked in as many pieces as the program's limits require. An experiment
+def check_text(program: str, text: bytes, parts: Sequence[Part], names: set[str]) -> "Fault | tuple[int, int]":
+    """Like `count_commands`, for a scenario of any length, which is checked in as many pieces as the program's limits require. An experiment
     name that another file has is also a fault."""
     if len(text) <= MOST_BYTES and len(parts) <= MOST_EXPERIMENTS:
-        found = counted(program, text)
-        return first_of(found, repeated(parts, names))
+        found = count_commands(program, text)
+        return first_fault(found, repeated(parts, names))
     head = Judged(text[:next(lines_in(text), (len(text), b"", 0))[0]], limited=False).fault
     if head:
         return Fault(*head)
@@ -140,20 +138,20 @@ def judged(program: str, text: bytes, parts: Sequence[Part], names: set[str]) ->
         own = b"".join(part.text for part in piece)
         if len(own) > MOST_BYTES:
             return Fault(piece[0].line, "toobig")
-        found = counted(program, own)
+        found = count_commands(program, own)
         if isinstance(found, Fault):
             found = Fault(found.line + piece[0].line - 1, found.cause)
             if found.cause == "noend" and place + 1 < len(pieces):
                 # The next heading: its own options are checked before a missing `end`.
                 found = Fault(found.line, heading_fault(pieces[place + 1][0].text) or "noend")
-        found = first_of(found, repeated(piece, names))
+        found = first_fault(found, repeated(piece, names))
         if isinstance(found, Fault):
             return found
         experiments, commands = experiments + found[0], commands + found[1]
     return experiments, commands
 
 
-def first_of(found: "Fault | tuple[int, int]", again: Optional[Part]) -> "Fault | tuple[int, int]":
+def first_fault(found: "Fault | tuple[int, int]", again: Optional[Part]) -> "Fault | tuple[int, int]":
     """Returns the first of a fault and a repeated name."""
     if again is None or (isinstance(found, Fault) and found.line <= again.line):
         return found
@@ -167,7 +165,7 @@ def experiments_of(args: argparse.Namespace, program: str) -> list[Part]:
     for name in args.scenarios:
         text = text_of(name)
         parts = experiments_in([text])
-        found = judged(program, text, parts, names)
+        found = check_text(program, text, parts, names)
         if isinstance(found, Fault):
             said = f"line {found.line}: {found.cause}\n"
             raise RunFailedError(1, said if len(args.scenarios) == 1 else f"{name}: {said}")
@@ -178,35 +176,36 @@ def experiments_of(args: argparse.Namespace, program: str) -> list[Part]:
     return everything
 
 
-def judged_part(whole: str, text: str) -> Optional[str]:
+def report_fault(whole: str, text: str) -> Optional[str]:
     """What isn't right in the report of a part, for another process; it is read and joined with its text."""
     from dnlab.io.pieces import pieces
-    from dnlab.io.report import read_piece
     from dnlab.analysis.view import View
 
     name = "its first experiment"
     try:
         plans = read(Path(text).read_bytes())
-        for piece in pieces(whole):
+        for piece in pieces(whole, names=list(plans)):
             name = f"experiment {piece.name}"
             try:
-                # pieces() counts lines of the whole report, but the message has the line in one experiment.
-                View(read_piece(piece), plans[piece.name])
+                # pieces() counts lines of the whole report, but the message has the line in one experiment; that of rows has the row.
+                View(piece.read(), plans[piece.name])
             except ParseError as refused:
+                if piece.line < 0:
+                    raise
                 return f"{name}: line {refused.line - piece.line + 1} of its report: {refused.cause}"
     except ParseError as refused:
         return f"{name}: {refused}"
     return None
 
 
-def check(how: RunOptions, jobs: Sequence[Job], folder: Path) -> None:
+def check_reports(how: RunOptions, jobs: Sequence[Job], folder: Path) -> None:
     """Reads the reports of all parts as the other tools do. A report that cannot belong to its scenario is a failed part."""
     from dnlab.analysis.reports import cores
 
     wrong: dict[int, str] = {}
     with ProcessPool[int](min(how.jobs or cores(), len(jobs) or 1)) as pool:
         for job in jobs:
-            pool.submit(job.number, judged_part, str(job.file("whole")), str(job.file("txt")))
+            pool.submit(job.number, report_fault, str(job.file("whole")), str(job.file("txt")))
         while len(pool):
             outcome = pool.next_result()
             if outcome.get():
@@ -235,13 +234,7 @@ class Plans(Mapping[str, Plan]):
         return len(self.texts)
 
 
-def origin(args: argparse.Namespace, program: str, parts: Sequence[Part]) -> Origin:
-    """Returns what made the report. For a program on other machines only the command line is known."""
-    made = origin_of(Plans(parts), program, ["dnlab-spread", *args.given])
-    return made._replace(program="", version="") if args.ssh or args.slurm else made
-
-
-def run_all(how: RunOptions, program: str, jobs: Sequence[Job], folder: Path) -> None:
+def run_unfinished(how: RunOptions, program: str, jobs: Sequence[Job], folder: Path) -> None:
     """Runs the unfinished parts, and shows the progress."""
     progress: Optional[Progress] = None
     if how.work is not None:
@@ -261,15 +254,18 @@ def spread(args: argparse.Namespace, named: Optional[str] = None) -> None:
     except ProgramError as failed:
         raise RunFailedError(failed.status, f"spread: {failed.said}\n") from failed
     with with_name(tempfile.gettempdir()):
-        how, everything = how_of(args), experiments_of(args, program)
+        how, everything = options_of(args), experiments_of(args, program)
     with TempDir() as passing:
         folder = Path(args.work or passing.path).absolute()
-        jobs = [Job(folder, number, [part.name for part in share], b"".join(part.text for part in share))
+        jobs = [Job(folder, number, [part.name for part in share], b"".join(part.text for part in share), args.format == "npy")
                 for number, share in enumerate(shares(everything, args.parts), 1)]
         with with_name(folder):
-            run_all(how, program, jobs, folder)
-            check(how, jobs, folder)
-        made = origin(args, program, everything) if args.out is not None else None
+            run_unfinished(how, program, jobs, folder)
+            check_reports(how, jobs, folder)
+        made = origin_of(Plans(everything), program, ["dnlab-spread", *args.given]) if args.out is not None else None
+        if made is not None and (args.ssh or args.slurm):
+            # Of a program on other machines only the command line is known.
+            made = made._replace(program="", version="")
         with subprocesses.signals_delayed():
             join_reports(args.out, jobs)
             if made is not None:
@@ -279,17 +275,34 @@ def spread(args: argparse.Namespace, named: Optional[str] = None) -> None:
                 shutil.rmtree(folder)
 
 
+def _join(parts: Sequence[Job], report: IO[bytes]) -> None:
+    if any(part.is_rows for part in parts):
+        from dnlab.io.rows import join
+
+        return join([part.file("whole") for part in parts], report)
+    for part in parts:
+        with open(part.file("whole"), "rb") as piece:
+            shutil.copyfileobj(piece, report)
+    report.flush()
+
+
+def join_reports(out: Optional[str], parts: Sequence[Job]) -> None:
+    """Writes the report: to its file, completely or not at all, or to standard output."""
+    try:
+        if out is None:
+            with open(1, "wb", closefd=False) as report:
+                _join(parts, report)
+        else:
+            with whole_file(out) as file:
+                _join(parts, file)
+    except OSError as error:
+        raise RunFailedError(3, f"spread: {cause_of(error)}\n") from error
+
+
 def main(words_given: Sequence[str]) -> int:
-    subprocesses.handle_signals("spread")
     try:
         spread(words(words_given))
     except RunFailedError as stop:
         sys.stderr.write(str(stop))
         return stop.status
-    except ProgramError as failed:
-        sys.stderr.write(f"spread: {failed.said}\n")
-        return failed.status
-    except OSError as error:
-        sys.stderr.write(f"spread: {cause_of(error)}\n")
-        return 3
     return 0

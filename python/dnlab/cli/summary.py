@@ -11,8 +11,9 @@ from dnlab.analysis.metrics import PERCENTILES, Row, Span, columns_of, times_of
 from dnlab.analysis.names import names_of, with_names
 from dnlab.analysis.quantities import FOR_PEOPLE, Percentile
 from dnlab.analysis.reports import Inputs, plans_of
-from dnlab.cli.arguments import add_names, add_span, add_texts, count_of, parser_of, percentiles_of, span_in, taken, time_of
-from dnlab.errors import InputError, Note, status_of
+from dnlab.cli.arguments import (add_names, add_of, add_percentiles, add_span, add_texts, add_workers, checked_span, parse_files,
+                                 parser_of, time_of, words_in)
+from dnlab.errors import Note
 from dnlab.io.scenario_parts import DROP_CAUSES
 from dnlab.programs import say
 
@@ -47,9 +48,10 @@ def plain(value: object, exact: bool = True) -> str:
 
 
 def loss_of(row: Row) -> str:
-    """Returns the drops by cause as text. For pipes only CoDel's drops may be known."""
-    parts = [f"{cause}:{row[cause]}" for cause in DROP_CAUSES if row[cause] or (cause == "codel" and row["full"] is None)]
-    return " ".join(parts) or "none"
+    """Returns the drops by cause as text, `-` if they are unknown, as for pipes of an untraced report."""
+    if row["full"] is None:
+        return "-"
+    return " ".join(f"{cause}:{row[cause]}" for cause in DROP_CAUSES if row[cause]) or "none"
 
 
 def ended_of(row: Row, exact: bool) -> str:
@@ -166,9 +168,8 @@ Columns:
   time       from the first packet's creation to the last delivery; for pipes:
              from the first arrival to the last finish
   rate       bytes * 8 over that time, bit/s, rounded down
-  drops      by cause; for pipes only those of CoDel, unless the whole report
-             was made with `trace 1`: no other line says which pipe lost a
-             packet
+  drops      by cause; for pipes only in a report made with --trace: no other
+             line says which pipe lost a packet
   min, p50, p99, max
              the time from creation to delivery; for pipes: from arrival to
              exit. Percentiles are by nearest rank.
@@ -185,16 +186,17 @@ Columns:
              each)
 Times are printed in ms, and the column's heading says so.
 A missing value is `-` (empty in --csv, null in --json, whose times are in
-nanoseconds). Without the scenario, sizes and the times at which packets were
-created are missing, unless the whole report was made with `trace 1`. --csv and
---json have a column of drops for each cause, and also the mean and the jitter
-(RFC 3550) of the one-way delay, utilisation (for pipes: the bytes served
+nanoseconds). Without --trace, sizes, delays and senders of trains are missing.
+REPORT may also be rows (`dnlab alone --format npy`), which are read faster;
+their experiments have names only with the scenario. --csv and --json have a
+column of drops for each cause, and also the mean and the jitter (RFC 3550) of
+the one-way delay, utilisation (for pipes: the bytes served
 divided by what the rate could have carried), refused (the number of refused
 commands) and their codes, the seed, budgets and params of the experiment, and
 `varied`, the pipe settings that differ between experiments.
 
 Example:
-  ./dnlab alone < scenario.txt | tools/summary - scenario.txt
+  ./dnlab alone --trace < scenario.txt | tools/summary - scenario.txt
   tools/summary report.txt scenario.txt --of 'train *' --percentiles 50,95 \\
     --by varied --columns p95,goodput
 
@@ -206,30 +208,27 @@ def words(given: Sequence[str]) -> argparse.Namespace:
     parser = parser_of("summary", __doc__ or "", EXAMPLE)
     add_texts(parser)
     add_names(parser)
-    parser.add_argument("--of", action="append", default=[], metavar="PATTERN",
-                        help="only these rows, as 'flow 1', 'train *', 'pipe 1.0' (repeatable) [all]")
-    parser.add_argument("--percentiles", type=percentiles_of, default=["50", "99"], metavar="P,P..",
-                        help="percentiles of the one-way delay [50,99]")
+    add_of(parser, "only these rows, as 'flow 1', 'train *', 'pipe 1.0' (repeatable) [all]")
+    add_percentiles(parser)
     kind = parser.add_mutually_exclusive_group()
     kind.add_argument("--every", type=time_of, metavar="TIME",
                       help="print what arrived in each interval of this length, as 100ms, 20us or 1s, instead of the summary")
     kind.add_argument("--losses", action="store_true", help="print drops by sender, cause and pipe, instead of the summary")
-    kind.add_argument("--by", type=lambda text: text.split(","), default=[], metavar="COLUMN,..",
+    kind.add_argument("--by", type=words_in, default=[], metavar="COLUMN,..",
                       help="group rows by `sender` and these columns (varied, params, experiment, seed ..): mean and half-"
                       "width of the 95 %% interval (ci95)")
-    parser.add_argument("--columns", type=lambda text: text.split(","), default=[], metavar="COLUMN,..",
+    parser.add_argument("--columns", type=words_in, default=[], metavar="COLUMN,..",
                         help="only these columns, after experiment and sender; with --by: the columns whose means are printed"
                         " [the one-way delays and goodput]")
     add_span(parser)
     parser.add_argument("--exact", action="store_true", help="print all digits of times and fractions [three decimals]")
-    parser.add_argument("--workers", type=count_of, metavar="N",
-                        help="number of processes [all cores if the report is long]")
+    add_workers(parser)
     form = parser.add_mutually_exclusive_group()
     form.add_argument("--csv", action="store_true", help="print CSV, with a heading")
     form.add_argument("--json", action="store_true", help="print a JSON list of objects")
-    found = taken(parser, list(given))
+    found = parse_files(parser, list(given))
     known = columns_of(found.percentiles)
-    if span_in(parser, found) != Span() and (found.every or found.losses):
+    if checked_span(parser, found) != Span() and (found.every or found.losses):
         parser.error("--from and --to go with the summary; --every has every interval in a row of its own")
     if found.columns and (found.every or found.losses):
         parser.error("--columns goes with the rows of the summary, not with --every or --losses")
@@ -253,23 +252,19 @@ def print_json(rows: Sequence[Row], out: TextIO) -> None:
 def main(words_given: Sequence[str]) -> int:
     given = words(words_given)
     # Imported here, so that --help works without numpy.
-    from dnlab.analysis.summary import grouped, summed, tell, tell_empty
+    from dnlab.analysis.summary import grouped, summed, tell
 
     span = Span(given.begin, given.end)
     kind = "windows" if given.every else "losses" if given.losses else "summary"
     rows: list[Row] = []
     notes: list[tuple[str, Note]] = []
     total = 0
-    try:
-        plans = with_names(plans_of(given.scenarios), names_of(given.names), given.experiment)
-        for one in summed(Inputs(given.report, tuple(given.scenarios)), plans, given.experiment, given.percentiles,
-                          given.of, kind, given.every or 0, given.workers, span):
-            rows += one.rows
-            notes += [(one.name, note) for note in one.notes]
-            total += 1
-    except InputError as faulty:
-        say("summary", faulty)
-        return status_of(faulty)
+    plans = with_names(plans_of(given.scenarios), names_of(given.names), given.experiment)
+    for one in summed(Inputs(given.report, tuple(given.scenarios)), plans, given.experiment, given.percentiles,
+                      given.of, kind, given.every or 0, given.workers, span):
+        rows += one.rows
+        notes += [(one.name, note) for note in one.notes]
+        total += 1
     if given.by:
         rows = grouped(rows, given.by, given.columns or [*times_of(given.percentiles), "goodput"])
     elif given.columns:
@@ -285,5 +280,6 @@ def main(words_given: Sequence[str]) -> int:
     elif rows:
         sys.stdout.write(bare_table(rows, given.exact))
     tell("summary", notes, total)
-    tell_empty("summary", Inputs(given.report), total)
+    if not total:
+        say("summary", f"{given.report}: it is empty, and has no experiment: was the scenario empty, or all in comments?")
     return 0

@@ -7,18 +7,16 @@ import io
 import sys
 from typing import TYPE_CHECKING, Any, BinaryIO, Sequence
 
-from dnlab.analysis.statistics import CustomStat
 from dnlab.analysis.metrics import Span
-from dnlab.analysis.statistics import USUAL, StatRequest
-from dnlab.cli.summary import plain, sweep_table
-from dnlab.cli.summary import print_csv, print_json
+from dnlab.analysis.statistics import USUAL, CustomStat, StatRequest
+from dnlab.cli.arguments import writing
+from dnlab.cli.summary import plain, print_csv, print_json, sweep_table
 from dnlab.cli.sweep_words import is_of_programs, look_of, pair_in, words
-from dnlab.errors import InputError, ProgramError, status_of
+from dnlab.errors import ProgramError, ResourceError
 from dnlab.io.files import whole_file
 from dnlab.processes import subprocesses
 from dnlab.programs import say
-from dnlab.sweeps.grid import told_of
-from dnlab.sweeps.grid import shown
+from dnlab.sweeps.grid import as_written, hints_of
 
 if TYPE_CHECKING:
     import pandas as pd
@@ -26,14 +24,13 @@ if TYPE_CHECKING:
     from dnlab.sweeps.sweeping import Sweep
 
 
-def lacking(given: argparse.Namespace) -> str | None:
-    """Returns which package a requested file needs and is missing, or None."""
+def check_packages(given: argparse.Namespace) -> None:
+    """Raises `ResourceError` if a package that a requested file needs is missing."""
     is_parquet = given.parquet is not None or any(str(name).endswith(".parquet") for name in (given.each, given.long))
     if is_parquet and importlib.util.find_spec("pyarrow") is None:
-        return "pyarrow is missing, so Parquet can't be written (pip install pyarrow); --csv and --json work without it"
+        raise ResourceError("pyarrow is missing, so Parquet can't be written (pip install pyarrow); --csv and --json work without it")
     if given.plot is not None and importlib.util.find_spec("matplotlib") is None:
-        return "matplotlib is missing (Debian: apt-get install python3-matplotlib)"
-    return None
+        raise ResourceError("matplotlib is missing (Debian: apt-get install python3-matplotlib)")
 
 
 def records_of(frame: pd.DataFrame) -> list[dict[str, Any]]:
@@ -47,16 +44,13 @@ def records_of(frame: pd.DataFrame) -> list[dict[str, Any]]:
 def write(frame: pd.DataFrame, name: str, form: str, settings: Sequence[str] = ()) -> None:
     """Writes a table to a file, completely or not at all; - is standard output. In CSV, settings are written as they were given."""
     if form == "csv":
-        frame = frame.assign(**{one: [shown(value) for value in frame[one]] for one in settings}).astype(dict.fromkeys(settings, object))
+        frame = frame.assign(**{one: [as_written(value) for value in frame[one]] for one in settings}).astype(dict.fromkeys(settings, object))
     if name == "-":
         (print_json(records_of(frame), sys.stdout) if form == "json"
          else print_csv(records_of(frame), list(frame.columns), sys.stdout))
         return
-    try:
-        with whole_file(name) as file:
-            write_form(frame, file, form)
-    except OSError as fault:
-        raise ProgramError(3, f"{name}: {fault.strerror}") from None
+    with writing(name), whole_file(name) as file:
+        write_form(frame, file, form)
 
 
 def write_form(frame: pd.DataFrame, file: BinaryIO, form: str) -> None:
@@ -78,7 +72,7 @@ def write_all(made: Sweep, table: pd.DataFrame, given: argparse.Namespace) -> No
     if "-" not in (given.csv, given.json):
         sys.stdout.write(sweep_table(records_of(table), made.settings, given.exact))
         if given.pairs is not None:
-            sys.stdout.write("\n" + pairs_of(made, given))
+            sys.stdout.write("\n" + differences_table(made, given))
         sys.stdout.flush()
     for form in "csv", "json", "parquet":
         if getattr(given, form) is not None:
@@ -92,13 +86,11 @@ def write_all(made: Sweep, table: pd.DataFrame, given: argparse.Namespace) -> No
 
         look = look_of(given, made.setting_labels())
         figure = curves.figure_of(table, made.settings, look, made.long() if look.kind in ("ecdf", "box") else None)
-        try:
+        with writing(given.plot):
             style.save(figure, given.plot)
-        except OSError as fault:
-            raise ProgramError(3, f"{given.plot}: {fault.strerror}") from None
 
 
-def pairs_of(made: Sweep, given: argparse.Namespace) -> str:
+def differences_table(made: Sweep, given: argparse.Namespace) -> str:
     """Returns how the values of a setting differ, as a table with a line for each value and each combination of the other
     settings."""
     along, base = pair_in(given.pairs)
@@ -108,7 +100,7 @@ def pairs_of(made: Sweep, given: argparse.Namespace) -> str:
                        given.exact)
 
 
-def say_needed(made: Sweep, table: pd.DataFrame, within: float) -> None:
+def print_seeds_needed(made: Sweep, table: pd.DataFrame, within: float) -> None:
     """Prints how many seeds the requested intervals need, and which statistic needs the most."""
     seeds = len({case.seed for case in made.cases})
     known = table[table["needed"].notna()]
@@ -126,7 +118,7 @@ def say_needed(made: Sweep, table: pd.DataFrame, within: float) -> None:
               " fewer than two seeds, are 0, or need more than 10^6 seeds")
 
 
-def say_all(made: Sweep, table: pd.DataFrame) -> None:
+def print_notes(made: Sweep, table: pd.DataFrame) -> None:
     """Prints the notes, warnings and counts of the sweep."""
     from dnlab.analysis.summary import tell
 
@@ -139,7 +131,7 @@ def say_all(made: Sweep, table: pd.DataFrame) -> None:
         of = ", ".join(f"{name}={plain(first[name])}" for name in made.settings)
         more = f"; {others} more means lack values" if others > 1 else "; one more mean lacks values" * others
         say("sweep", f"{first['stat']} of {first['sender']} has no value in {seeds - first['n']} of {seeds} experiments with {of}{more}")
-    for said in filter(None, [made.changeless(), *told_of(rows, made.settings)]):
+    for said in filter(None, [made.changeless(), *hints_of(rows, made.settings)]):
         say("sweep", said)
     if made.kept.damaged:
         say("sweep", f"{made.kept.damaged} results in {made.kept.path} were damaged; these experiments were run again")
@@ -154,7 +146,7 @@ def sweep_of(given: argparse.Namespace) -> tuple[Sweep, str | None]:
     asks = [StatRequest(ask.of, ask.stats or USUAL) for ask in given.asks]
     span = Span(given.begin, given.end)
     if is_of_programs(given):
-        from dnlab.sweeps.program_runs import ProgramSweep
+        from dnlab.sweeps.backends import ProgramSweep
 
         return ProgramSweep(given.run or given.template, dict(given.set), given.seeds, asks, given.run is not None,
                             given.workers, given.allow, span), None
@@ -166,7 +158,7 @@ def sweep_of(given: argparse.Namespace) -> tuple[Sweep, str | None]:
                  anew=given.anew, allow=given.allow, parts=given.parts, span=span), kept
 
 
-def judge(given: argparse.Namespace, made: Sweep) -> None:
+def check_options(given: argparse.Namespace, made: Sweep) -> None:
     """Raises `InputError` for a picture or pairs that do not fit the settings, before anything runs."""
     import pandas as pd
 
@@ -175,7 +167,7 @@ def judge(given: argparse.Namespace, made: Sweep) -> None:
     if given.plot is not None:
         from dnlab.plot import style
 
-        style.judge(pd.DataFrame([case.settings for case in made.cases]), made.settings,
+        style.check_panels(pd.DataFrame([case.settings for case in made.cases]), made.settings,
                      [(ask.of, stat) for ask in made.asks for stat in ask.stats], look_of(given))
     if given.pairs is not None:
         along, base = pair_in(given.pairs)
@@ -190,22 +182,22 @@ def sweep(given: argparse.Namespace) -> int:
         sys.stdout.write(made.text(made.cases[0]))
         say("sweep", f"{len(made.cases)} experiments; this is the scenario of {made.cases[0].told()}")
         return 0
-    judge(given, made)
-    subprocesses.set_message(lambda: far(made, kept))
+    check_options(given, made)
+    subprocesses.set_message(lambda: progress_text(made, kept))
     subprocesses.add_chore(made.kept.close)
     try:
         made.run()
     except ProgramError as failed:
-        raise ProgramError(failed.status, f"{failed.said}; {far(made, kept)}") from None
+        raise ProgramError(3, f"{failed.said}; {progress_text(made, kept)}") from None
     table = made.table(given.ci, given.interval, given.within)
     write_all(made, table, given)
-    say_all(made, table)
+    print_notes(made, table)
     if given.within is not None:
-        say_needed(made, table, given.within)
+        print_seeds_needed(made, table, given.within)
     return 0
 
 
-def far(made: Sweep, kept: str | None) -> str:
+def progress_text(made: Sweep, kept: str | None) -> str:
     """Returns how many experiments are done, and where their results are."""
     done = f"{len(made.found)} of {len(made.cases)} experiments"
     if any(isinstance(stat, CustomStat) for stat in made.stats()):
@@ -214,16 +206,6 @@ def far(made: Sweep, kept: str | None) -> str:
 
 
 def main(words_given: Sequence[str]) -> int:
-    subprocesses.handle_signals("sweep")
     given = words(words_given)
-    said = lacking(given)
-    try:
-        if said is not None:
-            raise ProgramError(3, said)
-        return sweep(given)
-    except InputError as faulty:
-        say("sweep", faulty)
-        return status_of(faulty)
-    except ProgramError as failed:
-        say("sweep", failed.said)
-        return 3
+    check_packages(given)
+    return sweep(given)

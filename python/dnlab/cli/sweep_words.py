@@ -1,19 +1,17 @@
 """The arguments of `dnlab-sweep`."""
 import argparse
 import os
-from typing import Any, Callable, Mapping, Optional, Sequence, TypeVar
+from typing import Any, Mapping, Optional, Sequence
 
 from dnlab.analysis.quantities import KINDS
 from dnlab.errors import STOPPING
 from dnlab.analysis.statistics import STATS, USUAL, StatRequest, stats_of
-from dnlab.cli.arguments import add_design, design_of, is_designed, picture
-from dnlab.cli.arguments import add_span, count_of, listed, parser_of, span_in
-from dnlab.sweeps.grid import seeds_of, setting_of
+from dnlab.cli.arguments import (Parser, add_design, add_span, add_workers, checked, checked_span, count_of, design_of,
+                                 is_designed, listed, parser_of, picture, words_in)
 from dnlab.sweeps.engines import DASK
-from dnlab.sweeps.grid import value_of
+from dnlab.sweeps.grid import seeds_of, setting_of, value_of
 
 ABOUT = "Runs a template with each setting and seed, and prints means with intervals."
-T = TypeVar("T")
 EXAMPLE = f"""TEMPLATE is a scenario of one experiment in Jinja2 (Debian: python3-jinja2)
 that begins with
   experiment {{{{ name }}}} seed {{{{ seed }}}} budget 1000
@@ -81,16 +79,6 @@ class Asked(argparse.Action):
             given.asks = [*before, StatRequest(last.of, last.stats + value)]
 
 
-def kind_of(function: Callable[[str], T]) -> Callable[[str], T]:
-    """Returns a converter whose `ValueError` argparse reports with its own text."""
-    def read(text: str) -> T:
-        try:
-            return function(text)
-        except ValueError as fault:
-            raise argparse.ArgumentTypeError(str(fault)) from None
-    return read
-
-
 def level_of(text: str) -> float:
     try:
         level = float(text)
@@ -129,7 +117,7 @@ def add_look(parser: argparse.ArgumentParser) -> None:
     parser.add_argument("--along", metavar="NAME", help="the setting on the horizontal axis [the first with several values]")
     parser.add_argument("--rows", metavar="NAME", help="a row of panels for each value of this setting [one row for each statistic]")
     parser.add_argument("--columns", metavar="NAME", help="a column of panels for each value of this setting")
-    parser.add_argument("--log", type=lambda text: text.split(","), default=[], metavar="x,y", help="logarithmic axes")
+    parser.add_argument("--log", type=words_in, default=[], metavar="x,y", help="logarithmic axes")
     add_design(parser, "a setting, a value of it (queue:codel=CoDel), a statistic or a sender")
 
 
@@ -142,19 +130,20 @@ def look_of(given: argparse.Namespace, known: Mapping[str, str] = {}) -> Any:
                 given.columns, given.log, given.kind)
 
 
-def parser_of_words() -> argparse.ArgumentParser:
+def parser_of_words() -> Parser:
     parser = parser_of("sweep", ABOUT, EXAMPLE)
     parser.add_argument("template", metavar="TEMPLATE", nargs="?",
                         help="the template's file, or - for standard input; FILE.yaml is a hosts file (see tools/hosts)")
     parser.add_argument("--run", metavar="COMMAND", help="instead of TEMPLATE: a command line with {{ settings }} that"
                         " leaves transcript.txt and report.txt in its current folder")
-    parser.add_argument("--set", action="append", default=[], type=kind_of(setting_of), metavar="NAME=VALUE,..",
+    parser.add_argument("--set", action="append", default=[], type=checked(setting_of), metavar="NAME=VALUE,..",
                         help="a setting and its values (repeatable; all combinations are run)")
-    parser.add_argument("--seeds", type=kind_of(seeds_of), default=[1], metavar="A-B,C",
+    parser.add_argument("--seeds", type=checked(seeds_of), default=[1], metavar="A-B,C",
                         help="the seeds to run each setting with [1]")
     parser.add_argument("--of", action=Asked, dest="asks", default=[], metavar="NAME", help="the sender or pipe to measure (repeatable)")
-    parser.add_argument("--stat", action=Asked, dest="asks", type=kind_of(stats_of), metavar="STAT,..",
+    parser.add_argument("--stat", action=Asked, dest="asks", type=checked(stats_of), metavar="STAT,..",
                         help="the statistics of the --of before it")
+    parser.offered["--stat"] = STATS
     add_span(parser)
     parser.add_argument("--ci", type=level_of, default=95, metavar="LEVEL", help="confidence level of the intervals, in percent [95]")
     parser.add_argument("--interval", choices=KINDS, default="t",
@@ -173,15 +162,19 @@ def parser_of_words() -> argparse.ArgumentParser:
     parser.add_argument("--dry-run", action="store_true", help="print the scenario of the first experiment, and run nothing")
     parser.add_argument("--kept", metavar="FILE", help="the file that caches results [TEMPLATE.kept]")
     parser.add_argument("--anew", action="store_true", help="run all experiments again, whatever is cached")
-    parser.add_argument("--workers", type=count_of, metavar="N", help="number of processes [all cores]")
+    add_workers(parser, "all cores")
+    _add_others(parser)
+    parser.add_argument("--allow", action="append", choices=STOPPING, default=[],
+                        help="continue if commands were refused, or steps were spent (repeatable)")
+    return parser
+
+
+def _add_others(parser: Parser) -> None:
     parser.add_argument("--on", metavar="HOSTS", help="run on other machines, as 4/alpha,beta (see tools/spread --ssh),"
                         " as an array of `slurm`, or with `dask ADDRESS`")
     parser.add_argument("--program", metavar="PATH", help="path of dnlab on the other machines")
     parser.add_argument("--parts", type=count_of, metavar="N",
                         help="with --on: number of parts [parts of about a minute, with ssh 10 s]")
-    parser.add_argument("--allow", action="append", choices=STOPPING, default=[],
-                        help="continue if commands were refused, or steps were spent (repeatable)")
-    return parser
 
 
 def joined(given: Sequence[str]) -> list[str]:
@@ -217,7 +210,7 @@ def words(given: Sequence[str]) -> argparse.Namespace:
     names = [name for name, _ in found.set]
     if len(set(names)) < len(names):
         parser.error("--set: a name is given twice; put all its values into one --set, separated by commas")
-    span_in(parser, found)
+    checked_span(parser, found)
     check_source(parser, found)
     if (found.program or found.parts) and not found.on:
         parser.error("--program and --parts go with --on (on this machine, DNLAB names the program)")

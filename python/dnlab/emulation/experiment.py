@@ -264,11 +264,19 @@ class Experiment:
 _EXPECTED = {"seed"}
 
 
+class NetworkError(InputError):
+    """A line of `network` that is not a command or would be refused. Has its `cause`, without its line."""
+
+    def __init__(self, said: str, cause: str) -> None:
+        super().__init__(said)
+        self.cause = cause
+
+
 def check_network(experiment: Experiment) -> list[str]:
     """Returns warnings about lines of `network`, each with its line of the file.
 
-    Raises `InputError` with the file's line for the first line that is not a command or would be refused, and `ProgramError` if
-    `dnlab` cannot be started."""
+    Raises `NetworkError` with the file's line for the first line that is not a command or would be refused, and
+    `ProgramError` if `dnlab` cannot be started."""
     done = subprocesses.run([program(), "check", "--explain"], experiment.scenario().encode("ascii", "replace"))
     said = done.errors.decode(errors="replace")
     if done.status not in (0, 1):
@@ -276,16 +284,17 @@ def check_network(experiment: Experiment) -> list[str]:
     found = list(findings(said))
     refused = [one for one in found if one.kind == "refused"]
     if done.status == 1 or refused:
-        raise InputError(_told(experiment, (refused or found)[0]))
+        first = (refused or found)[0]
+        raise NetworkError(_told(experiment, first), _cause_of(first))
     return [_told(experiment, one) for one in found if one.cause not in _EXPECTED]
 
 
 def _told(experiment: Experiment, found: Finding) -> str:
-    """Returns a message about a line of the file."""
-    return f"{experiment.file}:{_line_in(experiment, found.line)}: network: {found.cause}: {found.told()}"
+    """Returns a message about a line of the file; the first line of the scenario is the experiment's."""
+    place = found.line - 2
+    line = experiment.network[place].line if 0 <= place < len(experiment.network) else 1
+    return f"{experiment.file}:{line}: network: {_cause_of(found)}"
 
 
-def _line_in(experiment: Experiment, line: int) -> int:
-    """Returns the line of the file for a line of the scenario, whose first is the experiment's."""
-    place = line - 2
-    return experiment.network[place].line if 0 <= place < len(experiment.network) else 1
+def _cause_of(found: Finding) -> str:
+    return f"{found.cause}: {found.told()}"

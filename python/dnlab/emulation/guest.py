@@ -1,18 +1,24 @@
-"""Writes the plan for the guest, starts the guest, or the link process if the clock is `wall`, and ends it at a limit or a signal."""
+"""Writes the plan for the guest, starts the guest, or the link process if the clock is `wall`, and ends it at a limit or a signal. A
+shell of a run has a terminal of its own: what you type goes to it, and what it writes is shown."""
+import array
+import fcntl
 import os
 import resource
 import select
 import shutil
+import signal
 import socket
 import subprocess
+import sys
+import termios
 import time
-from contextlib import contextmanager
+import tty
+from contextlib import contextmanager, suppress
 from pathlib import Path
-from typing import Any, Iterator, NamedTuple, Optional, Union
+from typing import Any, Callable, Iterator, NamedTuple, Optional, Union
 
 from dnlab.emulation.experiment import Experiment, Host
 from dnlab.emulation.kernel_cache import Kernel
-from dnlab.emulation.terminal import Terminal
 from dnlab.errors import InputError, ResourceError
 from dnlab.processes import subprocesses
 from dnlab.processes.process_pool import Progress
@@ -92,10 +98,7 @@ def write(experiment: Experiment, out: Path) -> None:
         (out / "hosts" / host.name).mkdir(parents=True, exist_ok=True)
     for place, lines in (LINK, link_lines(experiment)), (PLAN, plan_lines(experiment)):
         (out / place).write_text("".join(f"{line}\n" for line in lines), encoding="utf-8")
-    _set_times(out, experiment.settings.start_date_ns)
-
-
-def _set_times(out: Path, moment: int) -> None:
+    moment = experiment.settings.start_date_ns
     for folder, folders, files in os.walk(out, topdown=False):
         for name in (*files, *folders):
             os.utime(os.path.join(folder, name), ns=(moment, moment), follow_symlinks=False)
@@ -139,7 +142,7 @@ def run_simulated(experiment: Experiment, kernel: Kernel, out: Path, limit_s: in
                     stderr=console, env={"PATH": "/usr/sbin:/usr/bin:/sbin:/bin"})
 
 
-def run_by_wall_clock(kernel: Kernel, out: Path, limit_s: int, terminal: Optional[Terminal] = None) -> Ran:
+def run_by_wall_clock(kernel: Kernel, out: Path, limit_s: int, terminal: "Optional[Terminal]" = None) -> Ran:
     """Runs the link process and the programs on this machine; if an ordinary user runs it, in a user namespace.
 
     A shell among the programs has a terminal."""
@@ -181,12 +184,13 @@ def seconds_done(out: Path) -> int:
         return 0
 
 
-def _run(words: list[str], limit_s: int, seen: Union[_Watched, Terminal, None], **how: Any) -> Ran:
+def _run(words: list[str], limit_s: int, seen: "Union[_Watched, Terminal, None]", **how: Any) -> Ran:
     """Runs a process to its end or its limit, while its progress or its terminal is shown."""
     began, before = time.monotonic(), _cpu_of_children()
     with subprocesses.child(words, **how) as process:
         if isinstance(seen, Terminal):
-            _relay(process, seen)
+            with _descriptor(process) as descriptor:
+                seen.relay(descriptor)
         in_time = (_ends_within(process, limit_s, seen) if isinstance(seen, _Watched)
                    else _has_ended(process, limit_s))
         if not in_time:
@@ -206,21 +210,20 @@ def _ends_within(process: "subprocess.Popen[bytes]", limit_s: int, watched: _Wat
     return True
 
 
+@contextmanager
+def _descriptor(process: "subprocess.Popen[bytes]") -> Iterator[int]:
+    """Yields a descriptor that can be read once a process has ended."""
+    descriptor = os.pidfd_open(process.pid)
+    try:
+        yield descriptor
+    finally:
+        os.close(descriptor)
+
+
 def _has_ended(process: "subprocess.Popen[bytes]", seconds: float) -> bool:
     """Waits for the end of a process without reaping it; returns false if it is not over in time."""
-    descriptor = os.pidfd_open(process.pid)
-    try:
+    with _descriptor(process) as descriptor:
         return bool(select.select([descriptor], [], [], seconds)[0])
-    finally:
-        os.close(descriptor)
-
-
-def _relay(process: "subprocess.Popen[bytes]", terminal: Terminal) -> None:
-    descriptor = os.pidfd_open(process.pid)
-    try:
-        terminal.relay(descriptor)
-    finally:
-        os.close(descriptor)
 
 
 def _cpu_of_children() -> float:
@@ -235,30 +238,13 @@ def _cpu() -> Iterator[int]:
     time.sleep(0.03)
     idle = {cpu: ticks - before.get(cpu, ticks) for cpu, ticks in _idle().items()}
     allowed = sorted(os.sched_getaffinity(0), key=lambda cpu: (-idle.get(cpu, 0), cpu))
-    held: Optional[socket.socket] = None
-    chosen = allowed[0]
-    for cpu in allowed:
-        held = _claimed(cpu)
-        if held is not None:
-            chosen = cpu
-            break
-    try:
+    # A CPU is claimed by a socket's name, which the end of this process frees. A name that begins with a byte 0 is no file (unix(7)).
+    with socket.socket(socket.AF_UNIX, socket.SOCK_DGRAM) as claim:
+        for chosen in [*allowed, allowed[0]]:
+            with suppress(OSError):
+                claim.bind(f"\0dnlab-cpu.{os.getuid()}.{chosen}")
+                break
         yield chosen
-    finally:
-        if held is not None:
-            held.close()
-
-
-def _claimed(cpu: int) -> Optional[socket.socket]:
-    """Claims a CPU by a socket's name, which the end of this process frees; None if another run of this user has it."""
-    claim = socket.socket(socket.AF_UNIX, socket.SOCK_DGRAM)
-    try:
-        # A name that begins with a byte 0 is no file (unix(7)).
-        claim.bind(f"\0dnlab-cpu.{os.getuid()}.{cpu}")
-    except OSError:
-        claim.close()
-        return None
-    return claim
 
 
 def _idle() -> dict[int, int]:
@@ -266,3 +252,88 @@ def _idle() -> dict[int, int]:
     lines = Path("/proc/stat").read_text().splitlines()
     rows = (line.split() for line in lines if line.startswith("cpu") and line[3].isdigit())
     return {int(row[0][3:]): int(row[4]) for row in rows}
+
+
+_BLOCK = 65536
+# What a terminal takes for the end of the input, at the begin of a line.
+_END_OF_INPUT = b"\x04"
+
+
+class Terminal:
+    """A pseudoterminal; the shell opens it by its `path`. Leave it by `close`, or as a block."""
+
+    def __init__(self) -> None:
+        # The shell's side stays open here too, so that only the process' end ends the relay.
+        self._own, self._shells = os.openpty()
+        self.path = os.ttyname(self._shells)
+
+    def __enter__(self) -> "Terminal":
+        return self
+
+    def __exit__(self, *_: object) -> None:
+        self.close()
+
+    def close(self) -> None:
+        """Closes both sides."""
+        for side in self._own, self._shells:
+            with suppress(OSError):
+                os.close(side)
+
+    def relay(self, has_ended: int) -> None:
+        """Copies both ways until a descriptor (of a process) can be read."""
+        with _raw(), _resized(self._resize):
+            given: Optional[int] = sys.stdin.fileno()
+            while True:
+                waiting = [self._own, has_ended, *([] if given is None else [given])]
+                ready = select.select(waiting, [], [])[0]
+                if self._own in ready:
+                    _write(sys.stdout.fileno(), os.read(self._own, _BLOCK))
+                elif has_ended in ready:
+                    return
+                if given is not None and given in ready:
+                    typed = os.read(given, _BLOCK)
+                    _write(self._own, typed or _END_OF_INPUT)
+                    given = given if typed else None
+
+    def _resize(self) -> None:
+        """Gives the shell's terminal the size of this one."""
+        size = array.array("h", [24, 80, 0, 0])
+        with suppress(OSError):
+            fcntl.ioctl(sys.stdin.fileno(), termios.TIOCGWINSZ, size)
+        fcntl.ioctl(self._own, termios.TIOCSWINSZ, size)
+
+
+def _write(to: int, data: bytes) -> None:
+    while data:
+        data = data[os.write(to, data):]
+
+
+@contextmanager
+def _raw() -> Iterator[None]:
+    """Has each key go to the shell as it is typed, also Ctrl-C; the terminal's mode comes back at the end."""
+    if not sys.stdin.isatty():
+        yield
+        return
+    mode: list[Any] = termios.tcgetattr(sys.stdin)
+
+    def restore() -> None:
+        termios.tcsetattr(sys.stdin, termios.TCSADRAIN, mode)
+
+    subprocesses.add_chore(restore)
+    try:
+        tty.setraw(sys.stdin)
+        yield
+    finally:
+        restore()
+        subprocesses.remove_chore(restore)
+
+
+@contextmanager
+def _resized(resize: Callable[[], None]) -> Iterator[None]:
+    """Resizes the shell's terminal now, and whenever this one changes."""
+    resize()
+    before = signal.signal(signal.SIGWINCH, lambda *_: resize())
+    try:
+        yield
+    finally:
+        signal.signal(signal.SIGWINCH, before)

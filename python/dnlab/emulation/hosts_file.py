@@ -5,7 +5,7 @@ Every fault is an `InputError` that begins with FILE:LINE and has the cause and 
 import re
 from functools import partial
 from pathlib import Path
-from typing import NamedTuple, Optional
+from typing import Callable, NamedTuple
 
 from dnlab.emulation.experiment import (
     Ending, Experiment, Host, NetworkLine, Process, Settings, address_of, date_of, memory_of, positive_time_of, signal_of, time_of,
@@ -15,21 +15,26 @@ from dnlab.emulation.yaml_nodes import Value, root_of
 Found = dict[str, Value]
 
 
-def needed(parent: Value, found: Found, key: str, example: str) -> Value:
+def required(parent: Value, found: Found, key: str, example: str) -> Value:
     """Returns the value of a key that must be there."""
     if key not in found:
         parent.refuse(f"the key {key!r} is missing; expected {key}: {example}")
     return found[key]
 
 
+def read_in(found: Found, key: str, function: Callable[[str], int], example: str, default: int) -> int:
+    """Returns what a function makes of the text of a key, or the default without one."""
+    return found[key].read(function, example) if key in found else default
+
+
 def number_in(found: Found, key: str, least: int, most: int, default: int) -> int:
     """Returns the whole number of a key, or the default without one."""
-    return found[key].read(partial(whole_number, least, most), str(default)) if key in found else default
+    return read_in(found, key, partial(whole_number, least, most), str(default), default)
 
 
 def time_in(found: Found, key: str, default: int) -> int:
     """Returns the time of a key in ns, or the default without one."""
-    return found[key].read(time_of, "100ms") if key in found else default
+    return read_in(found, key, time_of, "100ms", default)
 
 
 def folder_of(value: Value, base: Path) -> Path:
@@ -90,7 +95,7 @@ def _host(key: Value, entry: Value, span: Span) -> Host:
     if not re.fullmatch(r"[a-z0-9]([a-z0-9-]{0,61}[a-z0-9])?", name) or name == "localhost":
         key.refuse(f"{name!r} is not a host's name; expected small letters, digits and hyphens, as web-1")
     found = entry.keys(_HOST, _HOST_SHADOW)
-    address = needed(entry, found, "ip_addr", "10.0.0.1").read(address_of, "10.0.0.1")
+    address = required(entry, found, "ip_addr", "10.0.0.1").read(address_of, "10.0.0.1")
     processes = found["processes"].items("[{path: curl}]") if "processes" in found else []
     return Host(key.line, name, address, tuple(_sysctl(found["sysctl"])) if "sysctl" in found else (),
                 tuple(_setup(found["setup"])) if "setup" in found else (),
@@ -123,7 +128,7 @@ def _setup(value: Value) -> list[str]:
 
 def _process(value: Value, span: Span) -> Process:
     found = value.keys(_PROCESS, _PROCESS_SHADOW)
-    path = needed(value, found, "path", "curl").text("curl")
+    path = required(value, found, "path", "curl").text("curl")
     if not path.strip() or path.endswith("/") or "\n" in path:
         found["path"].refuse(f"{path!r} is not a program; expected a name that PATH has, or a path, as curl"
                              " or /usr/sbin/nginx")
@@ -135,7 +140,7 @@ def _process(value: Value, span: Span) -> Process:
         value.line, path, tuple(_arguments(found["args"])) if "args" in found else (),
         tuple(_environment(found["environment"])) if "environment" in found else (), start,
         end if "shutdown_time" in found else None,
-        found["shutdown_signal"].read(signal_of, "SIGTERM") if "shutdown_signal" in found else 15,
+        read_in(found, "shutdown_signal", signal_of, "SIGTERM", 15),
         _ending(found["expected_final_state"]) if "expected_final_state" in found else Ending("exited", 0),
         user)
 
@@ -215,13 +220,14 @@ def experiment_of(text: bytes, file: str, folder: Path) -> Experiment:
         if key not in parts:
             root.refuse(f"the key {key!r} is missing; expected general, network and hosts")
     general = parts["general"].keys(_GENERAL, _GENERAL_SHADOW)
-    stop = needed(parts["general"], general, "stop_time", "15s").read(positive_time_of, "15s")
+    stop = required(parts["general"], general, "stop_time", "15s").read(positive_time_of, "15s")
     settings = _settings(parts["emulation"], folder) if "emulation" in parts else Settings()
     return Experiment(
         file, stop, number_in(general, "seed", 0, 2**64 - 1, 1), tuple(_network(parts["network"], stop)),
         tuple(hosts_in(parts["hosts"], Span(stop, settings.jitter_ns))),
         number_in(general, "steps", 1, 10**7, 10**7), settings,
-        tuple(_files(parts["files"])) if "files" in parts else (), _template(general, folder))
+        tuple(_files(parts["files"])) if "files" in parts else (),
+        folder_of(general["template_directory"], folder) if "template_directory" in general else None)
 
 
 def _own_keys(root: Value) -> dict[str, str]:
@@ -235,10 +241,6 @@ def _own_keys(root: Value) -> dict[str, str]:
     return {name: "" for _, name in names if name.startswith("x-")}
 
 
-def _template(general: Found, base: Path) -> Optional[Path]:
-    return folder_of(general["template_directory"], base) if "template_directory" in general else None
-
-
 def _rootfs(value: Value, base: Path) -> Path:
     path = folder_of(value, base)
     if re.search(r"[\s\"]", str(path)):
@@ -249,18 +251,13 @@ def _rootfs(value: Value, base: Path) -> Path:
 
 def _settings(value: Value, base: Path) -> Settings:
     found, usual = value.keys(_EMULATION), Settings()
-    start, memory = usual.start_date_ns, usual.memory_mib
-    limit = usual.limit_s * 10**9
-    if "start_date" in found:
-        start = found["start_date"].read(date_of, "2027-01-01")
-    if "memory" in found:
-        memory = found["memory"].read(memory_of, "512 MiB")
-    if "limit" in found:
-        limit = found["limit"].read(positive_time_of, "10 min")
+    limit = read_in(found, "limit", positive_time_of, "10 min", usual.limit_s * 10**9)
     return Settings(
         time_in(found, "syscall_cost", usual.syscall_ns), time_in(found, "clock_read", usual.clock_read_ns),
         number_in(found, "reads", 1, 1000, usual.reads), number_in(found, "polls", 0, 20, usual.polls),
-        start, memory, _rootfs(found["rootfs"], base) if "rootfs" in found else None,
+        read_in(found, "start_date", date_of, "2027-01-01", usual.start_date_ns),
+        read_in(found, "memory", memory_of, "512 MiB", usual.memory_mib),
+        _rootfs(found["rootfs"], base) if "rootfs" in found else None,
         -(-limit // 10**9), time_in(found, "jitter", usual.jitter_ns))
 
 

@@ -10,7 +10,6 @@ import os
 import shutil
 import subprocess
 import tempfile
-import time
 from contextlib import contextmanager, suppress
 from pathlib import Path
 from typing import Iterator, NamedTuple
@@ -53,17 +52,21 @@ def kernel() -> Kernel:
     """Returns the kernel of these sources, built if necessary. Raises `ResourceError` with what is missing.
 
     Prints a line on standard error if its libdnlab is not proved."""
-    found = _found()
+    found = _find_kernel()
     if found.is_proved is False:
         say("hosts", "libdnlab is the checked build of the sources, not proved: run ./dnlab prove to build"
               " the proved one")
     return found
 
 
-def _found() -> Kernel:
+def _find_kernel() -> Kernel:
     named = os.environ.get("DNLAB_KERNEL")
     if named:
-        return _given(Path(named))
+        folder = Path(named)
+        if not _is_whole(folder):
+            raise ResourceError(f"{folder}, which DNLAB_KERNEL names, has not {', '.join(FILES)}: name a folder that"
+                                " hosts/kernel/build has filled")
+        return Kernel(folder.resolve(), hashlib.sha256((folder / "linux").read_bytes()).hexdigest(), None)
     if not BUILD.is_file():
         raise ResourceError("the sources of the guest's kernel are not here: run tools/hosts of the repository, or"
                       " name a folder with a built kernel by the environment variable DNLAB_KERNEL")
@@ -75,18 +78,11 @@ def _found() -> Kernel:
         kept = Kernel(cache / found["kernel"], found["kernel"], found["proved"])
         if found["sources"] == sources and _is_whole(kept.folder):
             return kept
-    made = _made(cache)
+    made = _make_kernel(cache)
     with whole_file(note) as file:
         found = {"sources": sources, "kernel": made.checksum, "proved": made.is_proved}
         file.write(json.dumps(found).encode())
     return made
-
-
-def _given(folder: Path) -> Kernel:
-    if not _is_whole(folder):
-        raise ResourceError(f"{folder}, which DNLAB_KERNEL names, has not {', '.join(FILES)}: name a folder that"
-                      " hosts/kernel/build has filled")
-    return Kernel(folder.resolve(), hashlib.sha256((folder / "linux").read_bytes()).hexdigest(), None)
 
 
 def _is_whole(folder: Path) -> bool:
@@ -128,13 +124,13 @@ def _fingerprint() -> str:
     return seen.hexdigest()
 
 
-def _made(cache: Path) -> Kernel:
+def _make_kernel(cache: Path) -> Kernel:
     """Returns the kernel of the checksum, built if it is not there."""
     with TempDir(cache) as room:
-        prefix, is_proved = _library(room.path / "prefix")
+        prefix, is_proved = library_in(room.path / "prefix")
         done = subprocesses.run([str(BUILD), "--checksum", str(prefix)])
         if done.status:
-            raise _lacking(done.errors.decode(errors="replace"))
+            raise _missing_packages(done.errors.decode(errors="replace"))
         checksum = done.out.decode().strip()
         folder = cache / checksum
         with _locked(cache / f"{checksum}.lock"):
@@ -154,7 +150,7 @@ def _prune(cache: Path, used: Path) -> None:
             (cache / f"{old.name}.lock").unlink(missing_ok=True)
 
 
-def _library(prefix: Path) -> tuple[Path, bool | None]:
+def library_in(prefix: Path) -> tuple[Path, bool | None]:
     """Returns the prefix of libdnlab, and whether it is the proved one.
 
     In the repository it is made below `prefix`; else it is the installed one, of which that is not known."""
@@ -176,7 +172,7 @@ def _last(said: str) -> str:
     return lines[-1] if lines else "it gave no cause"
 
 
-def _lacking(said: str) -> ResourceError:
+def _missing_packages(said: str) -> ResourceError:
     missing = [line for line in said.splitlines() if line.startswith("missing: ")]
     if missing:
         names = missing[0].removeprefix("missing: ")
@@ -199,7 +195,7 @@ def _build(prefix: Path, work: Path, folder: Path) -> None:
             status = subprocesses.wait(process)
         errors.seek(0)
         if status:
-            raise _lacking(errors.read().decode(errors="replace"))
+            raise _missing_packages(errors.read().decode(errors="replace"))
     if not _is_whole(work):
         absent = ", ".join(name for name in FILES if not (work / name).is_file())
         raise ResourceError(f"the guest's kernel cannot be built: {BUILD} left no {absent}")
@@ -218,14 +214,9 @@ def _build(prefix: Path, work: Path, folder: Path) -> None:
 def _locked(path: Path) -> Iterator[None]:
     """Holds a lock, so that two calls build once; the second waits."""
     with open(path, "wb") as file:
-        is_told = False
-        while True:
-            try:
-                fcntl.flock(file, fcntl.LOCK_EX | fcntl.LOCK_NB)
-                break
-            except BlockingIOError:
-                if not is_told:
-                    say("hosts", "another call builds the kernel; waiting for it")
-                is_told = True
-                time.sleep(0.2)
+        try:
+            fcntl.flock(file, fcntl.LOCK_EX | fcntl.LOCK_NB)
+        except BlockingIOError:
+            say("hosts", "another call builds the kernel; waiting for it")
+            fcntl.flock(file, fcntl.LOCK_EX)
         yield

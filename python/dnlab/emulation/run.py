@@ -5,13 +5,12 @@ import os
 import tempfile
 from dataclasses import dataclass
 from pathlib import Path
-from typing import IO, Any, Iterator, NamedTuple, Optional
+from typing import Any, Iterator, NamedTuple, Optional
 
 from dnlab.emulation import guest
-from dnlab.emulation.experiment import Ending, Experiment, Host, NetworkLine, Process, check_network
-from dnlab.emulation.guest import Ran, seconds_done
+from dnlab.emulation.experiment import Ending, Experiment, Host, NetworkLine, Process, NetworkError, check_network
+from dnlab.emulation.guest import Ran, Terminal, seconds_done
 from dnlab.emulation.kernel_cache import Kernel
-from dnlab.emulation.terminal import Terminal
 from dnlab.errors import DIFFERS, INPUT, MACHINE, InputError, ProgramError
 from dnlab.io.files import whole_file
 from dnlab.io.scenario import MOST_BYTES
@@ -52,8 +51,7 @@ class Outcome:
 def outcomes(experiment: Experiment, out: Path) -> list[Outcome]:
     """Returns each process of the file with its end."""
     ends: dict[tuple[str, int], End] = {}
-    path = out / guest.EXITS
-    for line in path.read_text().splitlines() if path.is_file() else ():
+    for line in lines_in(out / guest.EXITS):
         host, index, kind, *numbers = line.split()
         number = int(numbers[0]) if len(numbers) > 1 else None
         ends[host, int(index)] = End(Ending(kind, number), int(numbers[-1]))
@@ -63,12 +61,11 @@ def outcomes(experiment: Experiment, out: Path) -> list[Outcome]:
 
 def counts(out: Path) -> dict[str, int]:
     """Returns what the guest counted; nothing if it ended before."""
-    path = out / guest.COUNTS
-    rows = [line.split() for line in path.read_text().splitlines()] if path.is_file() else []
+    rows = [line.split() for line in lines_in(out / guest.COUNTS)]
     return {row[0]: int(row[1]) for row in rows if len(row) == 2 and row[1].isdigit()}
 
 
-def told(outcome: Outcome, out: Path) -> str:
+def describe_outcome(outcome: Outcome, out: Path) -> str:
     """Returns how a process ended that was expected to end otherwise, with its last lines, as text."""
     process = outcome.process
     got = str(outcome.end.ending) if outcome.end else "did not end"
@@ -124,12 +121,6 @@ def summary(experiment: Experiment, kernel: Kernel, ran: Ran, out: Path, clock: 
         "wall_s": round(ran.wall_s, 3), "cpu_s": round(ran.cpu_s, 3)}
 
 
-def write_summary(found: dict[str, Any], out: Path) -> None:
-    """Writes summary.json into the output folder."""
-    with whole_file(out / SUMMARY) as file:
-        file.write((json.dumps(found, indent=2) + "\n").encode())
-
-
 _LATE = ("p50", "p99", "max")
 
 
@@ -143,20 +134,13 @@ class Options(NamedTuple):
     is_verified: bool = True
 
 
-def why_refused(out: Path, options: Options) -> Optional[str]:
-    """Returns why a host could not be set up as the file has it (a sysctl, a setup line, a user), or None."""
-    path = out / guest.FAILED
-    said = path.read_text(errors="replace").splitlines() if path.is_file() else []
-    return f"{said[0]} (before time 0; see {options.name}/{guest.CONSOLE})" if said else None
-
-
-def why_broken(experiment: Experiment, ran: Ran, out: Path, options: Options) -> Optional[str]:
+def run_fault(experiment: Experiment, ran: Ran, out: Path, options: Options) -> Optional[str]:
     """Returns why a run has no result (the limit, a dead guest, spent steps), or None if it has one."""
     if ran.is_over_limit:
         return _over_limit(experiment, out, options)
     known = counts(out)
     if not known or not (out / guest.EXITS).is_file():
-        lines = "".join(f"\n    {line}" for line in console(out)[-LAST_LINES:])
+        lines = "".join(f"\n    {line}" for line in lines_in(out / guest.CONSOLE)[-LAST_LINES:])
         return (f"the guest ended early ({options.name}/{guest.CONSOLE} has all); its last lines:"
                 f"{lines or ' none'}")
     if known.get("spent"):
@@ -174,18 +158,17 @@ def _over_limit(experiment: Experiment, out: Path, options: Options) -> str:
             " --limit SECONDS; a program that computes takes real time, and no simulated time")
 
 
-def console(out: Path) -> list[str]:
-    """Returns the lines that the guest's kernel printed."""
-    path = out / guest.CONSOLE
+def lines_in(path: Path) -> list[str]:
+    """Returns the lines of a file that the guest wrote; none without it."""
     return path.read_text(errors="replace").splitlines() if path.is_file() else []
 
 
-def judge(experiment: Experiment, ran: Ran, out: Path, options: Options) -> int:
+def print_verdict(experiment: Experiment, ran: Ran, out: Path, options: Options) -> int:
     """Prints how a run ended. Returns 1 if a process did not end as expected, or the link was late."""
     known, found = counts(out), outcomes(experiment, out)
     wrong = [one for one in found if not one.is_expected]
     for one in wrong:
-        say("hosts", f"{told(one, out)}")
+        say("hosts", f"{describe_outcome(one, out)}")
     unsettled = known.get("spins_unsettled", 0)
     if unsettled:
         say("hosts", f"programs that ran without a system call were interrupted {unsettled} times by real time:"
@@ -210,9 +193,6 @@ def _is_late(counts: dict[str, int], options: Options) -> bool:
     return True
 
 
-_BLOCK = 1 << 20
-
-
 def is_repeated(out: Path) -> bool:
     """Returns whether `dnlab alone` (`live` above 16 MiB) repeats report.txt from transcript.txt."""
     transcript = out / guest.TRANSCRIPT
@@ -227,19 +207,9 @@ def is_repeated(out: Path) -> bool:
             raise ProgramError(3, f"dnlab {command} ended with status {status}: {said}")
         made.seek(0)
         with open(out / guest.REPORT, "rb") as report:
-            parts = _blocks(made) if command == "alone" else _report_lines(made)
-            others = _blocks(report) if command == "alone" else iter(report)
-            return all(one == other for one, other in itertools.zip_longest(parts, others))
-
-
-def _blocks(file: IO[bytes]) -> Iterator[bytes]:
-    while block := file.read(_BLOCK):
-        yield block
-
-
-def _report_lines(file: IO[bytes]) -> Iterator[bytes]:
-    """Returns the report within what `live` wrote, which also has an answer (#<) to each command."""
-    return (line for line in file if not line.startswith(b"#<"))
+            # What `live` wrote also has an answer (#<) to each command.
+            parts = (line for line in made if command == "alone" or not line.startswith(b"#<"))
+            return all(one == other for one, other in itertools.zip_longest(parts, report))
 
 
 _LIMIT_S = 10**6
@@ -259,8 +229,8 @@ def experiment_of(link: str, shell: str, terminal: str) -> Experiment:
     made = Experiment("--shell", 10**15, 1, tuple(NetworkLine(0, line, 1) for line in lines), hosts)
     try:
         check_network(made)
-    except InputError as fault:
-        raise InputError(f"--shell {link!r}: {str(fault).split('network: ', 1)[-1]}") from None
+    except NetworkError as fault:
+        raise InputError(f"--shell {link!r}: {fault.cause}") from None
     return made
 
 
@@ -272,7 +242,7 @@ def run_shell(experiment: Experiment, kernel: Kernel, out: Path, terminal: Termi
     guest.run_by_wall_clock(kernel, out, _LIMIT_S, terminal)
     end = outcomes(experiment, out)[0].end
     if end is None or end.ending.number is None:
-        say("hosts", "the shell did not start: " + " ".join(console(out)[-2:]))
+        say("hosts", "the shell did not start: " + " ".join(lines_in(out / guest.CONSOLE)[-2:]))
         return MACHINE
     return end.ending.number if end.ending.kind == "exited" else 128 + end.ending.number
 
@@ -287,19 +257,21 @@ def run(experiment: Experiment, kernel: Kernel, out: Path, options: Options) -> 
         ran = guest.run_simulated(experiment, kernel, out, options.limit_s)
     else:
         ran = guest.run_by_wall_clock(kernel, out, options.limit_s)
-    refused = why_refused(out, options)
+    # Why a host could not be set up as the file has it: a sysctl, a setup line, a user.
+    refused = lines_in(out / guest.FAILED)
     if refused:
-        return _end(f"{experiment.file}: {refused}", INPUT)
-    broken = why_broken(experiment, ran, out, options)
+        return _end(f"{experiment.file}: {refused[0]} (before time 0; see {options.name}/{guest.CONSOLE})", INPUT)
+    broken = run_fault(experiment, ran, out, options)
     if broken:
         return _end(broken, MACHINE)
     repeated: Optional[bool] = is_repeated(out) if options.is_verified else None
     found = summary(experiment, kernel, ran, out, options.clock, repeated)
-    write_summary(found, out)
+    with whole_file(out / SUMMARY) as file:
+        file.write((json.dumps(found, indent=2) + "\n").encode())
     if repeated is False:
         return _end(f"{options.name}/{guest.TRANSCRIPT} does not repeat {guest.REPORT}: this is a"
                     " fault of dnlab, please report it", MACHINE)
-    return judge(experiment, ran, out, options)
+    return print_verdict(experiment, ran, out, options)
 
 
 def _end(said: str, status: int) -> int:

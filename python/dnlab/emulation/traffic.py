@@ -8,17 +8,15 @@ from typing import Any, Iterator, NamedTuple, Optional
 
 import numpy as np
 
-from dnlab.analysis.commands import injected_of
+from dnlab.analysis.view import UnfitError, View, plan_of_run, view_of_run
+from dnlab.analysis.names import headers_in
 from dnlab.analysis.packets import DELIVERED, DROPPED, Packets
 from dnlab.analysis.quantities import place
-from dnlab.analysis.view import View
-from dnlab.emulation import guest
 from dnlab.emulation.run import SUMMARY, VERSION
-from dnlab.errors import InputError, ParseError
-from dnlab.io import arrivals, report, scenario
+from dnlab.errors import InputError, ProgramError
+from dnlab.io import arrivals
 from dnlab.io.arrivals import Arrival, Omissions
-from dnlab.io.report import Recorded
-from dnlab.io.scenario_parts import Plan
+from dnlab.programs import program
 
 _SYN = 0x02
 _HALF = 1 << 31
@@ -155,30 +153,24 @@ def rows(folder: Path) -> list[Row]:
 
 
 def _joined(folder: Path, names: dict[str, str]) -> tuple[View, dict[Ends, Pair]]:
-    """Joins the report with the transcript; packets are labelled by the number of their pair."""
-    plan, experiment = _read(folder)
+    """Joins the report with the transcript; packets are labelled by the number of their pair. Raises `InputError` if one of them is
+    incomplete."""
     pairs: dict[Ends, Pair] = {}
     numbers: dict[Pair, str] = {}
     labels: dict[str, str] = {}
-    for header in injected_of(plan.commands).words():
-        protocol, source, port, target, target_port = header
-        ends = protocol, source, int(port), target, int(target_port)
-        if ends not in pairs:
-            _add(pairs, ends, names)
-        labels[" ".join(header)] = numbers.setdefault(pairs[ends], str(len(numbers)))
-    return View(experiment, plan._replace(names=labels)), pairs
-
-
-def _read(folder: Path) -> tuple[Plan, Recorded]:
-    """Reads the transcript and the report. Raises `InputError` if one of them is incomplete."""
-    name = guest.TRANSCRIPT
     try:
-        plan = next(iter(scenario.read((folder / name).read_bytes()).values()))
-        name = guest.REPORT
-        return plan, next(report.read(folder / name))
-    except (ParseError, StopIteration, OSError) as fault:
-        cause = str(fault) or "it has no experiment"
+        for header in headers_in(plan_of_run(folder)):
+            protocol, source, port, target, target_port = header
+            ends = protocol, source, int(port), target, int(target_port)
+            if ends not in pairs:
+                _add(pairs, ends, names)
+            labels[" ".join(header)] = numbers.setdefault(pairs[ends], str(len(numbers)))
+        return view_of_run(folder, program(), labels), pairs
+    except UnfitError as unfit:
+        name, cause = unfit.args
         raise InputError(f"{folder}/{name}: {cause}: name the folder of a run that ended") from None
+    except ProgramError as failed:
+        raise InputError(failed.said) from None
 
 
 def _add(pairs: dict[Ends, Pair], ends: Ends, names: dict[str, str]) -> None:

@@ -133,15 +133,15 @@ class Value:
             if name in foreign:
                 key.refuse(f"{name!r} is a key of Shadow's files without a meaning here: {foreign[name]}")
             if name not in known:
-                key.refuse(f"no key {name!r}{meant(name, known)}; expected {', '.join(known)}")
+                key.refuse(f"no key {name!r}{suggestion(name, known)}; expected {', '.join(known)}")
             found[name] = value
         return found
 
 
-def meant(word: str, known: Iterable[str]) -> str:
+def suggestion(word: str, known: Iterable[str]) -> str:
     """Returns a question about the nearest known word, or nothing.
 
-    >>> meant("stop_tme", ["seed", "stop_time"])
+    >>> suggestion("stop_tme", ["seed", "stop_time"])
     ' (did you mean stop_time?)'
     """
     near = difflib.get_close_matches(word, list(known), 1, 0.6)

@@ -5,6 +5,7 @@ longer ones are refused, cut or split, as requested.
 """
 import csv
 import heapq
+import io
 import socket
 import struct
 from collections import Counter
@@ -13,7 +14,7 @@ from typing import BinaryIO, Iterable, Iterator, NamedTuple, Optional, Sequence,
 
 import dpkt
 
-from dnlab.errors import InputError
+from dnlab.errors import InputError, reading
 
 LEAST, MOST = 40, 1500
 ETHERNET, RAW = 1, 101
@@ -24,6 +25,8 @@ _DISORDER = 4096
 _LINKS = {113: (14, 0x0800, 16), 276: (0, 0x0800, 20)}
 _COLUMNS = ("moment", "seconds", "size", "protocol", "source", "source_port", "target", "target_port")
 _NUMBERS = {6: "tcp", 17: "udp"}
+# How a capture begins: pcapng, and pcap in both orders of bytes.
+_NEW, _BIG, _LITTLE = b"\n\r\r\n", (b"\xa1\xb2\xc3\xd4", b"\xa1\xb2\x3c\x4d"), (b"\xd4\xc3\xb2\xa1", b"\x4d\x3c\xb2\xa1")
 
 
 class Arrival(NamedTuple):
@@ -46,7 +49,11 @@ class Arrival(NamedTuple):
         'inject udp 10.0.0.1 1000 10.0.1.1 2000 1500'
         """
         return (f"inject {self.protocol} {self.source} {self.source_port} {self.target} {self.target_port}"
-                f" {max(self.size, LEAST)}")
+                f" {self.accepted()}")
+
+    def accepted(self) -> int:
+        """Returns its size on the link."""
+        return max(self.size, LEAST)
 
 
 class Omissions(Counter[str]):
@@ -60,16 +67,12 @@ class Omissions(Counter[str]):
 def of_file(path: str, left: Omissions) -> Iterator[Arrival]:
     """Yields the packets of a capture or a table, in order of time. Raises `InputError` with the packet or line."""
     try:
-        with open(path, "rb") as file:
-            magic = file.read(4)
-            file.seek(0)
-            if magic in (b"\n\r\r\n", b"\xa1\xb2\xc3\xd4", b"\xd4\xc3\xb2\xa1", b"\xa1\xb2\x3c\x4d", b"\x4d\x3c\xb2\xa1"):
-                yield from _in_order(_captured(file, magic == b"\n\r\r\n", path, left), path)
-                return
-        with open(path, encoding="utf-8", newline="") as text:
-            yield from _in_order(_tabled(text, path), path)
-    except OSError as fault:
-        raise InputError(f"{path}: {fault.strerror}") from None
+        with reading(path), open(path, "rb") as file:
+            magic = file.peek(4)[:4]
+            if magic == _NEW or magic in _BIG + _LITTLE:
+                yield from _in_order(_captured(file, magic == _NEW, path, left), path)
+            else:
+                yield from _in_order(_tabled(io.TextIOWrapper(file, encoding="utf-8", newline=""), path), path)
     except UnicodeDecodeError:
         raise InputError(f"{path}: it is neither a capture (pcap or pcapng) nor CSV") from None
 
@@ -77,13 +80,12 @@ def of_file(path: str, left: Omissions) -> Iterator[Arrival]:
 def link_of(path: str) -> int:
     """Returns the link type of a capture, as libpcap's number; `RAW` for a table."""
     with open(path, "rb") as file:
-        begin = file.read(24)
-        file.seek(0)
-        if begin[:4] == b"\n\r\r\n":
+        begin = file.peek(24)
+        if begin[:4] == _NEW:
             return int(dpkt.pcapng.Reader(file).datalink())
-    if begin[:4] in (b"\xa1\xb2\xc3\xd4", b"\xa1\xb2\x3c\x4d"):
-        return int(struct.unpack(">I", begin[20:24])[0])
-    return int(struct.unpack("<I", begin[20:24])[0]) if begin[:4] in (b"\xd4\xc3\xb2\xa1", b"\x4d\x3c\xb2\xa1") else RAW
+    if begin[:4] in _BIG + _LITTLE:
+        return int.from_bytes(begin[20:24], "big" if begin[:4] in _BIG else "little")
+    return RAW
 
 
 def _in_order(arrivals: Iterator[Arrival], path: str) -> Iterator[Arrival]:
@@ -207,14 +209,13 @@ def _row(row: "dict[str, str]") -> Arrival:
 
 def merged(files: Sequence[Iterable[Arrival]], align: bool) -> Iterator[Arrival]:
     """Yields the packets of several files in order of time. With `align` each file starts at 0, else they share a clock."""
-    return iter(heapq.merge(*(_aligned(one) if align else one for one in files), key=lambda one: one.moment))
+    def aligned(arrivals: Iterable[Arrival]) -> Iterator[Arrival]:
+        begin: Optional[int] = None
+        for one in arrivals:
+            begin = one.moment if begin is None else begin
+            yield one._replace(moment=one.moment - begin)
 
-
-def _aligned(arrivals: Iterable[Arrival]) -> Iterator[Arrival]:
-    begin: Optional[int] = None
-    for one in arrivals:
-        begin = one.moment if begin is None else begin
-        yield one._replace(moment=one.moment - begin)
+    return iter(heapq.merge(*(aligned(one) if align else one for one in files), key=lambda one: one.moment))
 
 
 def fitting(arrivals: Iterable[Arrival], large: str, left: Omissions) -> Iterator[Arrival]:

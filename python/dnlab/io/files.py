@@ -14,7 +14,7 @@ from functools import lru_cache, partial
 from pathlib import Path
 from typing import IO, Any, BinaryIO, Iterator, Mapping, NamedTuple, Optional, Sequence, Union, cast
 
-from dnlab.errors import InputError, ParseError
+from dnlab.errors import InputError, ParseError, reading
 from dnlab.io.scenario_parts import Plan
 from dnlab.processes import subprocesses
 from dnlab.processes.subprocesses import lock
@@ -26,10 +26,10 @@ GZIP = b"\x1f\x8b"
 
 
 @contextmanager
-def reading_gzip() -> Iterator[None]:
-    """Raises `ParseError` if data read in the block is not valid gzip, or is cut."""
+def opened_gzip(source: Any) -> Iterator[Any]:
+    """Yields a binary stream that can `peek`, decompressed if it is gzip. Raises `ParseError` if its gzip is damaged or cut."""
     try:
-        yield
+        yield gzip.open(source) if source.peek(len(GZIP))[:len(GZIP)] == GZIP else source
     except (EOFError, zlib.error, gzip.BadGzipFile) as fault:
         raise ParseError(1, f"its gzip is cut or damaged ({fault})") from None
 
@@ -43,8 +43,8 @@ def unpacked(data: bytes, most: int = MOST_TEXT) -> bytes:
     """
     if not data.startswith(GZIP):
         return data
-    with reading_gzip(), gzip.open(io.BytesIO(data)) as plain:
-        found = plain.read(most + 1)
+    with opened_gzip(io.BufferedReader(io.BytesIO(data))) as plain:  # type: ignore[arg-type]
+        found: bytes = plain.read(most + 1)
     if len(found) > most:
         raise ParseError(1, f"decompressed it has more than {most} bytes")
     return found
@@ -64,10 +64,6 @@ def _remove_leftovers(folder: Path) -> None:
                 if held is not None:
                     path.unlink()
                     held.close()
-
-
-def _leave(path: Path) -> None:
-    path.unlink(missing_ok=True)
 
 
 def _part_in(folder: Path) -> tuple[Path, IO[bytes]]:
@@ -105,7 +101,7 @@ def whole_file(name: Union[str, Path]) -> Iterator[BinaryIO]:
     _remove_leftovers(target.parent)
     with subprocesses.signals_delayed():
         path, held = _part_in(target.parent)
-        chore = partial(_leave, path)
+        chore = partial(path.unlink, missing_ok=True)
         subprocesses.add_chore(chore)
     try:
         with with_name(name), held, os.fdopen(os.dup(held.fileno()), "wb") as file:
@@ -116,7 +112,7 @@ def whole_file(name: Union[str, Path]) -> Iterator[BinaryIO]:
                 subprocesses.remove_chore(chore)
     finally:
         with subprocesses.signals_delayed():
-            _leave(path)
+            chore()
             subprocesses.remove_chore(chore)
 
 
@@ -198,12 +194,11 @@ def write_beside(report: Union[str, Path], origin: Origin) -> None:
 def read_beside(report: Union[str, Path]) -> Optional[Origin]:
     """Returns the record of a stored report, or None if there is none, or the file of that name is something else."""
     path = beside(report)
-    try:
-        told: Any = json.loads(path.read_text(encoding="utf-8"))
-    except FileNotFoundError:
+    if not path.exists():
         return None
-    except OSError as fault:
-        raise InputError(f"{path}: {fault.strerror}") from None
+    try:
+        with reading(path):
+            told: Any = json.loads(path.read_text(encoding="utf-8"))
     except ValueError:
         return None
     if not isinstance(told, dict) or told.get(_KEY) != _FORM:

@@ -56,9 +56,9 @@ class Setting(NamedTuple):
         """Returns the rules in search order."""
         return sorted((rule_of(one.text) for one in self.sets if one.word == "add"), key=lambda rule: rule.number)
 
-    def pipes(self) -> dict[int, tuple[Config, str]]:
-        """Returns the last `config` of each pipe, parsed and as text."""
-        return {one.pipe: (config_of(one.line, one.text), one.text) for one in self.sets if one.pipe is not None}
+    def pipes(self) -> dict[int, Config]:
+        """Returns the last `config` of each pipe."""
+        return {one.pipe: config_of(one.line, one.text) for one in self.sets if one.pipe is not None}
 
     def one_pass(self) -> bool:
         said = [one.text.split()[1] for one in self.sets if one.word == "one_pass"]
@@ -104,16 +104,6 @@ def iperf_of(sends: Sequence[Command]) -> list[str]:
         found.append(f"# after {command.moment / 10**9:g} s, {one.name()}: on {one.target}: iperf3 -s -p {port}; on {one.source}: "
                      f"iperf3 -c {one.target} -p {port} {how}")
     return found
-
-
-def number_behind(word: str, text: str) -> Optional[str]:
-    """Returns the word after a word, or None.
-
-    >>> number_behind("target", "pipe 1 config codel target 5ms")
-    '5ms'
-    """
-    found = re.search(rf"\b{word} (\S+)", text)
-    return found[1] if found else None
 
 
 def printable(text: str) -> str:
@@ -169,10 +159,10 @@ def _differs(setting: Setting) -> list[str]:
             "# Packets that match no rule are denied, as in the scenario, including your own login: incoming packets need a rule of their own.",
             "# dummynet works in ticks of 1/kern.hz: times are whole ticks (sysctl kern.hz, 1000 by default).",
             "# one_pass 1: a packet that leaves a pipe is accepted; on a router a packet passes the rules coming in and going out."]
-    configs = [one for one, _ in setting.pipes().values()]
+    configs = setting.pipes().values()
     if any(one.plr for one in configs):
         said.append("# plr uses its own random numbers: as many losses on average, but other packets.")
-    if any(" mask " in text for _, text in setting.pipes().values()):
+    if any(one.mask for one in configs):
         said.append("# mask: at most 256 instances in the scenario; here one for each flow, in buckets.")
     return said
 

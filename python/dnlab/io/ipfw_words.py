@@ -8,7 +8,7 @@ import socket
 from decimal import Decimal, InvalidOperation
 from typing import NamedTuple
 
-from dnlab.io.scenario_parts import MASKS, SCALES
+from dnlab.io.scenario_parts import MASKS, SCALES, rate_text
 
 SAME, REWRITTEN, APPROXIMATED, DROPPED, REFUSED = "same", "rewritten", "approximated", "dropped", "refused"
 KINDS = (SAME, REWRITTEN, APPROXIMATED, DROPPED, REFUSED)
@@ -47,8 +47,7 @@ def rate(word: str) -> How:
     if re.fullmatch(r"(0|[1-9][0-9]*)([KMG]?(bit/s|Byte/s))?", word):
         return How(word)
     whole = int(bits)
-    scale = next((one for one in "GMK" if whole and whole % SCALES[one] == 0), "")
-    return How(f"{whole // SCALES[scale]}{scale}bit/s", "" if whole == bits else f"`bw {word}` is {whole} bit/s, rounded down")
+    return How(rate_text(whole), "" if whole == bits else f"`bw {word}` is {whole} bit/s, rounded down")
 
 
 def delay(word: str) -> How:

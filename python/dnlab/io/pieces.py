@@ -1,123 +1,132 @@
-"""Finds the experiments of a report by their headings, without parsing the rest."""
-import gzip
+"""Finds the experiments of a report, by the headings of its text or by the counters of its rows, without parsing the rest."""
 import io
+import mmap
 import os
 import re
 import tempfile
-from contextlib import contextmanager
 from dataclasses import dataclass, field, replace
 from pathlib import Path
-from typing import IO, Any, BinaryIO, Callable, Iterable, Iterator, Optional, Union
+from typing import IO, TYPE_CHECKING, Any, BinaryIO, Iterable, Iterator, Optional, Sequence, Union
 
-from dnlab.errors import ParseError
-from dnlab.io.files import GZIP, reading_gzip
+from dnlab.errors import ParseError, RowError
+from dnlab.io.files import GZIP, opened_gzip
+
+if TYPE_CHECKING:
+    from dnlab.io.rows import Records
 
 _HEADING = re.compile(rb"experiment ([a-z0-9_-]{1,32})")
-_MARK = b"experiment "
-# Bytes to search for headings at once, and to read in columns at once.
-_LOOK = 1 << 22
+_MARK = b"\nexperiment "
+# Bytes in which to count lines at once, and to read in columns at once.
+LOOK = 1 << 22
+BLOCK = 1 << 18
 # No line of a report is longer.
 _LONGEST = 1 << 22
-_BLOCK = 1 << 18
+# The first bytes of a file of rows, which no text has, and the bytes of a row.
+NPY = b"\x93NUMPY"
+_HEADER, _ROW = 512, 40
 
 
 @dataclass(frozen=True)
 class Piece:
-    """Where an experiment is: its heading's line, and the bytes after it, in a file or in memory."""
+    """Where an experiment is in a file: its heading's line, and the bytes after it; or its rows, `begin` to `end`, without those of
+    the counters, for which `line` is -1."""
     name: str
     line: int
-    path: Optional[str] = None
-    begin: int = 0
-    end: int = 0
-    text: Optional[bytes] = None
-    # What must live as long as this: the decompressed bytes of a file.
+    path: str
+    begin: int
+    end: int
+    # What must live as long as this: the bytes of a stream.
     keep: Any = field(default=None, compare=False, repr=False)
 
-    def __len__(self) -> int:
-        return self.end - self.begin
+    def size(self) -> int:
+        """Returns its length in bytes."""
+        return (self.end - self.begin) * (1 if self.line >= 0 else _ROW)
+
+    def read(self) -> "Records":
+        """Parses the experiment. Raises `ParseError` with the line, or `RowError` with the row."""
+        if self.line >= 0:
+            from dnlab.io.report import read_text
+
+            return read_text(self.name, self.line, self.blocks())
+        from dnlab.io.rows import records_of, rows_at
+
+        rows, kind = rows_at(self.path)
+        return records_of(self.name, rows[self.begin:self.end], kind[self.begin:self.end], self.begin, rows[self.end])
 
     def blocks(self) -> Iterator[bytes]:
-        """Yields its bytes, in blocks of whole lines."""
-        if self.text is not None:
-            with io.BytesIO(self.text) as source:
-                yield from _blocks(source, _BLOCK, len(self))
-        else:
-            assert self.path is not None
-            with open(self.path, "rb") as source:
-                source.seek(self.begin)
-                yield from _blocks(source, _BLOCK, len(self))
+        """Yields its bytes, in blocks of whole lines; the last may lack its line feed."""
+        with open(self.path, "rb") as source:
+            source.seek(self.begin)
+            rest, left = b"", self.end - self.begin
+            while more := source.read(min(BLOCK, left)):
+                left -= len(more)
+                end = more.rfind(b"\n") + 1
+                if end:
+                    yield rest + more[:end]
+                    rest = b""
+                rest += more[end:]
+            if rest:
+                yield rest
 
 
-class _TooLong(Exception):
-    """A line is longer than a block."""
+def experiments_in_rows(file: BinaryIO) -> int:
+    """Returns the number of experiments of a file of rows that one call of the program wrote, by its last row, without NumPy; 0 if it
+    is no such file, or was cut."""
+    size = file.seek(0, os.SEEK_END)
+    file.seek(max(0, size - _ROW))
+    last = file.read(_ROW)
+    file.seek(0)
+    is_rows = file.read(len(NPY)) == NPY and size > _HEADER and (size - _HEADER) % _ROW == 0
+    # The columns `kind`, 22 for counters, and `experiment`, from 0.
+    return last[39] + 1 if is_rows and last[36] == 22 else 0
 
 
-@contextmanager
-def _at_line(line: Callable[[], int]) -> Iterator[None]:
-    """Raises `ParseError`, with its number, for a line in the block that is too long."""
-    try:
-        yield
-    except _TooLong:
-        raise ParseError(line(), f"a line of more than {_LONGEST} bytes, which no report has") from None
-
-
-def _blocks(source: BinaryIO, size: int, most: Optional[int] = None) -> Iterator[bytes]:
-    """Yields the bytes of a source, in blocks of whole lines; the last may lack its line feed."""
-    rest = b""
-    left = most
-    while True:
-        more = source.read(size if left is None else min(size, left))
-        if not more:
-            break
-        if left is not None:
-            left -= len(more)
-        end = more.rfind(b"\n") + 1
-        if not end:
-            rest += more
-            if len(rest) > _LONGEST:
-                raise _TooLong
-            continue
-        yield rest + more[:end]
-        rest = more[end:]
-    if rest:
-        yield rest
-
-
-def pieces(source: Union[str, Path, BinaryIO], wanted: Iterable[str] = ()) -> Iterator[Piece]:
+def pieces(source: Union[str, Path, BinaryIO], wanted: Iterable[str] = (), names: Optional[Sequence[str]] = None) -> Iterator[Piece]:
     """Yields the experiments of a report, in order, or only the wanted ones.
 
-    A file is only searched; for a stream, one experiment at a time is in memory. gzip data is decompressed. Bytes between headings
-    are not checked here."""
+    A file is only searched; a stream, and gzip data, are copied to a temporary file. Bytes between headings are not checked here.
+    `names` are the names of the experiments of rows, which only the scenario has; without it they are numbers, from 0."""
     if isinstance(source, (str, Path)):
         with open(source, "rb") as file:
-            if file.read(len(GZIP)) != GZIP:
-                file.seek(0)
-                yield from _found(file, os.fspath(source), set(wanted))
+            begin = file.read(len(NPY))
+            if not begin.startswith(GZIP):
+                found = _in_rows if begin == NPY else _in_text
+                yield from found(os.fspath(source), set(wanted), names)
                 return
             file.seek(0)
-            unpacked = _Unpacked(file)
-        for piece in pieces(unpacked.path, wanted):
-            yield replace(piece, keep=unpacked)
+            copied = _Copied(file)
     else:
-        stream: Any = source if hasattr(source, "peek") else io.BufferedReader(source)  # type: ignore[arg-type]
-        if stream.peek(len(GZIP))[:len(GZIP)] != GZIP:
-            yield from _found(stream, None, set(wanted))
-            return
-        with gzip.open(stream) as plain, reading_gzip():
-            yield from _found(plain, None, set(wanted))  # type: ignore[arg-type]
+        copied = _Copied(source if hasattr(source, "peek") else io.BufferedReader(source))  # type: ignore[arg-type]
+    for piece in pieces(copied.path, wanted, names):
+        yield replace(piece, keep=copied)
 
 
-class _Unpacked:
-    """The decompressed bytes of a gzip file, in a temporary file without a name, or whose name is removed with this object."""
+def _in_rows(path: str, wanted: set[str], names: Optional[Sequence[str]]) -> Iterator[Piece]:
+    """Yields the experiments of rows. Raises `ParseError` if the scenario has another number of them."""
+    from dnlab.io.rows import ends_of, rows_at
 
-    def __init__(self, packed: BinaryIO) -> None:
+    ends = ends_of(rows_at(path)[1]).tolist()
+    if names is not None and len(names) != len(ends):
+        raise RowError(ends[-1] + 1 if ends else 0, f"the rows end after {len(ends)} experiments, but the scenario has {len(names)}:"
+                       " give the scenario that was run")
+    for name, begin, end in zip(names or map(str, range(len(ends))), [0, *(end + 1 for end in ends)], ends):
+        if not wanted or name in wanted:
+            yield Piece(name, -1, path, begin, end)
+
+
+class _Copied:
+    """The bytes of a stream, decompressed, in a temporary file without a name, or whose name is removed with this object."""
+
+    def __init__(self, source: Any) -> None:
         has_places = os.path.isdir(f"/proc/{os.getpid()}/fd")
         self.file: IO[bytes] = tempfile.TemporaryFile() if has_places else tempfile.NamedTemporaryFile()
         self.path = f"/proc/{os.getpid()}/fd/{self.file.fileno()}" if has_places else str(self.file.name)
-        lines = 0
-        with gzip.open(packed) as plain, reading_gzip(), _at_line(lambda: lines + 1):
-            for block in _blocks(plain, _LOOK):  # type: ignore[arg-type]
-                lines += _lines(block, 0, len(block))
+        with opened_gzip(source) as stream:
+            is_text, line = stream.peek(len(NPY))[:len(NPY)] != NPY, 1
+            while block := stream.read(_LONGEST):
+                if is_text and len(block) == _LONGEST and b"\n" not in block:
+                    raise ParseError(line, f"a line of more than {_LONGEST} bytes, which no report has")
+                line += block.count(b"\n")
                 self.file.write(block)
         self.file.flush()
 
@@ -126,77 +135,26 @@ class _Unpacked:
         return type(None), ()
 
 
-def _found(file: BinaryIO, path: Optional[str], wanted: set[str]) -> Iterator[Piece]:
-    finder = _Finder(path, wanted)
-    block = b""
-    with _at_line(lambda: finder.line + 1):
-        for block in _blocks(file, _LOOK):
-            yield from finder.look(block)
-    if block and not block.endswith(b"\n"):
-        raise ParseError(finder.line + 1, "the last line has no line feed")
-    yield from finder.close()
-
-
-class _Finder:
-    """Finds headings in successive blocks of whole lines."""
-
-    def __init__(self, path: Optional[str], wanted: set[str]) -> None:
-        self.path = path
-        self.wanted = wanted
-        self.names: set[str] = set()
-        self.line = 0
-        self.place = 0
-        self.name: Optional[str] = None
-        self.heading = 0
-        self.begin = self.end = 0
-        self.kept: list[bytes] = []
-
-    def look(self, block: bytes) -> Iterator[Piece]:
-        at = 0
-        while at < len(block):
-            if block.startswith(_MARK, at) or self.name is None:
-                yield from self.close()
-                at = self.begun(block, at)
-            to = block.find(b"\n" + _MARK, max(at - 1, 0)) + 1 or len(block)
-            self.line += _lines(block, at, to)
-            self.end = self.place + to
-            if self.path is None and self.is_wanted():
-                self.kept.append(block[at:to])
-            at = to
-        self.place += len(block)
-
-    def begun(self, block: bytes, at: int) -> int:
-        """Parses the heading that must be at a position. Returns where it ends."""
-        end = block.find(b"\n", at)
-        line = block[at:end if end >= 0 else len(block)]
-        found = _HEADING.fullmatch(line)
-        self.line += end >= 0
+def _in_text(path: str, wanted: set[str], _: Optional[Sequence[str]]) -> Iterator[Piece]:
+    """Yields the experiments of a text, by its headings."""
+    with open(path, "rb") as file:
+        size = os.fstat(file.fileno()).st_size
+        text: Any = mmap.mmap(file.fileno(), 0, access=mmap.ACCESS_READ) if size else b""
+    names: set[str] = set()
+    begin, line = 0, 1
+    while begin < size:
+        end = (text.find(b"\n", begin) + 1 or size + 1) - 1
+        found = _HEADING.fullmatch(text[begin:min(end, begin + 99)])
         if not found:
-            shown = line[:60].decode("ascii", "replace")
-            raise ParseError(self.line + (end < 0), f"expected `experiment NAME` here: {shown!r}")
-        self.name = found[1].decode("ascii")
-        if self.name in self.names:
-            raise ParseError(self.line, f"a second experiment {self.name}")
-        self.names.add(self.name)
-        self.heading = self.line
-        end = end + 1 if end >= 0 else len(block)
-        self.begin = self.end = self.place + end
-        return end
-
-    def is_wanted(self) -> bool:
-        return not self.wanted or self.name in self.wanted
-
-    def close(self) -> Iterator[Piece]:
-        """Yields the experiment that ends here."""
-        if self.name is not None and self.is_wanted():
-            if self.path is None:
-                text = b"".join(self.kept)
-                yield Piece(self.name, self.heading, None, 0, len(text), text)
-            else:
-                yield Piece(self.name, self.heading, self.path, self.begin, self.end)
-        self.kept = []
-        self.name = None
-
-
-def _lines(block: bytes, begin: int, end: int) -> int:
-    return block.count(b"\n", begin, end)
+            raise ParseError(line, f"expected `experiment NAME` here: {text[begin:min(end, begin + 60)].decode('ascii', 'replace')!r}")
+        name = found[1].decode("ascii")
+        if name in names:
+            raise ParseError(line, f"a second experiment {name}")
+        names.add(name)
+        after = text.find(_MARK, end) + 1 or size
+        lines = sum(text[place:min(place + LOOK, after)].count(b"\n") for place in range(begin, after, LOOK))
+        if text[after - 1:after] != b"\n":
+            raise ParseError(line + lines, "the last line has no line feed")
+        if not wanted or name in wanted:
+            yield Piece(name, line, path, min(end + 1, size), after)
+        begin, line = after, line + lines

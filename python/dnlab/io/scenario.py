@@ -3,18 +3,87 @@
 `Judged` finds the first fault and its line, as `dnlab check` must; `read` returns the experiments with their commands. Needs only
 Python, and simulates nothing.
 """
+import importlib.util
 import re
-from contextlib import suppress
-from typing import Iterator, NamedTuple, Optional, Union
+from typing import TYPE_CHECKING, Iterator, NamedTuple, Optional, Sequence, Union
 
 from dnlab.errors import ParseError
-from dnlab.io.scenario_parts import MOST_BYTES, MOST_EXPERIMENTS, MOST_LINE, Command, Commands, Plan, Run, Sends
-from dnlab.io.scenario_words import BadWord, Told, Words, command, experiment
+from dnlab.io.scenario_parts import (HEADER, MASKS, MOMENTS, MOST_BYTES, MOST_EXPERIMENTS, MOST_LINE, NUMBER, OPTIONS,
+                                     SSTHRESH, STEPS, WINDOW, Command, Commands, Plan, Run, Sends, config_of)
+
+if TYPE_CHECKING:
+    from dnlab.io.rows import Ints
 
 __all__ = ["Command", "Judged", "MOST_BYTES", "MOST_EXPERIMENTS", "MOST_LINE", "Plan", "Sends", "read"]
 
 # Below this number of injected packets, loading NumPy costs more than it saves.
 MANY = 1000
+# The numbers of lines, which the patterns have as `#port`, with their ranges. `upto` ends a range of ports.
+RANGES = {"moment": MOMENTS, "seed": (0, 2**64 - 1), "budget": (1, 65535), "steps": (1, 10**7), "rule": (0, 99999),
+          "number": (1, 65535), "octet": (0, 255), "prefix": (0, 32), "port": (0, 65535), "upto": (0, 65535),
+          "size": (40, 1500), "count": (1, 10**6), "gap": (0, 10**12), "smss": (64, 1460), "ssthresh": (1, 10**9),
+          "window": (1, 65535), "rto": (1, 60000), "switch": (0, 1)}
+_IP = r"#octet\.#octet\.#octet\.#octet"
+_END = rf"(?:any|{_IP}(?:/#prefix)?)(?: #port(?:-#upto)?)?"
+_ENDS = rf"(?P<source>{_IP}) #port (?P<target>{_IP}) #port"
+# The arguments of each command.
+COMMANDS = {
+    "add": rf" #rule (?:allow|deny|count|skipto #rule|pipe #number) (?:ip|tcp|udp) from {_END} to {_END}",
+    "delete": " #rule", "pipe": f" (?:delete #number|show|#number config{OPTIONS})", "show": "",
+    "inject": f" (?:tcp|udp) {_ENDS} #size", "train": f" #number (?:tcp|udp) {_ENDS} #size count #count gap #gap",
+    "flow": f" #number {_ENDS} smss #smss segments #count(?: ssthresh #ssthresh| window #window| rto (?:#rto|adaptive))*",
+    "stop": " #number", "one_pass": " #switch", "trace": " #switch", "end": ""}
+# Options, which are in any order, but once.
+_OPTIONS = {"pipe": ("bw", "delay", "queue", "plr", "codel", "target", "interval", "mask", *MASKS),
+            "flow": ("ssthresh", "window", "rto")}
+
+
+def _pattern(words: str) -> "re.Pattern[str]":
+    parts = re.split("#([a-z]+)", words)
+    return re.compile("".join(f"(?P<{part}_{place}>{NUMBER})" if place % 2 else part for place, part in enumerate(parts)))
+
+
+_HEADING = _pattern("experiment (?P<name>[a-z0-9_-]{1,32}) seed #seed budget #budget(?: steps #steps)?")
+_COMMANDS = {word: _pattern(f"@#moment {word}{more}") for word, more in COMMANDS.items()}
+
+
+class BadLine(Exception):
+    """A line is none of docs/reference/scenario.md by itself: `badword` or `outofrange`."""
+
+
+def read_line(line: int, words: Sequence[str]) -> Union[Plan, Command]:
+    """Returns an experiment, which has no commands yet, or a command, by the words of its line. Raises `BadLine`."""
+    word = words[1] if len(words) > 1 else ""
+    found = (_HEADING if words[0] == "experiment" else _COMMANDS.get(word, _HEADING)).fullmatch(" ".join(words))
+    given = ["codel" if one == "droptail" else one for one in words]
+    if found is None or any(given.count(option) > 1 for option in _OPTIONS.get(word, ())):
+        raise BadLine("badword")
+    of = _numbers(found)
+    if found.re is _HEADING:
+        return Plan(found["name"], line, of["seed"], of["budget"], of.get("steps", STEPS), Commands())
+    text, sends = " ".join(words[1:]), None
+    is_config = word == "pipe" and "config" in words
+    if is_config and not config_of(line, text).fits():
+        raise BadLine("outofrange")
+    if word in ("inject", "train", "flow"):
+        smss = of.get("smss", 0)
+        sends = Sends(word, of.get("number"), of.get("size", smss + HEADER), of.get("count", 1), of.get("gap", 0), smss,
+                      of.get("window", WINDOW), of.get("ssthresh", SSTHRESH), found["source"], found["target"])
+    return Command(line, of["moment"], word, text, sends, of["number"] if word == "stop" else None,
+                   of["number"] if is_config else None)
+
+
+def _numbers(found: "re.Match[str]") -> dict[str, int]:
+    """Returns the numbers of a line by their names, the last one of each. Raises `BadLine` for one out of its range."""
+    numbers: dict[str, int] = {}
+    for name, text in found.groupdict().items():
+        kind = name.partition("_")[0]
+        if text is not None and kind in RANGES:
+            numbers[kind] = int(text)
+            least, most = RANGES[kind]
+            if not max(least, numbers["port"] if kind == "upto" else 0) <= numbers[kind] <= most:
+                raise BadLine("outofrange")
+    return numbers
 
 
 class Judged:
@@ -37,10 +106,15 @@ class Judged:
         if self.limited and len(text) > MOST_BYTES:
             return 0, "toobig"
         end = text.rfind(b"\n") + 1
-        for line, part in _parts_of(text[:end]):
-            fault = self.injected(part) if isinstance(part, Run) else self.fault_in(part, line)
-            if fault:
-                return fault
+        # Runs of many `inject` lines are read together, if NumPy is installed.
+        is_many = text.count(b" inject ") >= MANY and importlib.util.find_spec("numpy") is not None
+        for line, part in runs_in(text[:end]) if is_many else enumerate(text[:end].split(b"\n")[:-1], 1):
+            if isinstance(part, Run):
+                fault = self.injected(part)
+                if fault:
+                    return fault
+            elif cause := self.cause(part, line):
+                return line, cause
         cause = "cut" if end < len(text) else "noend" if self.is_open else None
         return (text.count(b"\n") + 1, cause) if cause else None
 
@@ -54,53 +128,40 @@ class Judged:
         self.take(run, int(moments[-1]), len(moments))
         return None
 
-    def fault_in(self, line: bytes, number: int) -> Optional[tuple[int, str]]:
-        cause = self.cause(line, number)
-        return (number, cause) if cause else None
-
     def cause(self, line: bytes, number: int) -> Optional[str]:
+        """Adds a line. Returns why it is refused, or None."""
         if len(line) > MOST_LINE:
             return "toolong"
         if re.search(rb"[^ -~]", line):
             return "badbyte"
-        split = line.decode("ascii").split()
-        words = Words(split)
-        if not split or split[0].startswith("#"):
+        words = line.decode("ascii").split()
+        if not words or words[0].startswith("#"):
             return None
-        is_experiment = split[0] == "experiment"
-        found: Union[tuple[str, int, int, int], tuple[int, str, Told]]
         try:
-            found = experiment(words) if is_experiment else command(words)
-        except BadWord:
-            return "badword"
-        if words.left:
-            return "badword"
-        if not words.fits:
-            return "outofrange"
-        if len(found) == 4:
-            return self.begun(number, *found)
-        return self.told(number, split, *found)
+            found = read_line(number, words)
+        except BadLine as bad:
+            return str(bad)
+        if isinstance(found, Plan):
+            return self.begun(found)
+        cause = self.misplaced(found.moment)
+        if not cause:
+            self.is_open = found.word != "end"
+            self.take(found, found.moment, 1)
+        return cause
 
-    def begun(self, line: int, name: str, seed: int, budget: int, steps: int) -> Optional[str]:
+    def begun(self, plan: Plan) -> Optional[str]:
         if self.is_open:
             return "noend"
         if self.limited and len(self.experiments) == MOST_EXPERIMENTS:
             return "toomany"
-        if name in self.names:
+        if plan.name in self.names:
             return "samename"
-        self.names.add(name)
-        self.experiments.append((name, 0))
+        self.names.add(plan.name)
+        self.experiments.append((plan.name, 0))
         if self.keep:
-            self.plans[name] = Plan(name, line, seed, budget, steps, Commands())
+            self.plans[plan.name] = plan
         self.last, self.is_open = 0, True
         return None
-
-    def told(self, line: int, split: list[str], moment: int, word: str, told: Told) -> Optional[str]:
-        cause = self.misplaced(moment)
-        if not cause:
-            self.is_open = word != "end"
-            self.take(Command(line, moment, word, " ".join(split[1:]), *told), moment, 1)
-        return cause
 
     def misplaced(self, moment: int) -> Optional[str]:
         """Returns why no command of this time can be here, or None."""
@@ -119,15 +180,47 @@ class Judged:
             self.plans[name].commands.add(part)
 
 
-def _parts_of(text: bytes) -> Iterator[tuple[int, Union[bytes, Run]]]:
-    """Yields the lines of a text of whole lines, each with its number; runs of many `inject` lines together, if NumPy is
-    installed."""
-    if text.count(b" inject ") >= MANY:
-        with suppress(ModuleNotFoundError):
-            from dnlab.io.injections import parts_of
+# How many bytes of `inject` lines to read at once.
+BLOCK = 1 << 18
+_MOMENT = "(?:0|[1-9][0-9]{0,14}|10{15})"
+_ADDRESS = r"\.".join(["(?:[1-9]?[0-9]|1[0-9]{2}|2[0-4][0-9]|25[0-5])"] * 4)
+_PORT = "(?:0|[1-9][0-9]{0,3}|[1-5][0-9]{4}|6[0-4][0-9]{3}|65[0-4][0-9]{2}|655[0-2][0-9]|6553[0-5])"
+_SIZE = "(?:[4-9][0-9]|[1-9][0-9]{2}|1[0-4][0-9]{2}|1500)"
+_RUN = re.compile(rf"(?:@{_MOMENT} inject (?:tcp|udp) {_ADDRESS} {_PORT} {_ADDRESS} {_PORT} {_SIZE}\n"
+                  rf"|\n)*".encode())
 
-            return parts_of(text)
-    return enumerate(text.split(b"\n")[:-1], 1)
+
+def runs_in(text: bytes) -> Iterator[tuple[int, Union[bytes, Run]]]:
+    """Yields the lines of a text of whole lines, in order, each with its number from 1: runs of `inject` lines
+    together, each other line by itself, without empty ones. Only `inject` lines that are certainly valid are in
+    runs, so all faults are in lines by themselves."""
+    import numpy as np
+
+    begin, number = 0, 1
+    while begin < len(text):
+        found = _RUN.match(text, begin, begin + BLOCK)
+        lines = found[0].split(b"\n")[:-1] if found else []
+        own = [place for place, line in enumerate(lines) if line]
+        if own:
+            run = b"".join(lines[place] + b"\n" for place in own)
+            yield number + own[0], Run(number + np.array(own), run, columns_of(run))
+        elif not lines:
+            lines = [text[begin:text.index(b"\n", begin)]]
+            yield number, lines[0]
+        begin += sum(map(len, lines)) + len(lines)
+        number += len(lines)
+
+
+def columns_of(text: bytes) -> "Ints":
+    """Returns the columns of lines that all inject, as in `Run`."""
+    import numpy as np
+
+    octets = 1 << np.array([24, 16, 8, 0])
+    for word, number in ((b"@", b""), (b"inject tcp", b"6"), (b"inject udp", b"17"), (b".", b" ")):
+        text = text.replace(word, number)
+    words = np.fromstring(text, dtype=np.int64, sep=" ").reshape(-1, 13).T if text else np.zeros((13, 0), dtype=np.int64)
+    return np.stack((words[0], words[1], octets @ words[2:6], words[6], octets @ words[7:11], words[11],
+                     words[12]))
 
 
 def read(text: bytes) -> dict[str, Plan]:

@@ -1,21 +1,19 @@
 """The contents of a scenario: experiments, their commands and what these send; and the limits of docs/reference/scenario.md."""
+import re
 from bisect import bisect_right
 from dataclasses import dataclass
 from typing import TYPE_CHECKING, Iterable, Iterator, Mapping, NamedTuple, Optional, Sequence, Union, overload
 
 if TYPE_CHECKING:
-    from dnlab.io.digits import Ints
+    from dnlab.io.rows import Ints
 
 DROP_CAUSES = ("denied", "nopipe", "noinstance", "lost", "full", "codel", "deleted", "budget")
-
-
 MOST_BYTES = 16777216
 MOST_LINE = 512
 MOST_EXPERIMENTS = 256
 CAUSES = ("toobig", "cut", "toolong", "badbyte", "badword", "outofrange", "noend", "toomany", "samename",
           "noexperiment", "afterend", "backwards")
 NUMBER = r"(?:0|[1-9][0-9]{0,19})"
-ADDRESS = rf"({NUMBER})\.({NUMBER})\.({NUMBER})\.({NUMBER})"
 BIT_UNITS = {"": 1, "bit/s": 1, "Byte/s": 8}
 SCALES = {"": 1, "K": 10**3, "M": 10**6, "G": 10**9}
 TIMES = {"": 10**6, "s": 10**9, "ms": 10**6, "us": 10**3}
@@ -54,6 +52,15 @@ class Sends:
         'train 9'
         """
         return INJECTED if self.number is None else f"{self.word} {self.number}"
+
+
+def first_window(smss: int) -> int:
+    """Returns a flow's initial window, in bytes (RFC 5681, section 3.1, and docs/explanation/reno.md).
+
+    >>> first_window(1095), first_window(1460)
+    (4380, 4380)
+    """
+    return (4 if smss <= 1095 else 3) * smss
 
 
 class Command(NamedTuple):
@@ -157,10 +164,18 @@ class Plan(NamedTuple):
                          if command.pipe is not None)
 
 
-_MILLION = 10**6
-# The options that a second `config` easily resets by omission, with their defaults as text.
+# CoDel's times, ns, and what a second `config` easily resets by omission, with the defaults as text.
 CODEL = {"target": 5 * 10**6, "interval": 100 * 10**6}
 DEFAULTS = {"bw": "no limit", "delay": "0 ms", "queue": "50 slots", "plr": "0"}
+_MASK = "(?:" + "|".join(f"{name} 0x[0-9a-fA-F]{{1,{digits}}}" for name, digits in MASKS.items()) + ")"
+_TIME = f"{NUMBER}(?:s|ms|us)?"
+# The options of a `config`, each with a space before it; that each is there once isn't part of the pattern.
+OPTIONS = (
+    rf"(?: bw (?P<bw>{NUMBER}(?:[KMG]?(?:bit/s|Byte/s))?)| delay (?P<delay>{NUMBER}(?:ms)?)"
+    rf"| queue (?P<queue>{NUMBER}(?:KBytes|Kbytes|KB|K)?)| plr (?P<plr>[01](?:\.[0-9]{{1,6}})?)"
+    rf"| mask (?P<mask>all|{_MASK}(?: {_MASK})*)| droptail"
+    rf"| (?P<codel>codel)(?: target (?P<target>{_TIME})| interval (?P<interval>{_TIME}))*)*")
+_CONFIG = re.compile(f"pipe {NUMBER} config{OPTIONS}")
 
 
 @dataclass(frozen=True)
@@ -188,55 +203,42 @@ class Config:
         >>> config_of(2, "pipe 1 config bw 8Mbit/s").words("bw", "delay")
         'bw 8Mbit/s delay 0'
         """
-        known = dict(self.given)
-        short = {"bw": "0", "delay": "0", "queue": "50", "plr": "0"}
-        return " ".join(f"{name} {known.get(name, short[name])}" for name in names)
+        known = {"bw": "0", "delay": "0", "queue": "50", "plr": "0", **dict(self.given)}
+        return " ".join(f"{name} {known[name]}" for name in names)
+
+    def fits(self) -> bool:
+        """Returns whether all values are in their ranges."""
+        times = [time for time in (self.target, self.interval) if time is not None]
+        return (self.bw <= 10**10 and self.delay <= 60 * 10**9 and self.plr <= 10**6
+                and 1 <= (self.slots or 1000) <= 1000 and 1024 <= (self.bytes or 1024) <= 2**20
+                and self.slots != 0 != self.bytes and all(10**3 <= time <= 60 * 10**9 for time in times))
 
 
 def config_of(line: int, text: str) -> Config:
     """Parses a valid `config`.
 
     >>> one = config_of(2, "pipe 1 config bw 8Mbit/s delay 10 queue 30KBytes mask src-ip 0xff codel target 5")
-    >>> one.bw, one.delay, one.slots, one.bytes
-    (8000000, 10000000, None, 30720)
+    >>> one.bw, one.delay, one.slots, one.bytes, one.target, one.interval
+    (8000000, 10000000, None, 30720, 5000000, 100000000)
     """
-    words = text.split()[3:]
-    given = [(name, value) for name, value in zip(words, words[1:]) if name in DEFAULTS]
-    own: dict[str, Optional[int]] = dict(_codel_in(words)) if "codel" in words else {}
-    for name, value in given:
-        if name == "bw":
-            own["bw"] = rate_of(value)
-        elif name == "delay":
-            own["delay"] = int(value.removesuffix("ms")) * _MILLION
-        elif name == "plr":
-            whole, _, part = value.partition(".")
-            own["plr"] = int(whole) * _MILLION + int(part.ljust(6, "0"))
-        else:
-            number = value.partition("K")[0]
-            own |= {"slots": None, "bytes": int(number) * 1024} if number != value else {"slots": int(value)}
-    return Config(line, codel="codel" in words, mask=_mask_in(words), given=tuple(given), **own)  # type: ignore[arg-type]
+    found = _CONFIG.fullmatch(text)
+    assert found is not None
+    queue, unit, _ = (found["queue"] or "50").partition("K")
+    times = {name: time_of(found[name]) if found[name] else CODEL[name] if found["codel"] else None for name in CODEL}
+    return Config(line, rate_of(found["bw"] or "0"), time_of(found["delay"] or "0"), None if unit else int(queue),
+                  int(queue) * 1024 if unit else None, int((found["plr"] or "0").replace(".", "").ljust(7, "0")),
+                  found["codel"] is not None, times["target"], times["interval"], found["mask"] or "",
+                  tuple((name, found[name]) for name in DEFAULTS if found[name]))
 
 
-def _codel_in(words: list[str]) -> dict[str, int]:
-    """Returns CoDel's times, ns: those of the words, or its defaults."""
-    given = {name: value for name, value in zip(words, words[1:]) if name in CODEL}
-    found = dict(CODEL)
-    for name, value in given.items():
-        number = value.rstrip("mus")
-        found[name] = int(number) * TIMES[value[len(number):]]
-    return found
+def time_of(word: str) -> int:
+    """Returns a time of an option in ns; milliseconds need no unit.
 
-
-def _mask_in(words: list[str]) -> str:
-    """Returns the words after `mask`, '' without."""
-    if "mask" not in words:
-        return ""
-    rest = words[words.index("mask") + 1:]
-    if rest[:1] == ["all"]:
-        return "all"
-    pairs = [pair for pair in zip(rest[::2], rest[1::2])]
-    count = next((place for place, (name, _) in enumerate(pairs) if name not in MASKS), len(pairs))
-    return " ".join(f"{name} {value}" for name, value in pairs[:count])
+    >>> time_of("20"), time_of("5us")
+    (20000000, 5000)
+    """
+    number = word.rstrip("mus")
+    return int(number) * TIMES[word[len(number):]]
 
 
 def rate_of(word: str) -> int:
@@ -253,22 +255,30 @@ def rate_of(word: str) -> int:
     return int(word)
 
 
+def rate_text(rate: int) -> str:
+    """Returns a rate in scenario syntax.
+
+    >>> rate_text(12000000), rate_text(1234), rate_text(0)
+    ('12Mbit/s', '1234bit/s', '0bit/s')
+    """
+    scale = next((one for one in "GMK" if rate and rate % SCALES[one] == 0), "")
+    return f"{rate // SCALES[scale]}{scale}bit/s"
+
+
 class Change(NamedTuple):
-    """An executed `config` of a pipe, or its deletion (`config` is None): its row in the report and its time, ns."""
-    row: int
+    """An executed `config` of a pipe, or its deletion (`config` is None), and its time, ns."""
     moment: int
     config: Optional[Config]
 
 
-def changes_of(done: Iterable[tuple[int, Command]]) -> dict[int, list[Change]]:
-    """Returns the changes of each pipe, in order, by the executed commands, each with its row in the report."""
+def changes_of(done: Iterable[Command]) -> dict[int, list[Change]]:
+    """Returns the changes of each pipe, in order, by the executed commands."""
     found: dict[int, list[Change]] = {}
-    for row, command in done:
+    for command in done:
         if command.pipe is not None:
-            change = Change(row, command.moment, config_of(command.line, command.text))
-            found.setdefault(command.pipe, []).append(change)
+            found.setdefault(command.pipe, []).append(Change(command.moment, config_of(command.line, command.text)))
         elif command.text.startswith("pipe delete "):
-            found.setdefault(int(command.text.split()[2]), []).append(Change(row, command.moment, None))
+            found.setdefault(int(command.text.split()[2]), []).append(Change(command.moment, None))
     return found
 
 

@@ -8,9 +8,8 @@ import ipaddress
 from typing import Iterator, NamedTuple, Optional, Sequence
 
 from dnlab.errors import InputError
-from dnlab.io.ipfw_export import Rule, Setting, number_behind, printable
+from dnlab.io.ipfw_export import Rule, Setting, printable
 from dnlab.io.ipfw_words import network
-from dnlab.io.scenario_parts import TIMES
 from dnlab.io.scenario_parts import Config
 
 _FAST = "100000000000bit quantum 1514"
@@ -45,9 +44,9 @@ def script_of(setting: Setting, place: Place, source: str) -> str:
               f"tc qdisc add dev {place.leave} root handle 1: stab overhead -14 linklayer ethernet htb default 1",
               f"tc class add dev {place.leave} parent 1: classid 1:1 htb rate {_FAST}"]
     for one in classes:
-        lines += _served(place.leave, one, *setting.pipes()[one.pipe])
+        lines += _served(place.leave, one, setting.pipes()[one.pipe])
     lines += _filters(place.leave, rules, classes, True)
-    late = [one for one in classes if _late(setting.pipes()[one.pipe][0])]
+    late = [one for one in classes if _late(setting.pipes()[one.pipe])]
     if late:
         lines += _ifb(setting, place, late, rules)
     lines.append(f"# {len(setting.sends)} commands that send were left out")
@@ -64,7 +63,7 @@ def _judge(setting: Setting, rules: Sequence[Rule], place: Place) -> None:
         raise InputError("`delete`: leave out what is deleted immediately")
     if not setting.one_pass():
         raise InputError("`one_pass 0`: a chain of pipes needs an interface for each: write one pipe, or an experiment for each link")
-    late = [number for number, (config, _) in setting.pipes().items() if _late(config)]
+    late = [number for number, config in setting.pipes().items() if _late(config)]
     if late and place.enter is None:
         raise InputError(f"pipe {late[0]} has a delay or losses: name the interface where its packets come in, as --in eth0")
 
@@ -77,9 +76,9 @@ def _differs(setting: Setting, classes: Sequence[_Class]) -> list[str]:
     """Returns comments about what differs on the real machine."""
     said = ["# Packets that match no rule are dropped on this interface, as in the scenario, including your own login; ARP and IPv6 are unaffected.",
             "# htb sends one packet immediately, and counts in ticks of the kernel's timers; sizes count without Ethernet (stab)."]
-    if any(config.codel for config, _ in setting.pipes().values()):
+    if any(config.codel for config in setting.pipes().values()):
         said.append("# Linux's CoDel continues with a higher count of drops after an idle time than RFC 8289's.")
-    if any(config.plr for config, _ in setting.pipes().values()):
+    if any(config.plr for config in setting.pipes().values()):
         said.append("# Losses by netem use their own random numbers: as many on average, but other packets.")
     if any(one.host for one in classes):
         said.append("# A mask becomes a class for each named host; other hosts of the rule are dropped, because no rule matches them.")
@@ -88,13 +87,12 @@ def _differs(setting: Setting, classes: Sequence[_Class]) -> list[str]:
 
 def _classes(setting: Setting, place: Place) -> Iterator[_Class]:
     number = 16
-    for pipe, (config, text) in setting.pipes().items():
-        if " mask " not in text:
+    for pipe, config in setting.pipes().items():
+        if not config.mask:
             yield _Class(number, pipe, "", "")
             number += 1
             continue
-        side = next((side for side in ("src", "dst") if text.endswith(f"mask {side}-ip 0xffffffff")
-                     or f"mask {side}-ip 0xffffffff codel" in text or f"mask {side}-ip 0xffffffff droptail" in text), None)
+        side = {"src-ip 0xffffffff": "src", "dst-ip 0xffffffff": "dst"}.get(config.mask)
         if side is None or not place.hosts:
             raise InputError(f"pipe {pipe} has a mask, but tc creates no classes by itself: --hosts 10.0.0.1-10.0.0.9 writes a class for each,"
                          " if the mask is only src-ip or dst-ip 0xffffffff")
@@ -103,7 +101,7 @@ def _classes(setting: Setting, place: Place) -> Iterator[_Class]:
             number += 1
 
 
-def _served(device: str, one: _Class, config: Config, text: str) -> list[str]:
+def _served(device: str, one: _Class, config: Config) -> list[str]:
     """Returns a class with the rate, and the queue below it."""
     rate = f"{config.bw}bit burst 1514b cburst 1514b quantum 1514" if config.bw else _FAST
     made = [f"tc class add dev {device} parent 1: classid 1:{one.number:x} htb rate {rate}"]
@@ -111,25 +109,13 @@ def _served(device: str, one: _Class, config: Config, text: str) -> list[str]:
     if config.codel:
         # Linux's CoDel only has a limit in packets.
         limit = config.slots if config.slots is not None else max(1, (config.bytes or 0) // 1500)
-        made.append(f"{begin} codel limit {limit} target {_us(number_behind('target', text), 5000)}us"
-                    f" interval {_us(number_behind('interval', text), 100000)}us noecn")
+        target, interval = (time // 1000 for time in (config.target, config.interval) if time is not None)
+        made.append(f"{begin} codel limit {limit} target {target}us interval {interval}us noecn")
     elif config.slots is not None:
         made.append(f"{begin} pfifo limit {config.slots}")
     else:
         made.append(f"{begin} bfifo limit {config.bytes}b")
     return made
-
-
-def _us(word: Optional[str], default: int) -> int:
-    """Returns a time of `codel` in microseconds.
-
-    >>> _us("5ms", 1), _us("50", 1), _us(None, 1)
-    (5000, 50000, 1)
-    """
-    if word is None:
-        return default
-    unit = word.lstrip("0123456789")
-    return int(word.removesuffix(unit)) * TIMES[unit] // 1000
 
 
 def _matches(rule: Rule, one: Optional[_Class]) -> Iterator[str]:
@@ -183,7 +169,7 @@ def _ifb(setting: Setting, place: Place, late: Sequence[_Class], rules: Sequence
             "tc qdisc del dev ifb0 root 2>/dev/null", "tc qdisc add dev ifb0 root handle 1: htb default 1",
             f"tc class add dev ifb0 parent 1: classid 1:1 htb rate {_FAST}"]
     for one in late:
-        config = setting.pipes()[one.pipe][0]
+        config = setting.pipes()[one.pipe]
         # The number of smallest packets in flight at the pipe's rate, and a queue of them.
         flying = (config.bw or 10**10) * config.delay // (8 * 10**9 * _LEAST) + 1000
         loss = f" loss {config.plr / 10**4:g}%" if config.plr else ""

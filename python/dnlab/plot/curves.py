@@ -66,7 +66,7 @@ def _grid(data: pd.DataFrame, panels: Sequence[tuple[str, str]], along: str, oth
     if others:
         add_legend(grid[0][-1], handles, [line.label for line in lines_of(data, others, look)], look.legend,
                    "\n".join(names.of_setting(name, look.labels) for name in others))
-    _say(figure, data, panels, along, look)
+    _add_texts(figure, data, panels, along, look)
     return figure
 
 
@@ -87,7 +87,7 @@ def _name_axes(line: Sequence[Any], stat: str, unit: str, along: str, look: Look
     line[0].set_ylabel(label)
 
 
-def _say(figure: Figure, data: pd.DataFrame, panels: Sequence[tuple[str, str]], along: str, look: Look) -> None:
+def _add_texts(figure: Figure, data: pd.DataFrame, panels: Sequence[tuple[str, str]], along: str, look: Look) -> None:
     """Adds the title, and the explanation of points, bars and boxes below the panels."""
 
     of = list(dict.fromkeys(sender for sender, _ in panels))

@@ -16,8 +16,7 @@ from dnlab.analysis.packets import DELIVERED, DROPPED, OUTCOMES, UNKNOWN
 from dnlab.analysis.distributions import flights, labelled, link_rates, queues
 from dnlab.analysis.series import Panel, Series, Values, rates, sojourns, windows, without_acks
 from dnlab.analysis.view import View, flows_of
-from dnlab.io.digits import Ints
-from dnlab.io.lines import ACKNOWLEDGES, pipe_name
+from dnlab.io.rows import ACKNOWLEDGES, Ints, instance_name
 from dnlab.io.files import whole_file
 
 SCRIPT = "dnlab-plotly.js"
@@ -108,7 +107,7 @@ def sequences(view: View) -> Pane:
         series += [_of(view, flow, "acknowledged", "steps", acks[table.outcome[acks] == DELIVERED], table.ended),
                    _of(view, flow, "dropped", "marks", packets[table.outcome[packets] >= DROPPED], table.ended),
                    _of(view, flow, "acknowledgement dropped", "marks", acks[table.outcome[acks] >= DROPPED], table.ended)]
-    title = "Sequence numbers" + ("" if view.is_told else " (when they were sent needs the scenario)")
+    title = "Sequence numbers" + ("" if view.is_told else " (when they were sent needs --trace)")
     shown = [one for one in series if len(one.series.moments)]
     return Pane(title, "Sequence number", "bytes", shown, "" if shown else "no flow sent a segment")
 
@@ -134,7 +133,7 @@ def speeds(view: View) -> Pane:
     """Returns the cumulative deliveries, from which the script computes rates over the visible time, and the rates of the pipes."""
     pane = pane_of(rates(view, None))
     links = [Shown(one) for one in link_rates(view)] if pane.unit == "bytes" else []
-    title = "Throughput" if pane.unit == "bytes" else "Delivered packets (throughput needs the scenario)"
+    title = "Throughput" if pane.unit == "bytes" else "Delivered packets (throughput needs --trace)"
     return pane._replace(shown=pane.shown + links, title=title, quantity="Throughput",
                          unit="Mbit/s" if pane.unit == "bytes" else "packets/s")
 
@@ -144,22 +143,6 @@ def occupancy(view: View) -> Pane:
     pane = pane_of(queues(view))
     return pane._replace(shown=pane.shown + pane_of(flights(view)).shown, title=f"{pane.title}, and packets in flight", quantity="Packets",
                          unit="") if view.is_told else pane
-
-
-def panes_of(view: View) -> dict[str, Pane]:
-    """Returns the panels of a page by name, without thinning."""
-    return {"sequence": sequences(view), "window": pane_of(windows(view, None)), "queue": occupancy(view),
-            "delay": delays(view), "rate": speeds(view)}
-
-
-def labels_of_acks(view: View) -> set[str]:
-    """Returns the labels of the pipes that carry only acknowledgements."""
-    return {label for label, _ in labelled(view)} - {label for label, _ in labelled(without_acks(view))}
-
-
-def is_of_ack(one: Series, pipes: set[str]) -> bool:
-    """Returns true if a series is of acknowledgements, which the page draws on request: of their sender, or of a pipe in `pipes`."""
-    return one.label.endswith(" acks") or one.label.split(": ")[-1] == "acknowledgement dropped" or any(one.label.endswith(pipe) for pipe in pipes)
 
 
 def journeys(view: View, blocks: Blocks) -> dict[str, int]:
@@ -184,18 +167,23 @@ def _since(before: Ints, moments: Ints) -> Ints:
 
 def drawn(view: View) -> Drawn:
     """Returns an experiment for a page."""
-    blocks, acks = Blocks(), labels_of_acks(view)
+    blocks = Blocks()
+    # Series of acknowledgements, which the page draws on request: of their sender, or of a pipe that carries nothing else.
+    pipes = {label for label, _ in labelled(view)} - {label for label, _ in labelled(without_acks(view))}
+    ends = (" acks", "acknowledgement dropped", *pipes)
     panels = [{"what": what, "title": pane.title, "quantity": pane.quantity, "unit": pane.unit, "words": "" if pane.shown else pane.words,
                "segment": pane.segment,
-               "series": [{"label": one.label, "form": one.form, "under": one.under, "ack": is_of_ack(one, acks), "x": blocks.add(one.moments), "y": blocks.add(one.values),
+               "series": [{"label": one.label, "form": one.form, "under": one.under, "ack": one.label.endswith(ends),
+                           "x": blocks.add(one.moments), "y": blocks.add(one.values),
                            "packets": -1 if packets is None else blocks.add(packets)} for one, packets in pane.shown]}
-              for what, pane in panes_of(view).items()]
+              for what, pane in (("sequence", sequences(view)), ("window", pane_of(windows(view, None))),
+                                 ("queue", occupancy(view)), ("delay", delays(view)), ("rate", speeds(view)))]
     until = max(view.ended.moment if view.ended.is_short() else view.last, 1)
     unit = next(unit for unit in _UNITS if until >= 2 * unit[0] or unit[0] == 1)
     head = {"name": view.name, "about": about(view), "notes": [note.text for note in [*view.notes, *view.more_notes]],
             "until": until, "ended": max(view.ended.moment, 1), "unit": unit, "panels": panels,
             "names": [*view.packets.names, UNKNOWN], "fates": OUTCOMES,
-            "pipes": [pipe_name(int(pipe)) for pipe in np.unique(view.visits.pipe)],
+            "pipes": [instance_name(int(pipe)) for pipe in np.unique(view.visits.pipe)],
             "table": journeys(view, blocks), "blocks": blocks.heads}
     return Drawn(head, blocks.text())
 

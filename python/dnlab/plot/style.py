@@ -178,7 +178,7 @@ def axis_of(table: "pd.DataFrame", settings: Sequence[str], look: Look = Look())
     return str([*numbers, *several, *settings, "sender"][0])
 
 
-def judge(cases: "pd.DataFrame", settings: Sequence[str], panels: Sequence[tuple[str, str]], look: Look = Look()) -> None:
+def check_panels(cases: "pd.DataFrame", settings: Sequence[str], panels: Sequence[tuple[str, str]], look: Look = Look()) -> None:
     """Raises `InputError` for a picture of a sweep that could not be drawn, before anything runs, given the settings of its experiments
     and the requested statistics."""
     look.check(settings)

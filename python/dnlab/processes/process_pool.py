@@ -8,6 +8,7 @@ import queue
 import shutil
 import signal
 import sys
+import tempfile
 import time
 import traceback
 import weakref
@@ -53,7 +54,9 @@ class ProcessPool(Generic[T]):
         self.workers = workers
         self._room = TempDir()
         self._started: list[SpawnProcess] = []
-        _start_tracker()
+        # The process that removes a pool's semaphores if this process is killed warns of none, and outlives SIGHUP.
+        with _inherited("PYTHONWARNINGS", "ignore"):
+            resource_tracker.ensure_running()
         self._executor = ProcessPoolExecutor(workers, _Context(self._started), _start_worker, (os.getpid(), self._room.path))
         self._done: "queue.SimpleQueue[Future[None]]" = queue.SimpleQueue()
         self._jobs: "dict[Future[None], tuple[T, int]]" = {}
@@ -109,7 +112,7 @@ class ProcessPool(Generic[T]):
         ended_by = signal_of(status)
         if ended_by is None:
             raise ProgramError(3, f"a worker process ended with status {status}") from None
-        raise Killed(3, f"a worker process was {describe_exit(ended_by)}") from None
+        raise Killed(f"a worker process was {describe_exit(ended_by)}", ended_by) from None
 
     def close(self) -> None:
         """Kills all workers at once."""
@@ -121,21 +124,15 @@ def _kill_all(started: list[SpawnProcess], owner: int) -> None:
     """Kills workers and the programs that they run, and waits for the workers' ends."""
     if os.getpid() != owner:  # A forked copy of this process must not end them.
         return
-    for process in started:
-        _kill(process)
-    for process in started:
-        if process.pid is not None:
-            process.join(2)
-
-
-def _kill(process: SpawnProcess) -> None:
-    if process.pid is None:
-        return
-    # The group remains if the worker was killed and its programs run. A worker that has just started has no group yet.
-    try:
-        os.killpg(process.pid, signal.SIGKILL)
-    except (ProcessLookupError, PermissionError):
-        process.kill()
+    running = [(process, process.pid) for process in started if process.pid is not None]
+    for process, number in running:
+        # The group remains if the worker was killed and its programs run. A worker that has just started has no group yet.
+        try:
+            os.killpg(number, signal.SIGKILL)
+        except (ProcessLookupError, PermissionError):
+            process.kill()
+    for process, _ in running:
+        process.join(2)
 
 
 def _close(chore: subprocesses.Chore, executor: ProcessPoolExecutor, owner: int) -> None:
@@ -171,12 +168,6 @@ class _Process(SpawnProcess):
             sys.modules["__main__"] = main
 
 
-def _start_tracker() -> None:
-    """Starts the process that removes a pool's semaphores if this process is killed. It warns of none, and outlives SIGHUP."""
-    with _inherited("PYTHONWARNINGS", "ignore"):
-        resource_tracker.ensure_running()
-
-
 @contextmanager
 def _inherited(name: str, value: str) -> Iterator[None]:
     """Makes the processes that are started within the block inherit a variable and blocked signals."""
@@ -194,11 +185,13 @@ def _inherited(name: str, value: str) -> Iterator[None]:
 # ---- in the worker
 
 def _start_worker(parent: int, folder: Path) -> None:
-    """Puts a new worker into a process group of its own, with its programs, that ends with the parent."""
+    """Puts a new worker into a process group of its own, with its programs, that ends with the parent. Its temporary files are in the
+    pool's folder, because a worker is killed and cannot remove them itself."""
     global _FOLDER
     _FOLDER = folder
+    tempfile.tempdir = str(folder)
     os.setpgid(0, 0)
-    signal.signal(signal.SIGTERM, _end_worker)
+    signal.signal(signal.SIGTERM, lambda *_: os.killpg(0, signal.SIGKILL))
     signal.signal(signal.SIGINT, signal.SIG_IGN)
     signal.signal(signal.SIGHUP, signal.SIG_IGN)
     subprocesses.die_with(parent, signal.SIGTERM)
@@ -206,10 +199,6 @@ def _start_worker(parent: int, folder: Path) -> None:
     # What a function prints is not part of a result.
     os.dup2(2, 1)
     signal.pthread_sigmask(signal.SIG_UNBLOCK, subprocesses.SIGNALS)
-
-
-def _end_worker(*_: object) -> None:
-    os.killpg(0, signal.SIGKILL)
 
 
 def _run_job(number: int) -> None:

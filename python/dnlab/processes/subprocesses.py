@@ -110,10 +110,18 @@ _LIBC = ctypes.CDLL(None) if sys.platform == "linux" else None
 
 
 class Killed(ProgramError):
-    """A program was ended by a signal, so it has no exit status."""
+    """A program was ended by a signal, so it has no exit status. Has the signal's number, `ended_by`."""
 
-    def __reduce__(self) -> tuple[type, tuple[int, str]]:
-        return Killed, (self.status, self.said)
+    def __init__(self, said: str, ended_by: int) -> None:
+        super().__init__(3, said)
+        self.ended_by = ended_by
+
+    def __reduce__(self) -> tuple[type, tuple[str, int]]:
+        return Killed, (self.said, self.ended_by)
+
+    def about(self, what: str) -> "Killed":
+        """Returns the same error, with what it is about before its text."""
+        return Killed(f"{what}: {self.said}", self.ended_by)
 
 
 class Done(NamedTuple):
@@ -143,14 +151,14 @@ def die_with(parent: int, number: int = signal.SIGKILL) -> None:
         os._exit(3)
 
 
-def signal_of(status: int) -> Optional[str]:
-    """Returns the name of the signal that ended a program, also for a shell's status; None if no signal did.
+def signal_of(status: int) -> Optional[int]:
+    """Returns the number of the signal that ended a program, also for a shell's status; None if no signal did.
 
     >>> signal_of(-9), signal_of(143), signal_of(3)
-    ('SIGKILL', 'SIGTERM', None)
+    (9, 15, None)
     """
     number = -status if status < 0 else status - 128
-    return signal.Signals(number).name if number in signal.valid_signals() and number > 0 else None
+    return number if number in signal.valid_signals() and number > 0 else None
 
 
 def kill(process: "subprocess.Popen[bytes]") -> None:
@@ -213,18 +221,18 @@ def run(words: Sequence[str], text: bytes = b"", out: Optional[IO[bytes]] = None
         done = Done(status, own.read(), errors.read())
     ended_by = signal_of(done.status)
     if ended_by:
-        raise Killed(3, f"{words[0]} was {describe_exit(ended_by)}")
+        raise Killed(f"{words[0]} was {describe_exit(ended_by)}", ended_by)
     return done
 
 
-def describe_exit(ended_by: str) -> str:
+def describe_exit(ended_by: int) -> str:
     """Returns a description of an end by a signal.
 
-    >>> describe_exit("SIGKILL")
+    >>> describe_exit(9)
     'ended by SIGKILL (out of memory?)'
     """
-    why = {"SIGKILL": " (out of memory?)", "SIGXFSZ": " (it wrote more than its scenario can produce)"}.get(ended_by, "")
-    return f"ended by {ended_by}{why}"
+    why = {signal.SIGKILL: " (out of memory?)", signal.SIGXFSZ: " (it wrote more than its scenario can produce)"}
+    return f"ended by {signal.Signals(ended_by).name}{why.get(signal.Signals(ended_by), '')}"
 
 
 PREFIX = "dnlab-room."

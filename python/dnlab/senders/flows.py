@@ -3,32 +3,17 @@
 It behaves like the link's own flows (docs/explanation/reno.md): no handshake, each segment acknowledged at once, segments of
 SMSS bytes and 40 of headers. With `Reno` it equals such a flow; a window can select NewReno's recovery (RFC 6582).
 """
-from typing import Any, Callable, NamedTuple, Optional, Protocol
+from typing import TYPE_CHECKING, Any, Callable, NamedTuple, Optional
 
-from dnlab.senders.windows import Timeout
-from dnlab.senders.windows import Window
+from dnlab.senders.windows import Timeout, Window
 from dnlab.session.transport import Address
+
+if TYPE_CHECKING:
+    from dnlab.senders.network import Network
 
 HEADER = 40
 # RFC 5681, section 3.2: this many duplicates mean a loss.
 DUPLICATES = 3
-
-
-class Sends(Protocol):
-    """The interface that a flow requires of its network."""
-
-    @property
-    def now(self) -> int:
-        """Returns the time, ns."""
-
-    def carry(self, source: Address, target: Address, size: int, payload: Any) -> None:
-        """Sends a packet."""
-
-    def wake(self, moment: int, flow: "Flow") -> None:
-        """Schedules a call of the flow at a time (ns)."""
-
-    def finished(self, flow: "Flow") -> None:
-        """Reports that everything that a flow sends was acknowledged."""
 
 
 class Segment(NamedTuple):
@@ -51,7 +36,7 @@ class Flow:
     sent          segments sent, `retransmissions` those of them that were sent before, `timeouts`
     history       with `record`: (moment, cwnd, ssthresh) at the start and at each change, bytes"""
 
-    def __init__(self, network: Sends, number: int, source: Address, target: Address, size: int, window: Window, smss: int,
+    def __init__(self, network: "Network", number: int, source: Address, target: Address, size: int, window: Window, smss: int,
                  limit: Optional[int] = None, timeout: Optional[Timeout] = None, record: bool = False) -> None:
         if size < 1:
             raise ValueError(f"a flow has 1 byte or more, not {size}")
@@ -61,7 +46,7 @@ class Flow:
         self.begun, self.arrived, self.done = network.now, None, None  # type: int, Optional[int], Optional[int]
         self.sent = self.retransmissions = self.timeouts = 0
         self.history: Optional[list[tuple[int, int, int]]] = [] if record else None
-        self._una = self._next = self._max = self._duplicates = 0
+        self.una = self._next = self._max = self._duplicates = 0
         # Bytes that fast recovery adds to the window (or subtracts); its end, None outside of it.
         self._inflated, self._recover = 0, None  # type: int, Optional[int]
         self._backed_off = False
@@ -115,7 +100,7 @@ class Flow:
             allowed = min(allowed, self.limit)
         while self._next < self.size:
             after = min(self._next + self.smss, self.size)
-            if after - self._una > allowed:
+            if after - self.una > allowed:
                 break
             self._send(self._next, after)
             self._next = after
@@ -134,8 +119,8 @@ class Flow:
     def _resend(self) -> None:
         """Sends the first unacknowledged segment again. Segments that were sent twice give no RTT sample (RFC 6298, section 3)."""
         self._timed = None
-        after = min(self._una + self.smss, self.size)
-        self._send(self._una, after)
+        after = min(self.una + self.smss, self.size)
+        self._send(self.una, after)
         self._next = max(self._next, after)
 
     def _set_timer(self) -> None:
@@ -151,15 +136,15 @@ class Flow:
         """Handles an acknowledgement."""
         if self.done is not None:
             return
-        if upto > self._una:
+        if upto > self.una:
             self._new(upto)
-        elif upto == self._una < self._max:
+        elif upto == self.una < self._max:
             self._duplicate()
         self._note()
 
     def _new(self, upto: int) -> None:
         """Handles an acknowledgement of new data."""
-        count, now = upto - self._una, self.network.now
+        count, now = upto - self.una, self.network.now
         if self._timed is not None and upto >= self._timed[0]:
             self.timeout.measured(now - self._timed[1])
             self._timed = None
@@ -172,13 +157,13 @@ class Flow:
             self._inflated = max(deflated, self.smss - self.window.cwnd)
         else:
             self._recover, self._inflated = None, 0
-        self._una, self._next = upto, max(self._next, upto)
+        self.una, self._next = upto, max(self._next, upto)
         self._duplicates, self._backed_off = 0, False
         self._due = None
         if upto >= self.size:
             self._finish()
             return
-        if self._una < self._max:
+        if self.una < self._max:
             self._set_timer()
         if is_partial:
             self._resend()
@@ -189,7 +174,7 @@ class Flow:
         if self._recover is not None:
             self._inflated += self.smss
         elif self._duplicates == DUPLICATES:
-            self.window.lost(self._max - self._una, self.network.now)
+            self.window.lost(self._max - self.una, self.network.now)
             self._inflated, self._recover = DUPLICATES * self.smss, self._max
             self._resend()
         self._fill()
@@ -211,9 +196,9 @@ class Flow:
             self._ask_for_call(self._due)
             return
         self.timeouts += 1
-        self.window.timed_out(self._max - self._una, self.network.now, self._backed_off)
+        self.window.timed_out(self._max - self.una, self.network.now, self._backed_off)
         self.timeout.passed()
-        self._next, self._duplicates, self._backed_off = self._una, 0, True
+        self._next, self._duplicates, self._backed_off = self.una, 0, True
         self._inflated, self._recover, self._timed = 0, None, None
         self._set_timer()
         self._note()

@@ -7,7 +7,7 @@ from dnlab.errors import InputError
 from dnlab.rng import Chance
 from dnlab.senders.flows import Ack, Flow, Segment
 from dnlab.senders.windows import Reno, Timeout, Window
-from dnlab.session.links import Link
+from dnlab.session.sessions import Link
 from dnlab.session.transport import LATEST, Address, Event
 
 if TYPE_CHECKING:

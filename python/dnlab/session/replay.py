@@ -3,19 +3,19 @@ import csv
 import io
 import os
 import socket
-import subprocess
 from collections import Counter, deque
 from typing import BinaryIO, Callable, Iterable, Iterator, NamedTuple, Optional
 
 import dpkt
 
-from dnlab.errors import InputError, ProgramError, ResourceError
-from dnlab.io.arrivals import ETHERNET, RAW, Arrival
+from dnlab.errors import InputError
+from dnlab.io.arrivals import RAW, Arrival
 from dnlab.io.scenario_parts import MOST_BYTES
-from dnlab.processes import subprocesses
+from dnlab.session.sessions import Session
+from dnlab.session.transport import ExperimentEndedError
 
-# A session replies at once, so a writer that fills the pipe without reading would block forever.
-_MOST_OUT = 16_000
+# After how many packets those that have left are asked for, so that few wait.
+_TOGETHER = 500
 _SECOND = 10**9
 # libpcap's "no limit": readers cut frames to the length in the file's header.
 _SNAPLEN = 65535
@@ -27,113 +27,6 @@ class Fate(NamedTuple):
     arrival: Arrival
     moment: int
     cause: str
-
-
-class Session:
-    """A running `dnlab live` with one experiment, which reports packets as they leave."""
-
-    def __init__(self, program: str, head: str, tell: Callable[[Fate], None]) -> None:
-        self._tell = tell
-        self._going = subprocess.Popen([program, "live"], stdin=subprocess.PIPE, stdout=subprocess.PIPE, stderr=subprocess.PIPE, bufsize=0)
-        subprocesses.add_chore(self._going.kill)
-        self._out: list[str] = []
-        self._size = 0
-        self._rest = b""
-        # Requests without a reply: a packet, or the line.
-        self._asked: deque[tuple[str, Optional[Arrival]]] = deque()
-        self._under_way: dict[int, Arrival] = {}
-        self._early: dict[int, tuple[int, str]] = {}
-        self.next: Optional[int] = None
-        self.over: Optional[int] = None
-        self.post(head)
-        self.post("#> show mine")
-
-    def post(self, line: str, arrival: Optional[Arrival] = None) -> None:
-        """Queues a line, and reads replies once enough lines are queued."""
-        self._out.append(line)
-        self._asked.append((line, arrival))
-        self._size += len(line) + 1
-        if self._size > _MOST_OUT:
-            self.exchange()
-
-    def exchange(self) -> None:
-        """Sends all queued lines, and reads the replies."""
-        assert self._going.stdin is not None and self._going.stdout is not None
-        data = "".join(f"{line}\n" for line in self._out).encode()
-        self._out.clear()
-        self._size = 0
-        try:
-            while data:
-                data = data[os.write(self._going.stdin.fileno(), data):]
-        except BrokenPipeError:
-            raise self._gone() from None
-        while self._asked:
-            got = os.read(self._going.stdout.fileno(), 1 << 16)
-            if not got:
-                raise self._gone()
-            *lines, self._rest = (self._rest + got).split(b"\n")
-            for line in lines:
-                self._take(line.decode("ascii", "replace").split(" "))
-
-    def _gone(self) -> Exception:
-        assert self._going.stderr is not None
-        said = self._going.stderr.read().decode(errors="replace").strip()
-        status = self._going.wait()
-        if "subcommand" in said:
-            return ResourceError("this program has no `live`: use a later version, or --inject for `dnlab alone`")
-        return ProgramError(status, said[:300])
-
-    def _take(self, words: list[str]) -> None:
-        if words[0] == "#<":
-            self._answered(words)
-        elif len(words) > 3 and words[1] in ("deliver", "drop") and words[3] == "plain":
-            number, moment, cause = int(words[2]), int(words[0]), words[4] if words[1] == "drop" else ""
-            arrival = self._under_way.pop(number, None)
-            if arrival is None:
-                # Dropped on arrival: its number follows in the reply.
-                self._early[number] = moment, cause
-            else:
-                self._tell(Fate(arrival, moment, cause))
-
-    def _answered(self, words: list[str]) -> None:
-        line, arrival = self._asked.popleft()
-        if words[1] == "packet" and arrival is not None:
-            early = self._early.pop(int(words[2]), None)
-            if early is None:
-                self._under_way[int(words[2])] = arrival
-            else:
-                self._tell(Fate(arrival, *early))
-        elif words[1] == "fault":
-            raise InputError(f"the link refuses `{line}`: {words[2]}")
-        elif words[1] == "refused":
-            raise InputError(f"the link refuses `{line}`: code {words[2]} (docs/reference/faults.md)")
-        elif words[1] == "next":
-            self.next = None if words[2] == "none" else int(words[2])
-        elif words[1] == "over":
-            self.over = int(words[2])
-        self._early.clear()
-
-    def drained(self, moment: int, most: int) -> int:
-        """Advances time until nothing is in flight, or by `most` ns. Returns the time (ns)."""
-        last = moment + most
-        while self._under_way and self.over is None and moment < last:
-            moment = min(last, moment + _SECOND)
-            self.post(f"#> until @{moment}")
-            self.exchange()
-        return moment
-
-    def held(self) -> int:
-        """Returns how many packets are in flight."""
-        return len(self._under_way)
-
-    def close(self) -> None:
-        """Ends the program."""
-        self._going.kill()
-        self._going.wait()
-        for stream in (self._going.stdin, self._going.stdout, self._going.stderr):
-            if stream is not None:
-                stream.close()
-        subprocesses.remove_chore(self._going.kill)
 
 
 def commands_of(arrivals: Iterable[Arrival], link: Iterable[Command], begin: int) -> Iterator[tuple[int, str, Optional[Arrival]]]:
@@ -148,25 +41,39 @@ def commands_of(arrivals: Iterable[Arrival], link: Iterable[Command], begin: int
         yield (*left, None)
 
 
-def replay(program: str, head: str, link: Iterable[Command], arrivals: Iterable[Arrival], begin: int, tail: int,
+def replay(session: Session, seed: int, budget: int, link: Iterable[Command], arrivals: Iterable[Arrival], begin: int, tail: int,
            tell: Callable[[Fate], None]) -> int:
     """Sends packets through a link, and calls `tell` with each as it leaves or is dropped (ns after `begin`). Returns how many are
     still in flight `tail` ns after the last."""
-    session = Session(program, head, tell)
-    try:
-        moment = 0
-        for moment, words, arrival in commands_of(arrivals, link, begin):
-            session.post(f"@{moment} {words}", arrival)
-            if session.over is not None:
-                break
-        session.exchange()
-        session.drained(moment, tail)
-        if session.over is not None:
-            raise InputError(f"the experiment's 10000000 steps were spent at {session.over} ns, after about 3 million packets: cut the capture into"
-                         " parts (editcap -A .. -B ..)")
-        return session.held()
-    finally:
-        session.close()
+    flying = moment = 0
+    with open(os.devnull, "wb") as nowhere:
+        own = session.experiment("replay", seed, budget, 10**7, "mine", nowhere, nowhere)
+
+        def advance(until: int) -> int:
+            """Advances time. Returns how many packets have left or were dropped."""
+            events = own.until(until)
+            for event in events:
+                tell(Fate(event.packet.payload, event.moment, event.cause))  # type: ignore[union-attr]
+            return len(events)
+
+        try:
+            for number, (moment, words, one) in enumerate(commands_of(arrivals, link, begin)):
+                if one is None:
+                    own.command(words, moment)
+                else:
+                    own.send((one.source, one.source_port), (one.target, one.target_port), one.accepted(), one, one.protocol, moment)
+                    flying += 1
+                if number % _TOGETHER == 0:
+                    flying -= advance(moment)
+            flying -= advance(moment)
+            last = moment + tail
+            while flying and moment < last:
+                moment = min(last, moment + _SECOND)
+                flying -= advance(moment)
+        except ExperimentEndedError as over:
+            raise InputError(f"the experiment's 10000000 steps were spent at {over.moment} ns, after about 3 million packets: cut the"
+                             " capture into parts (editcap -A .. -B ..)") from None
+        return flying
 
 
 def text_of(head: str, link: Iterable[Command], arrivals: Iterable[Arrival], begin: int, tail: int) -> str:
@@ -245,8 +152,3 @@ def tally_of(counts: "Counter[str]", held: int) -> str:
     said = f"{sum(counts.values()) + held} packets: {counts['']} left the link, {sum(dropped.values())} were dropped"
     said += f" ({', '.join(f'{cause} {count}' for cause, count in dropped.items())})" if dropped else ""
     return said + (f", {held} were still in flight" if held else "")
-
-
-def common_link(links: Iterable[int]) -> int:
-    """Returns the link type of the output: Ethernet if all inputs have it, else raw IP."""
-    return ETHERNET if set(links) == {ETHERNET} else RAW

@@ -1,38 +1,221 @@
-"""Sessions with `dnlab live`: your own program reacts to what a link does.
-
-    import dnlab
-
-    with dnlab.live() as session:
-        link = session.experiment("mine", seed=1, budget=1000)
-        link.command("pipe 1 config bw 10Mbit/s delay 20 queue 100 codel")
-        link.command("add 100 pipe 1 ip from any to any")
-        link.send(("10.0.0.1", 1000), ("10.0.1.1", 2000), 1500, payload="hello")
-        for event in link.until_mine(10**9):     # to the first delivery or drop, but at most to 10^9 ns
-            print(event.moment, event.packet.payload, event.cause)
-        link.end(2 * 10**9)
-        link.save("scenario.txt", "report.txt")  # `dnlab alone` writes the same report for the scenario
-
-Needs only Python. `dnlab.hosts` has callbacks and generators, `dnlab.sim` an event loop for asyncio.
+"""Sessions with `dnlab live`, and their experiments: your own program sends packets at chosen times, and learns when each is
+delivered or dropped. Needs only Python; `dnlab.hosts` has callbacks and generators, `dnlab.sim` an event loop for asyncio.
 """
+import io
 from collections import deque
+from pathlib import Path
 from types import TracebackType
-from typing import IO, Literal, Optional
+from typing import IO, Any, Literal, Optional, Union
 
+from dnlab.io.files import whole_file
 from dnlab.io.scenario_parts import STEPS
 from dnlab.programs import program
-from dnlab.session.transport import CommandRefusedError, LineRejectedError, Packet
-from dnlab.session.links import Link
-from dnlab.session.transport import LibraryTransport, ProcessTransport, Transport
+from dnlab.session.transport import (LATEST, LEAST_SIZE, MOST_SIZE, Address, CommandRefusedError, Event,
+                                     ExperimentEndedError, LibraryTransport, LineRejectedError, Packet,
+                                     ProcessTransport, Transport, header_of)
 
 # Bytes to collect before they are sent although no reply is needed.
 _MOST_GATHERED = 1 << 15
 
 
+class Link:
+    """An experiment of a session. Time advances only in `until`, `until_mine`, `until_any` and `end`, and for actions `at` a later time
+    (ns).
+
+    now       the earliest time (ns) of the next action
+    is_over   whether it has ended
+    counters  after the end: made, delivered, held, and the drops by cause
+    listings  the lines of `show` and `pipe show`"""
+
+    def __init__(self, session: "Session", name: str, show: str, transcript: Optional[IO[bytes]],
+                 report: Optional[IO[bytes]]) -> None:
+        self._session, self.name, self._show = session, name, show
+        self.now = 0
+        self.is_over = False
+        self.counters: Optional[tuple[int, ...]] = None
+        self.listings: list[str] = []
+        self._transcript: IO[bytes] = transcript if transcript is not None else io.BytesIO()
+        self._report: IO[bytes] = report if report is not None else io.BytesIO()
+        self._events: list[Event] = []
+        self._flying: dict[int, Packet] = {}
+        # Report lines about packets of which it is not yet known whether they are the program's own.
+        self._early: dict[int, Event] = {}
+        self._wants_all = False
+        # When the next event is due, and whether replies have this time.
+        self._next: Optional[int] = None
+        self._adds_next = False
+
+    def command(self, words: str, at: Optional[int] = None) -> None:
+        """Executes a command in scenario syntax, without its time. Raises `LineRejectedError` or `CommandRefusedError`."""
+        self._move(at)
+        self._session.post(self, f"@{self.now} {words}")
+        self._session.exchange()
+
+    def send(self, source: Address, target: Address, size: int, payload: Any = None, protocol: str = "udp",
+             at: Optional[int] = None) -> Packet:
+        """Queues a packet of 40 to 1500 bytes, headers included; the next call that needs a reply sends it. Raises `ValueError` if it
+        is invalid."""
+        if not LEAST_SIZE <= size <= MOST_SIZE:
+            raise ValueError(f"a packet has {LEAST_SIZE} to {MOST_SIZE} bytes, not {size}")
+        header = header_of(protocol, source, target)
+        self._move(at)
+        packet = Packet(source, target, size, self.now, payload, protocol)
+        self._session.post(self, f"@{self.now} inject {header} {size}", packet)
+        return packet
+
+    def until(self, moment: int) -> list[Event]:
+        """Advances time to `moment` (ns). Returns the deliveries and drops of your own packets since the last call."""
+        return self._pass(f"#> until @{self._later(moment)}")
+
+    def until_mine(self, moment: int = LATEST, hold: int = 1) -> list[Event]:
+        """Like `until`, but stops at most `hold` ns after the first of these deliveries or drops, so that you can react. A packet that
+        is dropped when sent doesn't stop time."""
+        self._later(moment)
+        if self._events:
+            # A command at a later time produced events: time stands still until the program has seen them.
+            return self._taken()
+        # (a packet takes at least 1 ns, so packets and the request can be sent together)
+        return self._pass(f"#> until @{moment} first{'' if hold == 1 else f' {hold}'}")
+
+    def until_any(self, moment: int = LATEST, hold: int = 1) -> list[Event]:
+        """Like `until_mine`, for any packet. Also returns events of other packets, unless show='mine'."""
+        self._later(moment)
+        self._session.exchange()
+        if self._events:
+            return self._taken()
+        self._wants_all = True
+        try:
+            return self._pass(f"#> until @{moment} first any{'' if hold == 1 else f' {hold}'}")
+        finally:
+            self._wants_all = False
+
+    def next_due(self) -> Optional[int]:
+        """Returns the time of the link's next event (ns), or None."""
+        self._check()
+        if not self._adds_next:
+            self._session.post(self, "#> next on")
+            self._adds_next = True
+        self._session.exchange()
+        return self._next
+
+    def end(self, at: Optional[int] = None) -> list[Event]:
+        """Ends the experiment, even if its steps are spent, and returns the events since the last call."""
+        if at is not None:
+            self.now = max(at, self.now) if self.is_over else self._later(at)
+        self._session.post(self, f"@{self.now} end")
+        self._session.exchange()
+        return self._taken()
+
+    def transcript(self) -> str:
+        """Returns the scenario of everything that was done. After the end, `dnlab alone` writes the same report for it, and
+        `dnlab alone --trace` that of a session with `trace=True`."""
+        self._session.exchange()
+        return _kept(self._transcript, "transcript").decode()
+
+    def report(self) -> bytes:
+        """Returns the report so far."""
+        if self._show == "mine":
+            raise ValueError("the report has only lines about the program's own packets (show='mine'): "
+                             "`dnlab alone` writes the report of transcript()")
+        self._session.exchange()
+        return _kept(self._report, "report")
+
+    def save(self, scenario: Union[str, Path], report: Union[str, Path, None] = None) -> None:
+        """Writes the transcript, and the report if you name a file."""
+        with whole_file(scenario) as file:
+            file.write(self.transcript().encode())
+        if report is not None:
+            told = self.report()
+            with whole_file(report) as file:
+                file.write(told)
+
+    # Callbacks of the session.
+
+    def answered(self, line: str, words: list[bytes], packet: Optional[Packet]) -> None:
+        """Handles the reply to an accepted line."""
+        kind = words[1]
+        if kind == b"now":
+            self.now = int(words[2])
+        elif kind == b"packet" and packet is not None:
+            packet.number = int(words[2])
+            self._name(packet)
+        elif kind == b"over":
+            self.is_over, self.now, self._next = True, int(words[2]), None
+        if words[-2] == b"next":
+            self._next = None if words[-1] == b"none" else int(words[-1])
+        self._early.clear()
+        if line[0] != "#":
+            self._transcript.write(line.encode() + b"\n")
+
+    def told(self, line: bytes) -> None:
+        """Handles a line of the report."""
+        self._report.write(line + b"\n")
+        words = line.split(b" ")
+        if len(words) > 3 and words[1] in (b"deliver", b"drop"):
+            self._fate(words)
+        elif words[0] == b"counters":
+            self.counters = tuple(int(word) for word in words[1:])
+        elif words[0] in (b"rule", b"pipe", b"instance"):
+            self.listings.append(line.decode())
+
+    def _fate(self, words: list[bytes]) -> None:
+        number = int(words[2])
+        load, cause = words[3:], b""
+        if words[1] == b"drop":
+            load, cause = words[3:-1], words[-1]
+        packet = self._flying.pop(number, None)
+        event = Event(int(words[0]), packet, cause.decode(), number, b" ".join(load).decode())
+        if packet is not None or self._wants_all:
+            self._events.append(event)
+        elif load == [b"plain"]:
+            # For a packet that was dropped or delivered on arrival: its record precedes the reply with its number.
+            self._early[number] = event
+
+    def _name(self, packet: Packet) -> None:
+        event = self._early.pop(packet.number, None)
+        if event is None:
+            self._flying[packet.number] = packet
+        else:
+            self._events.append(event._replace(packet=packet))
+
+    # Parts of actions.
+
+    def _check(self) -> None:
+        if self.is_over:
+            raise ExperimentEndedError(self.name, self.now)
+
+    def _later(self, moment: int) -> int:
+        self._check()
+        if not self.now <= moment <= LATEST:
+            raise ValueError(f"{moment} ns: the time must be from {self.now} (now) to {LATEST} ns")
+        return moment
+
+    def _move(self, at: Optional[int]) -> None:
+        self.now = self._later(self.now if at is None else at)
+
+    def _pass(self, request: str) -> list[Event]:
+        self._check()
+        self._session.post(self, request)
+        self._session.exchange()
+        return self._taken()
+
+    def _taken(self) -> list[Event]:
+        events, self._events = self._events, []
+        return events
+
+
+def _kept(file: IO[bytes], what: str) -> bytes:
+    if not isinstance(file, io.BytesIO):
+        raise ValueError(f"the {what} is written to the given file, and not kept")
+    return file.getvalue()
+
+
 class Session:
     """A running program or library, with experiments. It ends with its block, even after an exception."""
 
-    def __init__(self, dnlab: Optional[str] = None, engine: str = "process") -> None:
-        self._talk = _spoken(dnlab, engine)
+    def __init__(self, dnlab: Optional[str] = None, engine: str = "process", trace: bool = False) -> None:
+        self.transport = _transport(dnlab, engine)
+        self._traces = trace
         self._lines: list[str] = []
         self._bytes = 0
         self._asked: deque[tuple[Link, str, Optional[Packet]]] = deque()
@@ -55,6 +238,8 @@ class Session:
         self._links.append(link)
         self._current = link
         try:
+            if self._traces and len(self._links) == 1:
+                self.post(link, "#> trace on")
             self.post(link, f"experiment {name} seed {seed} budget {budget} steps {steps}")
             self.exchange()
         except LineRejectedError:
@@ -93,9 +278,9 @@ class Session:
         self._lines.clear()
         self._bytes = 0
         self.round_trips += 1
-        self._talk.exchange(data, self._take)
-        if self._trouble is not None:
-            trouble, self._trouble = self._trouble, None
+        self.transport.exchange(data, self._take)
+        trouble, self._trouble = self._trouble, None
+        if trouble is not None:
             raise trouble
 
     def _take(self, line: bytes) -> bool:
@@ -120,16 +305,16 @@ class Session:
         """Returns the explanation of `check --explain` for a line, without the line itself; '' if the line alone has no fault."""
         before = "" if line.startswith("experiment") else "experiment x seed 0 budget 1\n"
         text = f"{before}{line}\n@{10**15} end\n".encode(errors="replace")
-        said = self._talk.explained(text).split("\n\n")[0].splitlines()[1:]
+        said = self.transport.explained(text).split("\n\n")[0].splitlines()[1:]
         return "".join(f"\n{it}" for it in said if not it.startswith("line "))
 
     def close(self) -> None:
         """Ends the program after all replies. Experiments without an `end` are cut off."""
-        if not self._talk.has_ended:
+        if not self.transport.has_ended:
             try:
                 self.exchange()
             finally:
-                self._talk.close()
+                self.transport.close()
 
     def __enter__(self) -> "Session":
         return self
@@ -138,12 +323,11 @@ class Session:
                  where: Optional[TracebackType]) -> None:
         if kind is None:
             self.close()
-        elif not self._talk.has_ended:
-            self._talk.kill()
+        elif not self.transport.has_ended:
+            self.transport.kill()
 
 
-def _spoken(dnlab: Optional[str], engine: str) -> Transport:
-    """Returns the transport of a session."""
+def _transport(dnlab: Optional[str], engine: str) -> Transport:
     if engine == "library":
         if dnlab is not None:
             raise ValueError('engine="library" takes no program: leave it out, or use engine="process"')
@@ -153,11 +337,12 @@ def _spoken(dnlab: Optional[str], engine: str) -> Transport:
     return ProcessTransport(program(dnlab))
 
 
-def live(dnlab: Optional[str] = None, engine: str = "process") -> Session:
+def live(dnlab: Optional[str] = None, engine: str = "process", trace: bool = False) -> Session:
     """Starts a session, for use as a block: `with dnlab.live() as session: link = session.experiment("mine", seed=1)`.
 
     dnlab   the program; by default that of `dnlab.programs.program`
     engine  "process" starts the program; "library" calls libdnlab in this process
+    trace   whether reports also have the creations and arrivals of packets, from which their sizes and delays are read
 
     Raises `ProgramError` if there is no program."""
-    return Session(dnlab, engine)
+    return Session(dnlab, engine, trace)

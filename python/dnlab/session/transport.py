@@ -7,7 +7,7 @@ import tempfile
 from contextlib import suppress
 from dataclasses import dataclass
 from functools import lru_cache, partial
-from typing import Any, Callable, NamedTuple, Optional, Protocol
+from typing import Any, Callable, NamedTuple, Optional, Union
 
 from dnlab import library
 from dnlab.errors import InputError, ProgramError
@@ -90,28 +90,8 @@ _CHUNK = 1 << 16
 _TORN = "the session was interrupted while it waited for a reply: start a new one"
 
 
-class Transport(Protocol):
-    """The interface of a session's transport."""
-
-    @property
-    def has_ended(self) -> bool:
-        """Returns whether it has ended."""
-
-    def exchange(self, data: bytes, take: Callable[[bytes], bool]) -> None:
-        """Sends whole lines, and passes each line of the reply, without its line feed, to `take` until that returns False."""
-
-    def explained(self, text: bytes) -> str:
-        """Returns the explanation of `check --explain` for a text."""
-
-    def close(self) -> None:
-        """Ends it. An experiment without its `end` is cut off there."""
-
-    def kill(self) -> None:
-        """Ends it at once."""
-
-
 class LibraryTransport:
-    """A session in this process, through libdnlab."""
+    """A session in this process, through libdnlab. It has the same calls as `ProcessTransport`."""
 
     def __init__(self) -> None:
         self._talk = library.Talk()
@@ -159,12 +139,12 @@ class ProcessTransport:
         self._called = called
         self._errors = tempfile.TemporaryFile()
         with subprocesses.signals_delayed():
-            self._process = subprocesses.start([called, "live"], stdin=subprocess.PIPE, stdout=subprocess.PIPE,
+            self.process = subprocesses.start([called, "live"], stdin=subprocess.PIPE, stdout=subprocess.PIPE,
                                            stderr=self._errors, bufsize=0)
-            self._chore = partial(subprocesses.kill, self._process)
+            self._chore = partial(subprocesses.kill, self.process)
             subprocesses.add_chore(self._chore)
-        assert self._process.stdin is not None and self._process.stdout is not None
-        self._in, self._out = self._process.stdin.fileno(), self._process.stdout.fileno()
+        assert self.process.stdin is not None and self.process.stdout is not None
+        self._in, self._out = self.process.stdin.fileno(), self.process.stdout.fileno()
         os.set_blocking(self._in, False)
         self._poll = select.poll()
         self._poll.register(self._in, select.POLLOUT)
@@ -177,7 +157,7 @@ class ProcessTransport:
     @property
     def has_ended(self) -> bool:
         """Returns whether the program has ended."""
-        return self._process.returncode is not None
+        return self.process.returncode is not None
 
     def exchange(self, data: bytes, take: Callable[[bytes], bool]) -> None:
         """Sends whole lines, and passes each line of the reply (without its line feed) to `take` until that returns False. Raises
@@ -221,11 +201,11 @@ class ProcessTransport:
 
     def _lost(self) -> None:
         """Raises `ProgramError`, because the program ended unexpectedly."""
-        status = subprocesses.wait(self._process)
+        status = subprocesses.wait(self.process)
         said = self._said()
         by = subprocesses.signal_of(status)
         if by:
-            self._failed = subprocesses.Killed(3, f"the session's program was {subprocesses.describe_exit(by)}")
+            self._failed = subprocesses.Killed(f"the session's program was {subprocesses.describe_exit(by)}", by)
         else:
             self._failed = ProgramError(status, f"the session's program ended{': ' + said if said else ''}")
         self._release()
@@ -236,7 +216,7 @@ class ProcessTransport:
         return self._errors.read().decode(errors="replace").strip()
 
     def _release(self) -> None:
-        for pipe in (self._process.stdin, self._process.stdout, self._errors):
+        for pipe in (self.process.stdin, self.process.stdout, self._errors):
             if pipe is not None:
                 with suppress(OSError):
                     pipe.close()
@@ -250,11 +230,11 @@ class ProcessTransport:
         if self._is_torn:
             self.kill()
             return
-        assert self._process.stdin is not None
-        self._process.stdin.close()
+        assert self.process.stdin is not None
+        self.process.stdin.close()
         while os.read(self._out, _CHUNK):
             pass
-        status = subprocesses.wait(self._process)
+        status = subprocesses.wait(self.process)
         said = self._said()
         self._release()
         if status not in (0, 1):
@@ -269,5 +249,8 @@ class ProcessTransport:
 
     def kill(self) -> None:
         """Ends the program at once."""
-        subprocesses.kill(self._process)
+        subprocesses.kill(self.process)
         self._release()
+
+
+Transport = Union[LibraryTransport, ProcessTransport]

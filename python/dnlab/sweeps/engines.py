@@ -1,4 +1,4 @@
-"""Runs in parts: the parts and their files; processes on this machine, GNU parallel with ssh, and Slurm; and the joining of reports."""
+"""Runs in parts: the parts and their files, processes on this machine, GNU parallel with ssh, and Slurm."""
 import getpass
 import os
 import re
@@ -10,11 +10,11 @@ import subprocess
 from dataclasses import dataclass
 from functools import partial
 from pathlib import Path
-from typing import IO, Iterable, Iterator, Optional, Sequence
+from typing import Iterator, Optional, Sequence
 
-from dnlab.errors import ProgramError, cause_of
-from dnlab.io.files import whole_file
-from dnlab.io.splitting import groups, most_report
+from dnlab.errors import ParseError, ProgramError
+from dnlab.io.pieces import pieces
+from dnlab.io.scenario_text import groups, most_report
 from dnlab.processes import subprocesses
 from dnlab.processes.process_pool import ProcessPool
 from dnlab.processes.subprocesses import CANCEL, Killed, cancel
@@ -36,7 +36,8 @@ class RunOptions:
     """The options of a run: at most `parts` parts, `jobs` of them at once.
 
     It runs on this machine, with `ssh` on machines in the form of parallel's --sshlogin, or as a `slurm` array; `program` is the
-    path of dnlab there. `work` is the folder of the parts if the run can be continued, and `resume` whether it is."""
+    path of dnlab there. `work` is the folder of the parts if the run can be continued, and `resume` whether it is. `form` has the
+    options of `dnlab alone`: `--trace`, and `--format npy` for rows."""
     parts: int = 16
     jobs: Optional[int] = None
     ssh: Optional[str] = None
@@ -44,6 +45,7 @@ class RunOptions:
     program: Optional[str] = None
     work: Optional[str] = None
     resume: bool = False
+    form: tuple[str, ...] = ()
 
     def fault(self) -> Optional[str]:
         """Returns why it can't run so on this machine, or None."""
@@ -58,8 +60,9 @@ class RunOptions:
 class Job:
     """A part in the work folder: its scenario N.txt, and its report N.whole once it is done."""
 
-    def __init__(self, folder: Path, number: int, names: list[str], text: bytes) -> None:
+    def __init__(self, folder: Path, number: int, names: list[str], text: bytes, is_rows: bool = False) -> None:
         self.folder = folder
+        self.is_rows = is_rows
         self.number = number
         self.names = names
         self.text = text
@@ -73,6 +76,11 @@ class Job:
         """Returns whether it is done: its report has the part's experiments in order and ends with counters."""
         if not self.file("whole").is_file():
             return False
+        if self.is_rows:
+            try:
+                return [piece.name for piece in pieces(self.file("whole"), names=self.names)] == self.names
+            except ParseError:
+                return False
         names: list[str] = []
         last = b"counters 0\n"
         with open(self.file("whole"), "rb") as report:
@@ -106,7 +114,7 @@ TASK = """#!/bin/sh
 ulimit -f {blocks}
 worst=0
 for part in $(sed -n "${{SLURM_ARRAY_TASK_ID}}p" tasks); do
-  {program} alone <$part.txt >$part.out.$SLURM_JOB_ID 2>$part.err
+  {program} alone{form} <$part.txt >$part.out.$SLURM_JOB_ID 2>$part.err
   status=$?
   [ $status -ne 0 ] || mv $part.out.$SLURM_JOB_ID $part.whole
   rm -f $part.out.$SLURM_JOB_ID
@@ -129,6 +137,10 @@ def version_of(program: str) -> bytes:
         return b""
 
 
+def _words(form: Sequence[str]) -> str:
+    return "".join(f" {word}" for word in form)
+
+
 def _most(parts: Sequence[Job]) -> int:
     """Returns the maximum length of a report of the parts, in bytes."""
     return max((most_report(part.text) for part in parts), default=0)
@@ -136,7 +148,7 @@ def _most(parts: Sequence[Job]) -> int:
 
 def prepare_parts(how: RunOptions, program: str, parts: Sequence[Job], folder: Path) -> None:
     """Writes the texts of the parts, or checks those of the previous run. Raises `RunFailedError` if they belong to another scenario."""
-    mark = version_of(program) + f"{len(parts)} parts\n".encode()
+    mark = version_of(program) + f"{len(parts)} parts{_words(how.form)}\n".encode()
     if how.resume:
         try:
             same = (folder / "mark").read_bytes() == mark and all(
@@ -165,15 +177,15 @@ def _leave(folder: Path) -> None:
         path.unlink(missing_ok=True)
 
 
-def _alone(program: str, job: Job) -> None:
+def _alone(program: str, job: Job, form: tuple[str, ...]) -> None:
     """Runs a part. Runs in another process."""
     with open(job.file("half"), "wb") as out:
         try:
             text = job.file("txt").read_bytes()
-            done = subprocesses.run([program, "alone"], text, out, most_report(text))
+            done = subprocesses.run([program, "alone", *form], text, out, most_report(text))
             status, errors = done.status, done.errors
         except Killed as killed:
-            status, errors = -int(signal.Signals[killed.said.split("ended by ")[-1].split()[0]]), b""
+            status, errors = -killed.ended_by, b""
     job.file("err").write_bytes(errors)
     if status == 0:
         os.replace(job.file("half"), job.file("whole"))
@@ -188,7 +200,7 @@ def run_locally(how: RunOptions, program: str, waiting: Sequence[Job], folder: P
     with ProcessPool[int](how.jobs or cores()) as pool:
         for part in waiting:
             # The other process needs neither the text nor the names.
-            pool.submit(part.number, _alone, program, Job(folder, part.number, [], b""))
+            pool.submit(part.number, _alone, program, Job(folder, part.number, [], b""), how.form)
         while len(pool):
             pool.next_result().get()
             yield
@@ -223,7 +235,7 @@ def by_parallel(how: RunOptions, program: str, waiting: Sequence[Job], folder: P
     if how.jobs:
         command += ["--jobs", str(how.jobs)]
     command += ["--sshlogin", how.ssh, "--workdir", "...", "--transferfile", "{}.txt", "--cleanup"]
-    command += [f"{shlex.quote(how.program or program)} alone <{{}}.txt", ":::"]
+    command += [f"{shlex.quote(how.program or program)} alone{_words(how.form)} <{{}}.txt", ":::"]
     (folder / "order").write_text("".join(f"{part.number}\n" for part in waiting))
     (folder / "joblog").unlink(missing_ok=True)
     with open(folder / "engine.err", "wb") as errors:
@@ -264,7 +276,7 @@ def by_slurm(how: RunOptions, program: str, waiting: Sequence[Job], folder: Path
     """Runs parts as one array with as many tasks as Slurm allows; the array is cancelled if this run is interrupted."""
     ends = groups([max(len(part.text), 1) for part in waiting], min(how.parts, most_tasks()))
     tasks = [waiting[begin:end] for begin, end in zip([0, *ends], ends)]
-    (folder / "task").write_text(TASK.format(program=shlex.quote(how.program or program), blocks=_most(waiting) // 512 + 1))
+    (folder / "task").write_text(TASK.format(program=shlex.quote(how.program or program), form=_words(how.form), blocks=_most(waiting) // 512 + 1))
     (folder / "tasks").write_text("".join(" ".join(str(part.number) for part in task) + "\n" for task in tasks))
     array = f"1-{len(tasks)}" + (f"%{how.jobs}" if how.jobs else "")
     name = f"dnlab-{secrets.token_hex(8)}"
@@ -322,23 +334,3 @@ def failure(how: RunOptions, parts: Sequence[Job], failed: Sequence[Job], folder
         said.append(f"spread: {len(parts) - len(failed)} parts are kept in {folder}; "
                     "the same command with --resume runs the others")
     return RunFailedError(3, "\n".join(said) + "\n")
-
-
-def _join(parts: Iterable[Job], report: IO[bytes]) -> None:
-    for part in parts:
-        with open(part.file("whole"), "rb") as piece:
-            shutil.copyfileobj(piece, report)
-    report.flush()
-
-
-def join_reports(out: Optional[str], parts: Sequence[Job]) -> None:
-    """Writes the report: to its file, completely or not at all, or to standard output."""
-    try:
-        if out is None:
-            with open(1, "wb", closefd=False) as report:
-                _join(parts, report)
-        else:
-            with whole_file(out) as file:
-                _join(parts, file)
-    except OSError as error:
-        raise RunFailedError(3, f"spread: {cause_of(error)}\n") from error

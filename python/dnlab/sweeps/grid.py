@@ -17,10 +17,10 @@ COLUMNS = ("experiment", "sender", "stat", "unit", "n", "mean", "low", "high", "
            "needed", "base", "value", "differs")
 
 
-def why_taken(name: str) -> Optional[str]:
+def why_reserved(name: str) -> Optional[str]:
     """Returns why a setting can't have this name, and what to call it; None if it can.
 
-    >>> why_taken("n"), why_taken("queue")
+    >>> why_reserved("n"), why_reserved("queue")
     ('no setting can be called n: the tables have a column of this name: call it n_ here and in the template', None)
     """
     if name == "seed":
@@ -68,10 +68,10 @@ def value_of(text: str) -> Value:
     return Written(text) if re.fullmatch(r"-?[0-9]+\.[0-9]+", text) else text
 
 
-def shown(value: Any) -> Any:
+def as_written(value: Any) -> Any:
     """Returns a value as written in a scenario: floats without an exponent, and without the point if they are whole.
 
-    >>> shown(2.0), shown(1e-06), shown("x")
+    >>> as_written(2.0), as_written(1e-06), as_written("x")
     (2, '0.000001', 'x')
     """
     if not isinstance(value, float) or isinstance(value, Written):
@@ -97,7 +97,7 @@ class Case(NamedTuple):
         >>> Case("queue10-s1", 1, {"queue": 10}).told()
         'experiment queue10-s1 (queue=10, seed 1)'
         """
-        words = [f"{name}={shown(value)}" for name, value in self.settings.items()]
+        words = [f"{name}={as_written(value)}" for name, value in self.settings.items()]
         return f"experiment {self.name} ({', '.join([*words, f'seed {self.seed}'])})"
 
 
@@ -112,7 +112,7 @@ def name_of(settings: Mapping[str, Any], seed: int) -> str:
     """
     words, is_plain = [], True
     for name, value in settings.items():
-        text = str(shown(value))
+        text = str(as_written(value))
         if re.fullmatch(r"[0-9]+\.[0-9]+", text):
             text = text.replace(".", "_")
         is_plain = is_plain and re.fullmatch("[a-z0-9_]*", text) is not None
@@ -120,7 +120,7 @@ def name_of(settings: Mapping[str, Any], seed: int) -> str:
     whole = "-".join([*words, f"s{seed}"])
     if is_plain and len(whole) <= _MOST_NAME:
         return whole
-    spelled = "\n".join(f"{name}={shown(value)}" for name, value in settings.items())
+    spelled = "\n".join(f"{name}={as_written(value)}" for name, value in settings.items())
     tail = f"-{hashlib.sha256(spelled.encode()).hexdigest()[:8]}-s{seed}"
     return "-".join(words)[:_MOST_NAME - len(tail)].rstrip("-") + tail
 
@@ -159,7 +159,7 @@ def setting_of(text: str) -> tuple[str, list[Value]]:
     values = [word.strip() for word in rest.split(",")]
     if not equals or not re.fullmatch("[A-Za-z_][A-Za-z0-9_]*", name):
         raise ValueError(f"{text!r}: expected NAME=VALUE[,VALUE..], as queue=10,25")
-    taken = why_taken(name)
+    taken = why_reserved(name)
     if taken is not None:
         raise ValueError(f"{text!r}: {taken}")
     if "" in values:
@@ -193,18 +193,18 @@ Row = Mapping[str, Any]
 _JUMP, _ALIKE = 1.4, 3
 
 
-def told_of(rows: Sequence[Row], settings: Sequence[str]) -> list[str]:
+def hints_of(rows: Sequence[Row], settings: Sequence[str]) -> list[str]:
     """Returns the hints for a table's rows, at most one of each kind; `mean` is None if unknown.
 
     >>> rows = [{"queue": queue, "sender": "flow 1", "stat": "goodput", "mean": 4.73, "half": 0.1} for queue in (25, 50, 100)]
-    >>> told_of(rows, ["queue"])
+    >>> hints_of(rows, ["queue"])
     ['goodput of flow 1 is identical for queue 25 to 100: something else is the limit']
     >>> rows = [{"queue": queue, "sender": "flow 1", "stat": "goodput", "mean": mean} for queue, mean in ((3, 0.8), (5, 0.3), (7, 0.9))]
-    >>> told_of(rows, ["queue"])[0][:60]
+    >>> hints_of(rows, ["queue"])[0][:60]
     'goodput of flow 1 jumps at queue 5 (0.8, 0.3, 0.9): determin'
     """
-    lines = [line for name in settings for line in _lines(rows, settings, name)]
-    found = [next(filter(None, map(kind, lines)), "") for kind in (_identical, _jump)]
+    lines = [line for name in settings for line in _lines_along(rows, settings, name)]
+    found = [next(filter(None, map(kind, lines)), "") for kind in (_plateau_hint, _jump_hint)]
     return [one for one in found if one]
 
 
@@ -219,7 +219,7 @@ class Line:
         return f"{self.rows[0]['stat']} of {self.rows[0]['sender']}"
 
 
-def _lines(rows: Sequence[Row], settings: Sequence[str], name: str) -> Iterator[Line]:
+def _lines_along(rows: Sequence[Row], settings: Sequence[str], name: str) -> Iterator[Line]:
     others = [one for one in settings if one != name]
     groups: dict[tuple[str, ...], list[Row]] = {}
     for row in rows:
@@ -230,7 +230,7 @@ def _lines(rows: Sequence[Row], settings: Sequence[str], name: str) -> Iterator[
             yield Line(name, sorted(found, key=lambda row: float(row[name])))
 
 
-def _identical(line: Line) -> Optional[str]:
+def _plateau_hint(line: Line) -> Optional[str]:
     for mean, alike in itertools.groupby(line.rows, lambda row: float(row["mean"])):
         same = list(alike)
         # A mean of 0 or 1 in many cells is not a limit that was reached.
@@ -240,7 +240,7 @@ def _identical(line: Line) -> Optional[str]:
     return None
 
 
-def _jump(line: Line) -> Optional[str]:
+def _jump_hint(line: Line) -> Optional[str]:
     for place, (before, here, after) in enumerate(zip(line.means, line.means[1:], line.means[2:]), 1):
         if min(before, here, after) <= 0:
             continue

@@ -1,9 +1,8 @@
 """Runs experiments, and measures the statistics that a sweep collects, here, in other processes and on other machines."""
-import io
 import re
-import tempfile
 from fractions import Fraction
-from typing import IO, Any, BinaryIO, Iterable, Iterator, NamedTuple, Optional, Sequence, Union, cast
+from pathlib import Path
+from typing import Any, Iterable, Iterator, NamedTuple, Optional, Sequence, Union
 
 import numpy as np
 
@@ -13,21 +12,16 @@ from dnlab.analysis.statistics import USUAL, CustomStat, StatRequest, percentile
 from dnlab.analysis.tables import Tables
 from dnlab.analysis.view import Note, View
 from dnlab.errors import InputError, ParseError, ProgramError
-from dnlab.io.digits import Ints
-from dnlab.io.lines import pipe_name
+from dnlab.io.rows import Ints, instance_name
 from dnlab.io.pieces import pieces
-from dnlab.io.report import read_piece
-from dnlab.io.scenario import read
+from dnlab.io.scenario import BadLine, read, read_line
 from dnlab.io.scenario_parts import DROP_CAUSES, Plan
-from dnlab.io.scenario_words import BadWord, Words, experiment
-from dnlab.io.splitting import lines_in, most_report
+from dnlab.io.scenario_text import lines_in, most_report
 from dnlab.processes import subprocesses
 from dnlab.processes.process_pool import Outcome
-from dnlab.processes.subprocesses import Killed
+from dnlab.processes.subprocesses import Killed, TempDir
 from dnlab.sweeps.grid import Case
 
-# All flows' segments together, and the packets of all trains.
-GROUPS = ("flows", "trains")
 # For each pattern of `of` and each statistic: the value by sender (None if unknown).
 Values = dict[str, dict[str, dict[str, Any]]]
 
@@ -115,7 +109,7 @@ def _rows(tables: Tables, patterns: Sequence[str]) -> Iterator[Row]:
         together = np.sort(np.concatenate([packets for _, packets in trains]))
         yield {**tables.packets("trains", together), **tables.useful(together)}
     for pipe, visits in view.visits.pipes():
-        name = f"pipe {pipe_name(pipe)}"
+        name = f"pipe {instance_name(pipe)}"
         if is_asked(name) or is_asked(f"{name} back"):
             yield from tables.pipe(pipe, visits)
     if any(is_asked(name) for name in WHOLE):
@@ -136,13 +130,14 @@ def _flows(tables: Tables, flows: Sequence[tuple[str, Ints]]) -> Row:
 def measured(texts: Sequence[str], asks: Sequence[StatRequest], program: str, span: Span = Span()) -> list[StatResults]:
     """Runs experiments, each with a text of its own, as one scenario, and returns their results in order. Raises `ProgramError` with the
     program's status and message, and if its report does not match the scenario."""
-    with tempfile.TemporaryFile() as out:
+    with TempDir() as room:
         text = "".join(texts).encode()
-        done = subprocesses.run([program, "alone"], text, out, most_report(text))
+        rows = room.path / "rows.npy"
+        with open(rows, "wb") as out:
+            done = subprocesses.run([program, "alone", "--format", "npy"], text, out, most_report(text))
         if done.status:
             raise ProgramError(done.status, done.said() or f"{program} ended with status {done.status}")
-        out.seek(0)
-        return answers(out, texts, asks, span)
+        return answers(rows, texts, asks, span)
 
 
 def measured_by_turns(batches: Sequence[Sequence[str]], asks: Sequence[StatRequest], program: str, span: Span = Span()) -> list[StatResults]:
@@ -150,28 +145,25 @@ def measured_by_turns(batches: Sequence[Sequence[str]], asks: Sequence[StatReque
     return [found for texts in batches for found in measured(texts, asks, program, span)]
 
 
-def answers(report: Union[IO[bytes], bytes], texts: Sequence[str], asks: Sequence[StatRequest], span: Span = Span()) -> list[StatResults]:
-    """Returns the results of a report's experiments, each joined with its own text. Raises `ProgramError` if they don't match."""
+def answers(rows: Union[str, Path], texts: Sequence[str], asks: Sequence[StatRequest], span: Span = Span()) -> list[StatResults]:
+    """Returns the results of the experiments of a file of rows, each joined with its own text. Raises `ProgramError` if they don't
+    match."""
     plans: dict[str, Plan] = {}
-    source = io.BytesIO(report) if isinstance(report, bytes) else cast(BinaryIO, report)
     for text in texts:
         plans |= read(text.encode())
     found: list[StatResults] = []
+    name = ""
     try:
-        for name, piece in zip(plans, pieces(source), strict=True):
-            if piece.name != name:
-                raise ProgramError(3, f"the program's report has experiment {piece.name} where {name} is expected")
-            try:
-                found.append(answer(View(read_piece(piece), plans[name]), asks, span))
-            except ParseError as refused:
-                raise ProgramError(3, f"the program's report does not match its scenario: line {refused.line - piece.line + 1} of"
-                                f" {name}: {refused.cause}") from None
+        for piece in pieces(rows, names=list(plans)):
+            name = piece.name
+            if piece.line >= 0:
+                raise ProgramError(3, "the program wrote a text where rows are expected: it must know --format npy")
+            found.append(answer(View(piece.read(), plans[name]), asks, span))
     except ParseError as refused:
-        raise ProgramError(3, f"the program's output is not a report: {refused}") from None
-    except ValueError as fault:
-        if "zip()" not in str(fault):
-            raise
-        raise ProgramError(3, "the program's report lacks experiments of its scenario") from None
+        of = f" (experiment {name})" if name else ""
+        raise ProgramError(3, f"the program's output does not match its scenario{of}: {refused}") from None
+    if len(found) != len(plans):
+        raise ProgramError(3, "the program wrote no rows (is it dnlab?)")
     return found
 
 
@@ -205,11 +197,13 @@ def batches_of_waiting(waiting: Sequence[Waiting], workers: int) -> Iterator[lis
 
 def steps_of(text: str) -> int:
     """Returns the step budget of a scenario's experiment."""
-    _, heading, _ = next(lines_in(text.encode()))
+    _, heading, number = next(lines_in(text.encode()))
     try:
-        return experiment(Words(heading.decode("ascii", "replace").split()))[3]
-    except BadWord:
+        plan = read_line(number, heading.decode("ascii", "replace").split())
+    except BadLine:
         return _MOST_STEPS
+    assert isinstance(plan, Plan)
+    return plan.steps
 
 
 def judged(program: str, text: bytes) -> Optional[str]:
@@ -227,7 +221,7 @@ def answer_of(outcome: Outcome[tuple[Waiting, ...]]) -> list[StatResults]:
     if isinstance(outcome.fault, Killed):
         first, *others = outcome.token
         more = f" or one of the {len(others)} after it" if others else ""
-        raise Killed(3, f"{first.case.told()}{more}: {outcome.fault.said}")
+        raise outcome.fault.about(f"{first.case.told()}{more}")
     found: list[StatResults] = outcome.get()
     return found
 

@@ -11,7 +11,7 @@ from dnlab.analysis.metrics import is_named
 from dnlab.analysis.quantities import Interval, Kind, interval as interval_of, student
 from dnlab.analysis.statistics import StatRequest, unit_of
 from dnlab.errors import InputError
-from dnlab.sweeps.grid import Case, shown
+from dnlab.sweeps.grid import Case, as_written
 from dnlab.sweeps.measuring import StatResults
 
 # A search, which first doubles the number of seeds, ends when that exceeds this.
@@ -31,20 +31,11 @@ def columns_of(made: Interval) -> dict[str, Optional[float]]:
     return {"n": made.count, **ends}
 
 
-def long_of(rows: pd.DataFrame, settings: Sequence[str], stats: Sequence[str]) -> pd.DataFrame:
-    """Returns a row for each experiment, sender and statistic: its settings, seed, experiment, sender, stat, unit, value (<NA> if unknown)
-    and warnings, from the columns of `Sweep.rows`."""
-    found = [{**{name: row[name] for name in (*settings, "seed", "experiment", "sender")}, "stat": str(stat),
-              "unit": unit_of(stat), "value": None if pd.isna(row[stat]) else float(row[stat]), "warnings": row["warnings"]}
-             for row in rows.to_dict("records") for stat in stats]
-    return results.of_rows(found, [*settings, "seed", "experiment", "sender", "stat", "unit", "value", "warnings"])
-
-
-def base_of(along: str, values: Sequence[Any], base: Any) -> Any:
+def base_value(along: str, values: Sequence[Any], base: Any) -> Any:
     """Returns the value to compare the others with: the first if none is given. Raises `InputError` if there is nothing to
     compare.
 
-    >>> base_of("queue", [10, 25], None)
+    >>> base_value("queue", [10, 25], None)
     10
     """
     told = ", ".join(map(str, values))
@@ -66,7 +57,7 @@ def compared(rows: pd.DataFrame, settings: Sequence[str], stats: Sequence[str], 
     if along not in settings:
         raise InputError(f"--pairs {along}: no such setting; the settings are {', '.join(settings) or 'none'}")
     values = list(dict.fromkeys(rows[along]))
-    base = base_of(along, values, base)
+    base = base_value(along, values, base)
     others = [name for name in settings if name != along]
     found = []
     for keys, group in rows.groupby([*others, "sender"] if others else "sender", sort=False, dropna=False):
@@ -86,11 +77,11 @@ def compared(rows: pd.DataFrame, settings: Sequence[str], stats: Sequence[str], 
                                   "method", "warnings"])
 
 
-def needed(values: Sequence[float], share: float, level: float = 95) -> Optional[int]:
+def seeds_needed(values: Sequence[float], share: float, level: float = 95) -> Optional[int]:
     """Returns the minimum number of seeds for which the interval (Student's t) is within `share` of the mean, if further seeds vary like
     these. None for fewer than two values, if different values have a mean of 0, and above 524,288 seeds.
 
-    >>> needed([90.0, 110.0], 0.5), needed([7.0, 7.0], 0.01)
+    >>> seeds_needed([90.0, 110.0], 0.5), seeds_needed([7.0, 7.0], 0.01)
     (3, 2)
     """
     if len(values) < 2:
@@ -142,7 +133,7 @@ class SweepResults:
                    for name in self.settings}
         rows = []
         for case in self.cases:
-            settings = {name: str(shown(value)) if is_text[name] else float(value) if isinstance(value, float) else value
+            settings = {name: str(as_written(value)) if is_text[name] else float(value) if isinstance(value, float) else value
                         for name, value in case.settings.items()}
             found = self.found[case.name]
             own: dict[str, dict[str, Any]] = {}
@@ -163,8 +154,11 @@ class SweepResults:
 
     def long(self) -> pd.DataFrame:
         """Returns `rows` in long form: a row for each experiment, sender and statistic, with its `unit` and `value`."""
-        rows = self.rows()
-        return long_of(rows, self.settings, self.stats())
+        names, rows = (*self.settings, "seed", "experiment", "sender"), self.rows()
+        found = [{**{name: row[name] for name in names}, "stat": str(stat), "unit": unit_of(stat),
+                  "value": None if pd.isna(row[stat]) else float(row[stat]), "warnings": row["warnings"]}
+                 for row in rows.to_dict("records") for stat in self.stats()]
+        return results.of_rows(found, [*names, "stat", "unit", "value", "warnings"])
 
     def compare(self, along: str, base: Any = None, level: float = 95, interval: Kind = "t") -> pd.DataFrame:
         """Compares the values of a setting with one of them, seed by seed (see `compared`)."""
@@ -177,27 +171,23 @@ class SweepResults:
         Over the seeds it has n (how many have a value), mean, low and high (the ends of its confidence interval, Student's t or the
         bootstrap), min and max, in `unit`; the interval's level and method; and the warnings of its experiments. With `within`, a share
         of the mean such as 0.05, `needed` is the number of seeds for an interval of at most that share to both sides (see
-        `needed`)."""
+        `seeds_needed`)."""
         rows = self.rows()
         found: list[dict[str, Any]] = []
         by = [*self.settings, "sender"]
         for keys, group in rows.groupby(by if len(by) > 1 else by[0], sort=False, dropna=False):
             own = dict(zip(by, keys if isinstance(keys, tuple) else (keys,)))
             marks = " ".join(dict.fromkeys(word for words in group.warnings for word in words.split()))
-            for stat in self._stats_of(own["sender"]):
+            for stat in dict.fromkeys(stat for ask in self.asks if is_named(own["sender"], ask.of) for stat in ask.stats):
                 values = [float(value) for value in group[stat].dropna()]
                 values = values[:1] if set(group.experiment) <= self.unseeded else values
                 made = interval_of(values, level, interval)
                 found.append({**own, "stat": stat, "unit": unit_of(stat), **columns_of(made),
                               "min": min(values, default=None), "max": max(values, default=None),
                               "level": level, "method": interval, "warnings": marks,
-                              "needed": None if within is None else needed(values, within, level)})
+                              "needed": None if within is None else seeds_needed(values, within, level)})
         return results.of_rows(found, [*self.settings, "sender", "stat", "unit", "n", "mean", "low", "high", "min",
                                       "max", "level", "method", "warnings", *(["needed"] if within is not None else [])])
-
-    def _stats_of(self, of: str) -> list[str]:
-        """Returns the statistics that were requested for a sender, in order."""
-        return list(dict.fromkeys(stat for ask in self.asks if is_named(of, ask.of) for stat in ask.stats))
 
     def setting_labels(self) -> dict[str, str]:
         """Returns labels of the settings with their units, as far as known."""

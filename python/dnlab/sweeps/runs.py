@@ -1,5 +1,4 @@
 """Runs the program `dnlab`, or the library, on scenarios."""
-import os
 from contextlib import suppress
 from pathlib import Path
 from typing import BinaryIO, Iterator, Mapping, NamedTuple, Optional, Union
@@ -8,14 +7,11 @@ from dnlab import library
 from dnlab.analysis.names import with_names
 from dnlab.analysis.reports import Report
 from dnlab.errors import ParseError, ProgramError
-from dnlab.io.files import Origin, origin_of, write_beside
-from dnlab.io.files import whole_file
-from dnlab.io.files import unpacked
-from dnlab.io.pieces import pieces
-from dnlab.io.splitting import most_report
+from dnlab.io.files import origin_of, unpacked, whole_file, write_beside
+from dnlab.io.pieces import experiments_in_rows, pieces
 from dnlab.io.scenario import read
 from dnlab.io.scenario_parts import MOST_BYTES, MOST_EXPERIMENTS
-from dnlab.io.splitting import experiments_in, texts_of
+from dnlab.io.scenario_text import experiments_in, most_report, names_of, texts_of, traced, without_trace
 from dnlab.processes import subprocesses
 from dnlab.processes.subprocesses import TempDir
 from dnlab.programs import program
@@ -30,15 +26,17 @@ def run(text: Union[str, bytes, Path], workers: int = 1, moves: Optional[int] = 
                    program is run in parts
     workers        the number of threads that run its experiments, 1 to 16
     moves          after how many steps a thread offers an experiment to the others
-    out            the report's file; OUT.json, next to it, records what made it. By default a temporary file
+    out            the report's file: rows if its name ends in .npy, else text made with --trace; OUT.json, next to it, records
+                   what made it. By default rows in a temporary file
     dnlab, engine  as in `live`; the library takes no workers or moves
     names          as in `read`
 
     Raises `ProgramError` if the program refuses the scenario: `said` has `line L: CAUSE` and what `--explain` prints."""
     if isinstance(text, str) and text and "\n" not in text and not text.startswith("experiment "):
         text = Path(text)
-    runner = _runner(engine, workers, moves, dnlab)
-    data = unpacked(text.read_bytes()) if isinstance(text, Path) else _typed(text) if isinstance(text, str) else text
+    form = ("--format", "npy") if out is None or Path(out).suffix == ".npy" else ("--trace",)
+    runner = _runner(engine, workers, moves, dnlab, form)
+    data = _bytes_of(text)
     if names:
         # Checked before anything runs; the program refuses a faulty scenario.
         with suppress(ParseError):
@@ -46,22 +44,43 @@ def run(text: Union[str, bytes, Path], workers: int = 1, moves: Optional[int] = 
     room = TempDir()
     scenario = room.path / "scenario.txt"
     scenario.write_bytes(data)
-    report = Path(out) if out is not None else room.path / "report.txt"
+    report = Path(out) if out is not None else room.path / "rows.npy"
     with whole_file(report) as file:
-        for line, part in _parts(data):
-            _run_one(runner, part, line, file)
-        with os.fdopen(os.dup(file.fileno()), "rb") as written:
-            written.seek(0)
-            origin = _origin(data, written, runner)
+        _run_parts(runner, data, file, room.path)
+    try:
+        plans = read(data)
+    except ParseError as refused:
+        raise ProgramError(0, f"{runner.path} accepted an invalid scenario (is it dnlab?): {refused}") from None
+    origin = origin_of(plans, runner.path, [runner.path, *runner.words], runner.version)
     if out is not None:
         write_beside(report, origin)
-    return Report(report, scenario, room, origin, names)
+    return Report(report, scenario, room, origin, names, plans)
 
 
-def _typed(text: str) -> bytes:
-    """Returns the bytes of a Python string, whose last line feed is easily forgotten; in a file, a missing one may mean that it
-    was cut."""
-    return (text if text.endswith("\n") or not text else text + "\n").encode()
+def _bytes_of(text: Union[str, bytes, Path]) -> bytes:
+    if isinstance(text, str):
+        # The last line feed of a Python string is easily forgotten; in a file, a missing one may mean that it was cut.
+        return (text if text.endswith("\n") or not text else text + "\n").encode()
+    return unpacked(text.read_bytes()) if isinstance(text, Path) else text
+
+
+def _run_parts(runner: "_Runner", data: bytes, out: BinaryIO, room: Path) -> None:
+    """Writes the report of a scenario, in parts if it is too large for the program."""
+    parts = list(_parts(data))
+    is_joined = len(parts) > 1 and "npy" in runner.words
+    files = []
+    for number, (line, part) in enumerate(parts):
+        if not is_joined:
+            _run_one(runner, part, line, out)
+            continue
+        files.append(room / f"{number}.npy")
+        with open(files[-1], "w+b") as file:
+            _run_one(runner, part, line, file)
+    if is_joined:
+        # Imported here, because a run needs no NumPy.
+        from dnlab.io.rows import join
+
+        join(files, out)
 
 
 class _Program(NamedTuple):
@@ -90,7 +109,9 @@ class _Library(NamedTuple):
     def write(self, text: bytes, out: BinaryIO) -> tuple[int, str]:
         """Writes the report of a scenario; returns the exit status and the messages."""
         try:
-            out.write(library.alone(text))
+            # The library has no tracing of its own; faults have the lines of the scenario as it was given.
+            library.check(text)
+            out.write(without_trace(library.alone(traced(text))))
             # Another descriptor reads the bytes.
             out.flush()
         except ProgramError as failed:
@@ -109,7 +130,7 @@ class _Library(NamedTuple):
 _Runner = Union[_Program, _Library]
 
 
-def _runner(engine: str, workers: int, moves: Optional[int], dnlab: Optional[str]) -> _Runner:
+def _runner(engine: str, workers: int, moves: Optional[int], dnlab: Optional[str], form: tuple[str, ...]) -> _Runner:
     """Returns the engine that runs the scenarios. Raises `ValueError` if the arguments don't go together."""
     if engine == "library":
         if workers > 1 or moves is not None or dnlab is not None:
@@ -119,22 +140,7 @@ def _runner(engine: str, workers: int, moves: Optional[int], dnlab: Optional[str
         raise ValueError(f'the engine is "process" or "library", not {engine!r}')
     words = ("run", "--workers", str(workers)) if workers > 1 else ("alone",)
     more = ("--moves", str(moves)) if workers > 1 and moves is not None else ()
-    return _Program(program(dnlab), words + more)
-
-
-def _origin(data: bytes, report: BinaryIO, runner: _Runner) -> Origin:
-    """Returns the record of a run. Raises `ProgramError` if the program accepted an invalid scenario or did not report all of it: then it
-    isn't dnlab, or was stopped."""
-    try:
-        plans = read(data)
-        names = {piece.name for piece in pieces(report)}
-    except ParseError as refused:
-        raise ProgramError(0, f"{runner.path} accepted an invalid scenario, or wrote no report (is it dnlab?): {refused}") from None
-    lost = [name for name in plans if name not in names]
-    if lost:
-        raise ProgramError(0, f"{runner.path} wrote no report of experiment {lost[0]}, and {len(lost)} of {len(plans)} are missing:"
-                     " is it dnlab?")
-    return origin_of(plans, runner.path, [runner.path, *runner.words], runner.version)
+    return _Program(program(dnlab), words + more + form)
 
 
 def _parts(data: bytes) -> Iterator[tuple[int, bytes]]:
@@ -155,3 +161,21 @@ def _run_one(runner: _Runner, text: bytes, before: int, out: BinaryIO) -> None:
         elif status == 1:
             said = runner.explained(text) or said
         raise ProgramError(status, said)
+    out.flush()
+    with open(f"/proc/self/fd/{out.fileno()}", "rb") as written:
+        _check(runner, names_of(text), written, before)
+
+
+def _check(runner: _Runner, names: list[str], written: BinaryIO, before: int) -> None:
+    """Raises `ProgramError` if a part's report doesn't have its experiments: then the program isn't dnlab, or was stopped."""
+    if "npy" in runner.words:
+        found = names[:experiments_in_rows(written)]
+    else:
+        try:
+            found = [piece.name for piece in pieces(written)]
+        except ParseError as refused:
+            raise ProgramError(0, f"{runner.path} wrote no report (is it dnlab?): {refused}") from None
+    lost = [name for name in names if name not in found]
+    if lost:
+        raise ProgramError(0, f"{runner.path} wrote no report of experiment {lost[0]}, and {len(lost)} of {len(names)} are missing:"
+                           " is it dnlab?")

@@ -5,30 +5,24 @@ from functools import cached_property
 from pathlib import Path
 from typing import Any, Iterable, Iterator, Mapping, Optional, Sequence, Union
 
-from dnlab.sweeps.measuring import StatResults, check, names_in, usual
-from dnlab.errors import STOPPING, Note
-from dnlab.analysis.statistics import CustomStat
+from dnlab.sweeps.measuring import (Answered, StatResults, Waiting, answer_of, batches_of_waiting, check,
+                                    judged, measured, names_in, raise_first, steps_of, usual)
+from dnlab.errors import STOPPING, InputError, Note, ProgramError
+from dnlab.analysis.statistics import USUAL, CustomStat, StatRequest, merged, stats_given
 from dnlab.analysis.metrics import Span, span_of
-from dnlab.analysis.statistics import USUAL, StatRequest, merged, stats_given
 from dnlab.analysis.reports import cores
-from dnlab.errors import InputError, ProgramError
 from dnlab.io.scenario import read
 from dnlab.io.scenario_parts import MOST_BYTES, MOST_EXPERIMENTS, Plan
-from dnlab.io.splitting import lines_in, names_of
+from dnlab.io.scenario_text import lines_in, names_of
 from dnlab.analysis import names
 from dnlab.processes import subprocesses
 from dnlab.processes.subprocesses import Killed
-from dnlab.processes.process_pool import ProcessPool
-from dnlab.processes.process_pool import Progress
+from dnlab.processes.process_pool import ProcessPool, Progress
 from dnlab.programs import program as program_of
-from dnlab.sweeps.measuring import Answered, Waiting, answer_of, batches_of_waiting, judged, raise_first, steps_of
-from dnlab.sweeps.grid import Case, cases_of
+from dnlab.sweeps.grid import Case, as_written, cases_of, why_reserved
 from dnlab.sweeps.cache import ResultCache, checksum, program_checksum
-from dnlab.sweeps.templates import Renderer
-from dnlab.sweeps.measuring import measured
+from dnlab.sweeps.templates import Renderer, Template
 from dnlab.sweeps.results import SweepResults
-from dnlab.sweeps.templates import Template
-from dnlab.sweeps.grid import shown, why_taken
 
 # An experiment's name depends on the order of --set, but its results don't.
 _HEADING = re.compile(r"^( *experiment +)\S+", re.MULTILINE)
@@ -58,7 +52,7 @@ class Sweep(SweepResults):
                  anew: bool = False, allow: Sequence[str] = (), parts: Optional[int] = None, span: Span = Span()) -> None:
         self.template = Template(template)
         for name in grid:
-            taken = why_taken(name)
+            taken = why_reserved(name)
             if taken is not None:
                 raise InputError(taken)
             if name not in self.template.names:
@@ -70,7 +64,7 @@ class Sweep(SweepResults):
         self.on, self.there, self.parts = on, there, parts
         self.allow = frozenset(allow)
         self.span = span
-        self._maker = Renderer(self.template)
+        self._renderer = Renderer(self.template)
         self._named = dnlab
         self.kept = ResultCache(kept)
         self.anew = anew
@@ -83,18 +77,13 @@ class Sweep(SweepResults):
 
     def text(self, case: Case) -> str:
         """Returns an experiment's scenario. Raises `InputError` unless it has exactly this experiment."""
-        text = self._maker.made(case.name, case.seed, case.settings, case.told())
+        text = self._renderer.render(case.name, case.seed, case.settings, case.told())
         found = names_of(text.encode())
         if found != [case.name]:
             has = f"it has {', '.join(found)}" if found else "it has none"
             raise InputError(f"{self.template.name}: {case.told()}: its text must have exactly this experiment, but {has}: it must"
                          " start with `experiment {{ name }} seed {{ seed }} budget 1000`")
         return text
-
-    def _faulty(self, case: Case, said: str) -> InputError:
-        words = [f"--set {shlex.quote(f'{name}={shown(value)}')}" for name, value in case.settings.items()]
-        seen = " ".join([*words, f"--seeds {case.seed} --dry-run"])
-        return InputError(f"{self.template.name}: {case.told()}: a fault in the rendered scenario ({seen} shows it)\n{said}")
 
     def check_texts(self, cases: Sequence[tuple[Case, str]], program: str) -> None:
         """Checks scenarios with the program. Raises the first fault, as `--explain` shows it."""
@@ -104,7 +93,9 @@ class Sweep(SweepResults):
         for case, text in cases:
             said = judged(program, text.encode())
             if said is not None:
-                raise self._faulty(case, said)
+                words = [f"--set {shlex.quote(f'{name}={as_written(value)}')}" for name, value in case.settings.items()]
+                seen = " ".join([*words, f"--seeds {case.seed} --dry-run"])
+                raise InputError(f"{self.template.name}: {case.told()}: a fault in the rendered scenario ({seen} shows it)\n{said}")
 
     def _asked(self, program: str) -> None:
         """Checks the requested statistics against the first scenarios of the settings, or chooses the default ones."""
@@ -161,12 +152,18 @@ class Sweep(SweepResults):
             self.kept.open()
             self._run(waiting)
         finally:
-            self._maker.close()
+            self._renderer.close()
 
     def _run(self, waiting: Sequence[Waiting]) -> None:
         program = program_of(self._named)
         with Progress("sweep", len(self.cases), len(self.cases) - len(waiting)) as progress:
-            for batch, found in self._answers(waiting, program):
+            if self.on is None:
+                answers = self.here(waiting, program)
+            else:
+                from dnlab.sweeps.backends import run_elsewhere
+
+                answers = run_elsewhere(self, waiting, program)
+            for batch, found in answers:
                 with subprocesses.signals_delayed():
                     self.kept.put([(one.key, self._keepable(answered)) for one, answered in zip(batch, found)])
                     self.found.update((one.case.name, answered) for one, answered in zip(batch, found))
@@ -180,13 +177,6 @@ class Sweep(SweepResults):
         own = {str(stat) for ask in self.asks for stat in ask.stats if isinstance(stat, CustomStat)}
         return found if not own else found._replace(values={
             of: {stat: values for stat, values in stats.items() if stat not in own} for of, stats in found.values.items()})
-
-    def _answers(self, waiting: Sequence[Waiting], program: str) -> Iterator[Answered]:
-        if self.on is None:
-            return self.here(waiting, program)
-        from dnlab.sweeps import cluster
-
-        return cluster.answers(self, waiting, program)
 
     def _judge(self, case: Case) -> None:
         """Raises `InputError` for an experiment that did not run as written, unless that is allowed."""
@@ -222,7 +212,7 @@ class Sweep(SweepResults):
         if not isinstance(outcome.fault, ProgramError) or isinstance(outcome.fault, Killed):
             yield batch, answer_of(outcome)
         elif len(batch) == 1:
-            failures.append(ProgramError(outcome.fault.status, f"{batch[0].case.told()}: {outcome.fault.said}"))
+            failures.append(outcome.fault.about(batch[0].case.told()))
         else:
             for one in batch:
                 begin([one])

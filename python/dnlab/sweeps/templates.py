@@ -20,7 +20,7 @@ from dnlab.io.scenario_parts import MOST_BYTES
 from dnlab.processes.process_pool import ProcessPool
 from dnlab.processes.subprocesses import Killed
 from dnlab.rng import Chance, Traffic
-from dnlab.sweeps.grid import GIVEN, shown, why_taken
+from dnlab.sweeps.grid import GIVEN, as_written, why_reserved
 
 _TEXT = "<template>"
 # A loop over more numbers would make a text that no program accepts.
@@ -32,8 +32,8 @@ _MOST_DIGITS = 1 << 10
 
 
 @jinja2.pass_context
-def _shown(_: Any, value: Any) -> Any:
-    return shown(value)
+def _as_written(_: Any, value: Any) -> Any:
+    return as_written(value)
 
 
 def nanoseconds(unit: int) -> Callable[[Any], int]:
@@ -43,7 +43,7 @@ def nanoseconds(unit: int) -> Callable[[Any], int]:
     500000
     """
     def filtered(value: Any) -> int:
-        text = str(shown(value))
+        text = str(as_written(value))
         # A number with a huge exponent would take forever to compute.
         if len(text) > 64 or re.search(r"[eE][-+]?[0-9]{3}", text):
             raise ValueError(f"{text[:64]!r} is not a time")
@@ -149,7 +149,7 @@ class Template:
             loader=self._loader, undefined=jinja2.StrictUndefined, keep_trailing_newline=True,
             # Rendering has limits (`making`), compiling has none: so the compiler must not evaluate constants. It evaluates none
             # without its optimizer, and with a `finalize` that takes the context.
-            optimized=False, finalize=_shown)
+            optimized=False, finalize=_as_written)
         self._environment.filters.update(s=nanoseconds(10**9), ms=nanoseconds(10**6), us=nanoseconds(10**3),
                                          random=_no_chance)
         self._environment.globals.pop("lipsum")
@@ -189,7 +189,7 @@ class Template:
                     continue
         return found
 
-    def made(self, name: str, seed: int, settings: Mapping[str, Any]) -> str:
+    def render(self, name: str, seed: int, settings: Mapping[str, Any]) -> str:
         """Returns the text of an experiment, which ends with a line feed. Raises `InputError` if it is longer than a scenario may
         be."""
         parts, size = [], 0
@@ -219,8 +219,10 @@ class Template:
             cause = f"there is no template {fault.name}"
         elif isinstance(fault, jinja2.UndefinedError):
             undefined = re.match(r"'(\w+)' is undefined", cause)
-            taken = why_taken(undefined[1]) if undefined else None
+            taken = why_reserved(undefined[1]) if undefined else None
             cause += f" ({taken})" if taken else f" (--set defines settings, and every template has {', '.join(GIVEN)})"
+        elif isinstance(fault, MemoryError) and not str(fault):
+            cause = f"a text may use at most {MOST_MEMORY} bytes of memory"
         elif not isinstance(fault, jinja2.TemplateError):
             cause = f"{type(fault).__name__}: {cause}"
         return f"{file}: line {line}: {cause}" if line else f"{file}: {cause}"
@@ -254,7 +256,7 @@ def _template(source: Union[str, Path]) -> Template:
     return Template(source)
 
 
-def made(source: Union[str, Path], name: str, seed: int, settings: Mapping[str, Any], seconds: float) -> str:
+def render(source: Union[str, Path], name: str, seed: int, settings: Mapping[str, Any], seconds: float) -> str:
     """Renders the text of an experiment in this process; call it in the main thread. Raises `InputError` with the line at which the time
     is over."""
     def stop(*_: object) -> NoReturn:
@@ -263,7 +265,7 @@ def made(source: Union[str, Path], name: str, seed: int, settings: Mapping[str, 
     signal.signal(signal.SIGPROF, stop)
     signal.setitimer(signal.ITIMER_PROF, seconds)
     try:
-        return _template(source).made(name, seed, settings)
+        return _template(source).render(name, seed, settings)
     finally:
         signal.setitimer(signal.ITIMER_PROF, 0)
 
@@ -275,12 +277,12 @@ class Renderer:
         self._template = template
         self._pool: Optional[ProcessPool[str]] = None
         self._kept: dict[tuple[Any, ...], str] = {}
-        self._left = MOST_KEPT
+        self.left = MOST_KEPT
 
     def __reduce__(self) -> "tuple[type[Renderer], tuple[Template]]":
         return Renderer, (self._template,)
 
-    def made(self, name: str, seed: int, settings: Mapping[str, Any], told: str) -> str:
+    def render(self, name: str, seed: int, settings: Mapping[str, Any], told: str) -> str:
         """Returns the text of an experiment. Raises `InputError`, with `told`, if it takes too long or too much memory."""
         key = name, seed, *map(str, settings.items())
         if key in self._kept:
@@ -289,20 +291,18 @@ class Renderer:
             self._pool = ProcessPool(1)
         source = self._template.text if self._template.path is None else self._template.path
         try:
-            self._pool.submit(name, made, source, name, seed, dict(settings), MOST_SECONDS)
+            self._pool.submit(name, render, source, name, seed, dict(settings), MOST_SECONDS)
             outcome = self._pool.next_result(_PATIENCE * MOST_SECONDS)
         except TimeoutError:
             self.close()
             raise InputError(f"{self._template.name}: {told}: rendering it takes more than {MOST_SECONDS:.0f} s") from None
         except Killed as killed:
             self.close()
-            raise Killed(3, f"{told}: it could not be rendered: {killed.said}") from None
-        if isinstance(outcome.fault, InputError) and str(outcome.fault).endswith(": MemoryError: MemoryError"):
-            raise InputError(f"{str(outcome.fault).removesuffix(': MemoryError: MemoryError')}: a text may use at most {MOST_MEMORY} bytes of memory")
+            raise killed.about(f"{told}: it could not be rendered") from None
         text: str = outcome.get()
-        if len(text) <= self._left:
+        if len(text) <= self.left:
             self._kept[key] = text
-            self._left -= len(text)
+            self.left -= len(text)
         return text
 
     def close(self) -> None:

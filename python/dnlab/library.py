@@ -1,4 +1,11 @@
-"""Finds libdnlab."""
+"""Runs dnlab in this process through the library libdnlab: the bytes of a scenario in, the bytes of its report out.
+
+    from dnlab import library
+    report = library.alone(b"experiment a seed 0 budget 9\\n@0 end\\n")
+
+Calls release the GIL, so threads run concurrently. A call can't be interrupted: Ctrl-C waits for its end. `dnlab.run(..,
+engine="library")` returns the same as tables, and `dnlab.live(engine="library")` opens a session on `Talk`.
+"""
 import ctypes
 import ctypes.util
 import os
@@ -13,9 +20,11 @@ from dnlab.errors import ProgramError
 from dnlab.io.scenario_parts import CAUSES
 from dnlab.programs import ROOT
 
+__all__ = ["FaultIn", "Talk", "alone", "check", "explain", "library", "records", "version"]
+
 _NAME = "libdnlab.so.1"
 # A package of pip contains the library; tools/install puts it into PREFIX/lib, and the package into PREFIX/share/dnlab/python.
-_PLACES = (Path(__file__).resolve().parents[1] / "bin" / _NAME, ROOT.parents[1] / "lib" / _NAME)
+PLACES = (Path(__file__).resolve().parent / "bin" / _NAME, ROOT.parents[1] / "lib" / _NAME)
 _LACKING = ("there is no libdnlab: build it with tools/library PREFIX, then name its libdnlab.so by the environment"
             " variable LIBDNLAB, or install it next to the package")
 
@@ -30,7 +39,7 @@ def library() -> str:
         if not os.path.isfile(named):
             raise ProgramError(2, f"{named} is no library (the environment variable LIBDNLAB names it)")
         return os.path.abspath(named)
-    found: Optional[Path] = next((place for place in _PLACES if place.is_file()), None)
+    found: Optional[Path] = next((place for place in PLACES if place.is_file()), None)
     loaded = str(found) if found is not None else ctypes.util.find_library("dnlab")
     if loaded is None:
         raise ProgramError(3, _LACKING)
@@ -71,7 +80,7 @@ def bound(path: str) -> ctypes.CDLL:
     text: list[Any] = [ctypes.c_char_p, ctypes.c_size_t]
     room: list[Any] = [ctypes.c_void_p, ctypes.c_size_t, ctypes.POINTER(Answer)]
     place: Any = ctypes.POINTER(Place)
-    calls = {"alone": [*text, *room], "alone_within": [*text, ctypes.c_uint64, *room], "check": [*text, *room], "explain": [*text, ctypes.c_bool, *room], "version": room,
+    calls = {"alone": [*text, *room], "alone_within": [*text, ctypes.c_uint64, *room], "check": [*text, *room], "records": [*text, *room], "explain": [*text, ctypes.c_bool, *room], "version": room,
              "open": [place, room[-1]], "take": [place, *text, *room], "close": [place, room[-1]]}
     try:
         found = ctypes.CDLL(path)
@@ -113,6 +122,11 @@ def alone(text: bytes, max_steps: Optional[int] = None) -> bytes:
     if max_steps is None:
         return _called("dnlab_alone", text, len(text))
     return _called("dnlab_alone_within", text, len(text), max_steps)
+
+
+def records(text: bytes) -> bytes:
+    """Returns the records of a scenario as one NumPy array, the same bytes as `dnlab alone --format npy`. Fails like `alone`."""
+    return _called("dnlab_records", text, len(text))
 
 
 def check(text: bytes) -> bytes:

@@ -1,10 +1,9 @@
-"""Splits scenarios between their experiments, so that the program can read them."""
+"""Texts of scenarios: split between their experiments, so that the program can read them, and traced."""
 import re
 from typing import Iterable, Iterator, NamedTuple, Optional, Sequence
 
 from dnlab.io.scenario import Judged
-from dnlab.io.scenario_parts import MOST_BYTES, MOST_EXPERIMENTS
-
+from dnlab.io.scenario_parts import MOST_BYTES, MOST_EXPERIMENTS, STEPS
 
 class Part(NamedTuple):
     """An experiment of a text: its name, the line of its heading (from 1), its number of commands, and its lines up to the next
@@ -124,7 +123,6 @@ def heading_fault(line: bytes) -> Optional[str]:
 # The maximum output of one step, one command, one `show` and one `pipe show`, in bytes, with a margin: a listing has 256 rules,
 # or 64 pipes of 256 instances.
 _STEP, _COMMAND, _RULES, _INSTANCES = 1 << 10, 1 << 8, 1 << 16, 1 << 22
-_STEPS = 10**6
 # Further output, on standard error.
 _SAID = 1 << 20
 # What one step may send at once: windows of many flows, in steps.
@@ -140,7 +138,41 @@ def most_report(text: bytes) -> int:
     17836544
     """
     said = [_WORDS.search(heading) for _, heading, _ in lines_in(text)]
-    steps = sum(_BURST + (int(found[1]) if found else _STEPS) for found in said)
+    steps = sum(_BURST + (int(found[1]) if found else STEPS) for found in said)
     listings = [text[text.rfind(b"\n", 0, found.start()) + 1:found.start()] for found in _LISTING.finditer(text)]
     pipes = sum(before.split()[-1:] == [b"pipe"] for before in listings)
     return _SAID + steps * _STEP + text.count(b"\n") * _COMMAND + pipes * _INSTANCES + (len(listings) - pipes) * _RULES
+
+
+_HEADING = re.compile(rb"^( *experiment\b[^\n]*?)(?:( +steps +)([0-9]+))? *\n", re.MULTILINE)
+_OFF = re.compile(rb"^( *@[0-9]+ +trace +)0", re.MULTILINE)
+_ANSWER = re.compile(rb"^([0-9]+ (?:ok|refused) )([0-9]+)", re.MULTILINE)
+# The maximum of `steps`; an experiment that has it gets no more.
+_MOST_STEPS = 10**7
+
+
+def traced(text: bytes) -> bytes:
+    """Returns a valid scenario with tracing from the first command of each experiment on, for an engine without `--trace`: the library,
+    and sessions.
+
+    A `trace 1` becomes the first command of each experiment, which has one more step for it, and later `trace` commands say 1. The
+    command is removed from the report, so the others keep their numbers.
+
+    >>> traced(b"experiment a seed 1 budget 2 steps 30\\n@5 trace 0\\n@9 end\\n")
+    b'experiment a seed 1 budget 2 steps 31\\n@0 trace 1\\n@5 trace 1\\n@9 end\\n'
+    """
+    def more(found: "re.Match[bytes]") -> bytes:
+        steps = min(int(found[3] or STEPS) + 1, _MOST_STEPS)
+        return found[1] + (found[2] or b" steps ") + str(steps).encode() + b"\n@0 trace 1\n"
+
+    return _HEADING.sub(more, _OFF.sub(rb"\g<1>1", text))
+
+
+def without_trace(report: bytes) -> bytes:
+    """Returns the report of a scenario from `traced` without the added command.
+
+    >>> without_trace(b"experiment a\\n0 ok 0\\n9 ok 1\\ncounters 0 0 0 0 0 0 0 0 0 0 0\\n")
+    b'experiment a\\n9 ok 0\\ncounters 0 0 0 0 0 0 0 0 0 0 0\\n'
+    """
+    report = re.sub(rb"^(experiment [^\n]*\n)0 ok 0\n", rb"\1", report, flags=re.MULTILINE)
+    return _ANSWER.sub(lambda found: found[1] + str(int(found[2]) - 1).encode(), report)
