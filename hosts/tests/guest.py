@@ -98,6 +98,20 @@ def words_of(path: pathlib.Path, keys: int) -> dict[str, str]:
     return {" ".join(line.split()[:keys]): " ".join(line.split()[keys:]) for line in lines}
 
 
+def kernel_command(kernel: pathlib.Path, mem: str, root: str) -> list[str]:
+    """Returns the command that starts a guest in simulated time, with as much memory, on one processor."""
+    start = ["taskset", "-c", str(min(os.sched_getaffinity(0))), "setarch", "-R", str(kernel / "linux")]
+    clock = [
+        "time-travel=inf-cpu",
+        f"time-travel-start={START_DATE}",
+        "time-travel-cost=0,1000",
+        "time-travel-reads=8",
+        "time-travel-polls=6",
+    ]
+    console = ["quiet", "con=null", "con0=null,fd:1"]
+    return [*start, f"mem={mem}", *clock, "rng-seed=1", *console, "dnlab=guest/link.conf", f"rootflags={root}"]
+
+
 def run(
     kernel: pathlib.Path,
     folder: pathlib.Path,
@@ -108,34 +122,14 @@ def run(
     mem: str = "512M",
     root: str = "/",
     wall: bool = False,
-    limit: float = 120,
+    limit: float = 900,
 ) -> Run:
     """Runs hosts over a link, in simulated time or by the wall clock."""
     write(folder, hosts, LINKS if network is None else network, steps, end)
     if wall:
         command = [str(kernel / "link"), "guest/link.conf", "guest/plan"]
     else:
-        cpu = min(os.sched_getaffinity(0))
-        command = [
-            "taskset",
-            "-c",
-            str(cpu),
-            "setarch",
-            "-R",
-            str(kernel / "linux"),
-            f"mem={mem}",
-            "time-travel=inf-cpu",
-            f"time-travel-start={START_DATE}",
-            "time-travel-cost=0,1000",
-            "time-travel-reads=8",
-            "time-travel-polls=6",
-            "rng-seed=1",
-            "quiet",
-            "con=null",
-            "con0=null,fd:1",
-            "dnlab=guest/link.conf",
-            f"rootflags={root}",
-        ]
+        command = kernel_command(kernel, mem, root)
     before, begin = os.times(), time.monotonic()
     with (folder / "guest/console").open("w") as console:
         subprocess.run(

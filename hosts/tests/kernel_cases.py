@@ -33,7 +33,7 @@ class KernelCases(Room):
 
     def check_spin(self) -> None:
         """A wait in user space for a thread that sleeps ends, at the same time twice, and is counted."""
-        runs = [self.one(name, [self.program("spin")], limit=30) for name in ("spin", "spin-again")]
+        runs = [self.one(name, [self.program("spin")], limit=300) for name in ("spin", "spin-again")]
         assert 200 <= int(runs[0].out()) < 220, runs[0].out()
         assert int(runs[0].counts["spins"]) > 0 and runs[0].counts["spins_unsettled"] == "0", runs[0].counts
         same(runs[0], runs[1], ["guest/exits", "guest/counts", "hosts/client/0.out"])
