@@ -16,8 +16,8 @@ _dnlab() {
     run:--moves) words="0 1 64 1000" ;;
     run:--format | alone:--format) words="text npy" ;;
     run:--max-* | alone:--max-* | live:--max-*) ;;
-    run:*) words="--workers --moves --format --max-steps --max-output --progress --explain --strict --help" ;;
-    alone:*) words="--format --max-steps --max-output --progress --explain --strict --help" ;;
+    run:*) words="--workers --moves --format --max-steps --max-output --progress --explain --strict --trace --help" ;;
+    alone:*) words="--format --max-steps --max-output --progress --explain --strict --trace --help" ;;
     check:*) words="--explain --json --strict --help" ;;
     live:*) words="--explain --max-steps --help" ;;
     help:help) words="alone run check live help" ;;
