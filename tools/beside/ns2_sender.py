@@ -1,7 +1,8 @@
 """A sender for tools/beside/ns2 that deviates from RFC 5681 in the same ways as Agent/TCP/Reno of ns-2.35: windows are
 real numbers of segments, ssthresh depends on the window instead of FlightSize, the window grows on the acknowledgement
 that ends a recovery, a fast retransmit restarts the timer, every expiry halves ssthresh, and times are in ticks of 1 ms.
-It has the same methods as Sender in tools/second/second_parts.py."""
+Its methods have the meaning of those of Sender in tools/second/second_parts.py."""
+from second_parts import Sender
 
 TICK = 0.001
 # The phase of ns-2's ticks (s) is random. With this value the run with a round trip of 0.8 s agrees; others would do too.
@@ -9,36 +10,32 @@ BOOT = 0.0007
 SECOND = 10**9
 
 
-class Ns2Sender:
+class Ns2Sender(Sender):
     def __init__(self, smss: int, segments: int, ssthresh: int, window: int, rto: int | None) -> None:
-        self.smss, self.total, self.most = smss, segments, window // smss
+        super().__init__(smss, segments, ssthresh, window, rto)
+        self.segments, self.most = segments, window // smss
+        # The window and the threshold, in segments.
         self.size, self.threshold = 3.0, ssthresh // smss
         self.next, self.highest, self.max_sent = 0, -1, -1
-        self.duplicates = self.inflated = 0
+        self.inflated = 0
         self.out: list[int] = []
-        self.timer: int | None = None
-        self.is_stopped = False
         self.backoff, self.rto = 1, 1.0
-        self.srtt = self.rttvar = 0
-        # The segment that is timed, and the time at which it was sent (ns).
-        self.timed: tuple[int, int] | None = None
+        self.mean = self.deviation = 0
+        # `sample` has the segment that is timed, and the time at which it was sent (ns).
         self.last_timed = -1
         self.send_much()
+        self.show()
 
-    @property
-    def cwnd(self) -> int:
-        return round((self.size + self.inflated) * self.smss)
-
-    @property
-    def ssthresh(self) -> int:
-        return self.threshold * self.smss
+    def show(self) -> None:
+        """Notes the window and the threshold in bytes, as a report has them."""
+        self.cwnd, self.ssthresh = round((self.size + self.inflated) * self.smss), self.threshold * self.smss
 
     def may_emit(self) -> bool:
         return bool(self.out)
 
     def send_much(self) -> None:
         window = min(int(self.size) + self.inflated, self.most)
-        while self.next <= self.highest + window and self.next < self.total:
+        while self.next <= self.highest + window and self.next < self.segments:
             self.out.append(self.next)
             self.next += 1
 
@@ -46,8 +43,8 @@ class Ns2Sender:
         number = self.out.pop(0)
         if number > self.max_sent:
             self.max_sent = number
-            if self.timed is None:
-                self.timed = (number, now) if number > self.last_timed else None
+            if self.sample is None:
+                self.sample = (number, now) if number > self.last_timed else None
                 self.last_timed = max(self.last_timed, number)
         if self.timer is None:
             self.set_timer(now)
@@ -57,46 +54,47 @@ class Ns2Sender:
         time = max(self.rto, 1.0) * self.backoff
         self.timer = now + round(min(time, 60.0) * SECOND)
 
-    def ack(self, upto: int, now: int) -> None:
-        number = upto // self.smss - 1
-        if number > self.highest:
+    def ack(self, number: int, now: int) -> None:
+        segment = number // self.smss - 1
+        if segment > self.highest:
             self.inflated = 0
-            self.new_data(number, now)
-        elif number == self.highest:
+            self.new_data(segment, now)
+        elif segment == self.highest:
             self.duplicates += 1
             if self.duplicates == 3:
                 self.halve()
-                self.timed, self.inflated = None, 3
+                self.sample, self.inflated = None, 3
                 self.set_timer(now)
                 self.out.append(self.highest + 1)
             elif self.duplicates > 3:
                 self.inflated += 1
         if self.duplicates == 0 or self.duplicates > 2:
             self.send_much()
+        self.show()
 
     def new_data(self, number: int, now: int) -> None:
         self.duplicates = 0
         self.highest = number
         self.next = max(self.next, number + 1)
-        if self.timed and number >= self.timed[0]:
+        if self.sample and number >= self.sample[0]:
             self.backoff = 1
-            self.measure(self.timed[1] / SECOND, now / SECOND)
-            self.timed = None
+            self.estimate(self.sample[1] / SECOND, now / SECOND)
+            self.sample = None
         self.timer = None
         if self.next > number + 1 or number < self.max_sent:
             self.set_timer(now)
         self.size += 1 if self.size < self.threshold else 1 / self.size
 
-    def measure(self, begun: float, now: float) -> None:
+    def estimate(self, begun: float, now: float) -> None:
         """Updates the RTT estimate, in ticks with 3 and 2 binary places, as in ns-2."""
         ticks = max(1, int((now - begun + (begun + BOOT) % TICK) / TICK))
-        if self.srtt:
-            delta = ticks - (self.srtt >> 3)
-            self.srtt = max(1, self.srtt + delta)
-            self.rttvar = max(1, self.rttvar + abs(delta) - (self.rttvar >> 2))
+        if self.mean:
+            delta = ticks - (self.mean >> 3)
+            self.mean = max(1, self.mean + delta)
+            self.deviation = max(1, self.deviation + abs(delta) - (self.deviation >> 2))
         else:
-            self.srtt, self.rttvar = ticks << 3, ticks << 1
-        self.rto = (((self.rttvar << 3) + self.srtt) >> 3) * TICK
+            self.mean, self.deviation = ticks << 3, ticks << 1
+        self.rto = (((self.deviation << 3) + self.mean) >> 3) * TICK
 
     def halve(self) -> None:
         half = min(self.size + self.inflated, self.most) / 2
@@ -109,8 +107,9 @@ class Ns2Sender:
         if self.backoff < 64:
             self.backoff *= 2
         if self.backoff > 8:
-            self.rttvar += self.srtt >> 3
-            self.srtt = 0
+            self.deviation += self.mean >> 3
+            self.mean = 0
         self.set_timer(now)
-        self.next, self.timed, self.out = self.highest + 1, None, []
+        self.next, self.sample, self.out = self.highest + 1, None, []
         self.send_much()
+        self.show()

@@ -5,6 +5,9 @@ STEPS = "budget 65535 steps 10000000"
 # The maximum length of a scenario, and the part of it that is reserved for the last line (bytes).
 LONGEST, LAST = 16_777_216, 30
 
+# The time of a command (ns), and its words.
+Timed = tuple[int, str]
+
 
 def long_flow(_draw: random.Random) -> list[str]:
     """Returns b1: one flow of 10^6 segments through a pipe of 1 Gbit/s with CoDel and loss."""
@@ -15,71 +18,54 @@ def long_flow(_draw: random.Random) -> list[str]:
             "@0 flow 1 10.0.0.1 1000 10.0.0.2 80 smss 1460 segments 1000000 rto adaptive", "@1000000000000000 end"]
 
 
-def options(draw: random.Random, mask: str | None) -> str:
-    """Returns random options of a pipe."""
-    words = []
-    if draw.random() < 0.9:
-        words.append(f"bw {draw.choice([1, 5, 10, 50, 100])}Mbit/s")
-    if draw.random() < 0.8:
-        words.append(f"delay {draw.randint(0, 40)}")
+def config(draw: random.Random, pipe: int, mask: str | None) -> str:
+    """Returns a random configuration of a pipe."""
+    words = [f"pipe {pipe} config"]
+    words += [f"bw {draw.choice([1, 5, 10, 50, 100])}Mbit/s"] if draw.random() < 0.9 else []
+    words += [f"delay {draw.randint(0, 40)}"] if draw.random() < 0.8 else []
     words.append(draw.choice(["queue 20", "queue 100", "queue 64KBytes", "queue 16K", "queue 1000"]))
-    if draw.random() < 0.5:
-        words.append(f"plr 0.0{draw.randint(0, 30):02d}")
-    if mask:
-        words.append("mask " + mask)
+    words += [f"plr 0.0{draw.randint(0, 30):02d}"] if draw.random() < 0.5 else []
+    words += [f"mask {mask}"] if mask else []
     words.append(draw.choice(["droptail", "codel", "codel target 2ms interval 50", "codel target 500us"]))
     return " ".join(words)
 
 
-def pipes_and_rules(draw: random.Random) -> tuple[list[tuple[int, str]], dict[int, str | None]]:
+def pipes_and_rules(draw: random.Random) -> tuple[list[str], dict[int, str | None]]:
     """Returns the first commands of an experiment of b2, and the mask of each of its pipes."""
     masks: dict[int, str | None] = {}
-    commands = []
+    commands, number = [], 100
     for pipe in range(1, 5):
         masks[pipe] = draw.choice([None, None, "dst-ip 0x000000ff", "all", "src-port 0xf proto 0xff"])
-        commands.append((0, f"pipe {pipe} config {options(draw, masks[pipe])}"))
-    number = 100
+        commands.append(config(draw, pipe, masks[pipe]))
     for pipe in range(1, 5):
         for _ in range(draw.randint(1, 6)):
             source = f"10.{pipe}.{draw.randint(0, 255)}.0/24"
             action, protocol = draw.choice(["count", "count", "deny"]), draw.choice(["ip", "tcp", "udp"])
-            commands.append((0, f"add {number} {action} {protocol} from {source} {draw.randint(0, 65535)} to any"))
+            commands.append(f"add {number} {action} {protocol} from {source} {draw.randint(0, 65535)} to any")
             number += 10
-        commands.append((0, f"add {number} pipe {pipe} ip from 10.{pipe}.0.0/16 to any"))
+        commands.append(f"add {number} pipe {pipe} ip from 10.{pipe}.0.0/16 to any")
         number += 10
-    commands.append((0, f"add {number} pipe 4 ip from any to 10.0.0.0/8"))
-    return commands, masks
+    return [*commands, f"add {number} pipe 4 ip from any to 10.0.0.0/8"], masks
 
 
-def senders(draw: random.Random) -> list[tuple[int, str]]:
-    """Returns the flows and trains of an experiment of b2."""
-    commands, number = [], 1
-    for _ in range(draw.randint(1, 6)):
-        pipe = draw.randint(1, 4)
-        commands.append((
-            draw.randint(0, 10**8),
-            f"flow {number} 10.{pipe}.0.{number} {1000 + number} 10.9.0.{number} 80 smss {draw.choice([536, 1000, 1460])}"
-            f" segments {draw.randint(500, 5000)}" + draw.choice(["", " rto adaptive", " rto 200", " ssthresh 8000 window 30000"])))
-        number += 1
-    for _ in range(draw.randint(1, 6)):
-        pipe = draw.randint(1, 4)
-        commands.append((
-            draw.randint(0, 10**8),
-            f"train {number} udp 10.{pipe}.0.{number} {1000 + number} 10.9.0.{number} 80 {draw.randint(40, 1500)}"
-            f" count {draw.randint(500, 5000)} gap {draw.randint(1, 2000) * 1000}"))
-        number += 1
-    return commands
+def sender(draw: random.Random, number: int, is_flow: bool) -> Timed:
+    """Returns a flow or a train of an experiment of b2."""
+    pipe, moment = draw.randint(1, 4), draw.randint(0, 10**8)
+    ends = f"10.{pipe}.0.{number} {1000 + number} 10.9.0.{number} 80"
+    if is_flow:
+        words = f"flow {number} {ends} smss {draw.choice([536, 1000, 1460])} segments {draw.randint(500, 5000)}"
+        return moment, words + draw.choice(["", " rto adaptive", " rto 200", " ssthresh 8000 window 30000"])
+    return moment, (f"train {number} udp {ends} {draw.randint(40, 1500)} count {draw.randint(500, 5000)}"
+                    f" gap {draw.randint(1, 2000) * 1000}")
 
 
-def change(draw: random.Random, masks: dict[int, str | None]) -> tuple[int, str]:
+def change(draw: random.Random, masks: dict[int, str | None]) -> Timed:
     """Returns a later command of an experiment of b2."""
     moment, kind, pipe = draw.randint(0, 5 * 10**9), draw.random(), draw.randint(1, 4)
     if kind < 0.5:
-        return moment, f"pipe {pipe} config {options(draw, masks[pipe])}"
-    if kind < 0.6:
-        return moment, f"pipe delete {pipe}"
+        return moment, config(draw, pipe, masks[pipe])
     if kind < 0.8:
-        return moment, "show" if kind < 0.7 else "pipe show"
+        return moment, f"pipe delete {pipe}" if kind < 0.6 else "show" if kind < 0.7 else "pipe show"
     if kind < 0.9:
         return moment, f"add {draw.randint(1, 300)} count ip from any to any"
     return moment, f"inject udp 10.{pipe}.7.7 7 10.9.9.9 9 {draw.randint(40, 1500)}"
@@ -88,15 +74,18 @@ def change(draw: random.Random, masks: dict[int, str | None]) -> tuple[int, str]
 def mixed(draw: random.Random) -> list[str]:
     """Returns b2: 256 experiments with trains, flows, masks and reconfigurations."""
     lines = []
-    for number in range(256):
+    for at in range(256):
         seed, budget = draw.getrandbits(64), draw.choice([500, 5000, 65535])
-        lines.append(f"experiment e{number} seed {seed} budget {budget} steps {draw.randint(20000, 60000)}")
-        commands, masks = pipes_and_rules(draw)
-        commands += senders(draw)
+        lines.append(f"experiment e{at} seed {seed} budget {budget} steps {draw.randint(20000, 60000)}")
+        first, masks = pipes_and_rules(draw)
+        commands, number = [(0, words) for words in first], 1
+        for is_flow in True, False:
+            for _ in range(draw.randint(1, 6)):
+                commands.append(sender(draw, number, is_flow))
+                number += 1
         commands += [change(draw, masks) for _ in range(draw.randint(10, 60))]
         commands.append((20 * 10**9, "end"))
-        commands.sort(key=lambda it: it[0])
-        lines += [f"@{moment} {words}" for moment, words in commands]
+        lines += [f"@{moment} {words}" for moment, words in sorted(commands, key=lambda it: it[0])]
     return lines
 
 
@@ -105,7 +94,8 @@ def shared(_draw: random.Random) -> list[str]:
     lines = [f"experiment shared seed 3 {STEPS}", "@0 pipe 1 config bw 1Gbit/s delay 5 queue 1000 plr 0.0001 codel",
              "@0 pipe 2 config bw 1Gbit/s delay 5 queue 1000",
              "@0 add 100 pipe 1 tcp from 10.0.0.0/16 to any", "@0 add 200 pipe 2 tcp from any to 10.0.0.0/16"]
-    lines += [f"@{flow * 1000} flow {flow} 10.0.0.{flow % 256} {flow} 10.1.0.1 80 smss 1000 segments 1000000" for flow in range(1, 257)]
+    lines += [f"@{flow * 1000} flow {flow} 10.0.0.{flow % 256} {flow} 10.1.0.1 80 smss 1000 segments 1000000"
+              for flow in range(1, 257)]
     return [*lines, "@1000000000000000 end"]
 
 
@@ -123,24 +113,25 @@ def rules(draw: random.Random) -> list[str]:
 def train_behind_rules(draw: random.Random) -> list[str]:
     """Returns b4: 256 rules and a train of 10^6 packets."""
     return [f"experiment rules seed 4 {STEPS}", "@0 pipe 1 config bw 1Gbit/s delay 1", *rules(draw),
-            "@0 train 1 udp 10.0.0.1 1000 10.0.0.2 2000 1500 count 1000000 gap 12000", "@100000000000 show", "@100000000000 end"]
+            "@0 train 1 udp 10.0.0.1 1000 10.0.0.2 2000 1500 count 1000000 gap 12000", "@100000000000 show",
+            "@100000000000 end"]
 
 
 def line_of_big(draw: random.Random, moment: int) -> str:
     """Returns a line of b5, which is usually a single packet."""
-    kind = draw.random()
+    kind, number = draw.random(), draw.randint
     if kind < 0.93:
-        protocol, source = draw.choice(["udp", "tcp"]), f"10.{draw.randint(0, 255)}.{draw.randint(0, 255)}.1 {draw.randint(0, 65535)}"
-        return f"@{moment} inject {protocol} {source} 10.0.0.{draw.randint(0, 255)} {draw.randint(0, 65535)} {draw.randint(40, 1500)}"
+        protocol, source = draw.choice(["udp", "tcp"]), f"10.{number(0, 255)}.{number(0, 255)}.1 {number(0, 65535)}"
+        return f"@{moment} inject {protocol} {source} 10.0.0.{number(0, 255)} {number(0, 65535)} {number(40, 1500)}"
     if kind < 0.95:
-        rate, delay = draw.randint(1, 1000), draw.randint(0, 5)
-        return f"@{moment} pipe 1 config bw {rate}Mbit/s delay {delay}ms queue 1000 codel target 5ms interval 100ms"
+        return (f"@{moment} pipe 1 config bw {number(1, 1000)}Mbit/s delay {number(0, 5)}ms queue 1000 codel target 5ms"
+                " interval 100ms")
     if kind < 0.97:
         return f"# a comment that takes some room in the text, number {moment}"
     if kind < 0.985:
-        number, length = draw.randint(300, 999), draw.randint(8, 32)
-        return f"@{moment} add {number} count tcp from 10.0.0.0/{length} {draw.randint(0, 100)}-{draw.randint(101, 65535)} to any"
-    return f"@{moment} delete {draw.randint(300, 999)}"
+        return (f"@{moment} add {number(300, 999)} count tcp from 10.0.0.0/{number(8, 32)} {number(0, 100)}-"
+                f"{number(101, 65535)} to any")
+    return f"@{moment} delete {number(300, 999)}"
 
 
 def big(draw: random.Random) -> list[str]:

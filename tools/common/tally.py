@@ -1,5 +1,8 @@
 """Counts passed and failed trials, for every tool that tests something."""
-from collections.abc import Iterable
+from collections.abc import Iterable, Iterator
+
+# The name of each trial, and whether it went as expected.
+Trials = Iterator[tuple[str, object]]
 
 
 class Tally:

@@ -30,3 +30,11 @@ close() {
   fi
   [ "$failed" -eq 0 ] && [ "$passed" -gt 0 ]
 }
+
+# For a script that takes no words but --help: prints standard input as its help and exits, or refuses words: NAME WORDS..
+only_help() {
+  local text
+  text=$(cat)
+  [ "${2-}" != --help ] || { echo "$text" && exit 0; }
+  [ $# -eq 1 ] || { echo "$1: there are no words but --help" >&2 && exit 2; }
+}

@@ -6,7 +6,7 @@ from collections.abc import Callable, Iterator
 from dataclasses import dataclass
 from typing import NamedTuple
 
-from second_parts import MOST_INSTANCES, Codel, FlowSender, Instance
+from second_parts import MOST_INSTANCES, Codel, Instance, Sender
 from second_text import FIELDS, PLAIN, Config, Load, Packet, Rule, dotted
 
 CAUSES = ("denied", "nopipe", "noinstance", "lost", "full", "codel", "deleted", "budget")
@@ -43,7 +43,7 @@ class Train:
 
 @dataclass
 class Flow:
-    sender: FlowSender
+    sender: Sender
     ends: Ends
     # The first bytes of segments that arrived out of order, and the first byte that has not arrived.
     kept: set[int]

@@ -2,7 +2,6 @@
 docs/explanation/rules.md, docs/explanation/codel.md and docs/explanation/reno.md, to be read and not to be fast."""
 from collections import deque
 from math import isqrt
-from typing import Protocol
 
 from second_text import Config, Packet
 
@@ -150,34 +149,8 @@ class Instance:
         self.line.append((self.last_exit, packet))
 
 
-class FlowSender(Protocol):
-    """The methods that a flow's sender needs. Sender has them, and so does Ns2Sender of tools/beside."""
-
-    is_stopped: bool
-
-    @property
-    def smss(self) -> int: ...
-
-    @property
-    def cwnd(self) -> int: ...
-
-    @property
-    def ssthresh(self) -> int: ...
-
-    @property
-    def timer(self) -> int | None: ...
-
-    def may_emit(self) -> bool: ...
-
-    def emit(self, now: int, /) -> int: ...
-
-    def ack(self, number: int, now: int, /) -> None: ...
-
-    def expire(self, now: int, /) -> None: ...
-
-
 class Sender:
-    """A Reno sender, in bytes."""
+    """A Reno sender, in bytes. That of tools/beside/ns2_sender.py is another one."""
 
     # The time at which the timer expires (ns), or None if it is off.
     timer: int | None

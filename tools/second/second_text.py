@@ -113,46 +113,22 @@ class Config:
     """The configuration of a line `pipe P config ..`. Options that are not given have their defaults."""
 
     def __init__(self, line: list[str]) -> None:
-        self.bw, self.delay, self.queue, self.kbytes, self.plr = 0, 0, 50, False, 0
-        self.is_codel, self.target, self.interval = False, 5 * 10**6, 100 * 10**6
-        self.mask = dict.fromkeys(FIELDS, 0)
-        words = deque(line)
-        while words:
-            getattr(self, "take_" + words.popleft())(words)
-
-    def take_bw(self, words: Words) -> None:
-        number, unit = split_unit(words.popleft())
+        # Options, and those of `mask` and `codel`, have names of their own, and each is before its value.
+        found = dict(zip(line, [*line[1:], ""]))
+        number, unit = split_unit(found.get("bw", "0"))
         scale = scenario_text.SCALES[unit[:1] if unit[:1] in ("K", "M", "G") else ""]
         self.bw = number * scale * (8 if unit.endswith("Byte/s") else 1)
-
-    def take_delay(self, words: Words) -> None:
-        self.delay = split_unit(words.popleft())[0]
-
-    def take_queue(self, words: Words) -> None:
-        self.queue, unit = split_unit(words.popleft())
+        self.delay = split_unit(found.get("delay", "0"))[0]
+        self.queue, unit = split_unit(found.get("queue", "50"))
         self.kbytes = bool(unit)
-
-    def take_plr(self, words: Words) -> None:
-        whole, _, part = words.popleft().partition(".")
+        whole, _, part = found.get("plr", "0").partition(".")
         self.plr = int(whole) * 10**6 + int(part.ljust(6, "0"))
-
-    def take_mask(self, words: Words) -> None:
-        if words[0] == "all":
-            words.popleft()
+        self.is_codel = "codel" in found
+        times = [split_unit(found.get(name, usual)) for name, usual in (("target", "5"), ("interval", "100"))]
+        self.target, self.interval = (number * scenario_text.TIMES[unit] for number, unit in times)
+        self.mask = {name: int(found.get(name, "0"), 16) for name in FIELDS}
+        if found.get("mask") == "all":
             self.mask = {name: 16**digits - 1 for name, (_, digits) in FIELDS.items()}
-        while words and words[0] in FIELDS:
-            name = words.popleft()
-            self.mask[name] = int(words.popleft(), 16)
-
-    def take_droptail(self, words: Words) -> None:
-        pass
-
-    def take_codel(self, words: Words) -> None:
-        self.is_codel = True
-        while words and words[0] in ("target", "interval"):
-            name = words.popleft()
-            number, unit = split_unit(words.popleft())
-            setattr(self, name, number * scenario_text.TIMES[unit])
 
     def discipline(self) -> str:
         return f"codel target {self.target} interval {self.interval}" if self.is_codel else "droptail"

@@ -4,7 +4,7 @@ from collections import deque
 from collections.abc import Callable, Iterator
 
 from second_net import Ends, Flow, Net, Pipe, Source, Train
-from second_parts import FlowSender, Sender
+from second_parts import Sender
 from second_text import PLAIN, PROTOCOLS, Config, Rule, number_of
 
 LAST_RULE = 65535
@@ -12,7 +12,7 @@ LAST_RULE = 65535
 # The time of a command (ns), and its words.
 Timed = tuple[int, list[str]]
 # Makes a sender from smss, segments, ssthresh, window and the retransmission timeout in ms (None if it is adaptive).
-NewSender = Callable[[int, int, int, int, int | None], FlowSender]
+NewSender = Callable[[int, int, int, int, int | None], Sender]
 
 
 def ends_of(words: list[str]) -> Ends:
@@ -24,9 +24,11 @@ class Experiment(Net):
     """An experiment that runs commands. Each `do_` method returns None, or the code of a refusal, in which case it has changed
     nothing."""
 
-    def __init__(self, seed: int, budget: int, sender: NewSender = Sender) -> None:
+    def __init__(self, seed: int, budget: int, sender: NewSender = Sender, is_traced: bool = False) -> None:
         super().__init__(seed, budget)
         self.new_sender = sender
+        # Whether all packets are traced, whatever the commands say.
+        self.trace = self.is_traced = int(is_traced)
 
     def obey(self, index: int, words: list[str]) -> None:
         name = words[0]
@@ -126,7 +128,7 @@ class Experiment(Net):
         self.one_pass = int(words[1])
 
     def do_trace(self, words: list[str]) -> None:
-        self.trace = int(words[1])
+        self.trace = int(words[1]) or self.is_traced
 
     def do_end(self, _: list[str]) -> None:
         self.is_over = True
@@ -152,8 +154,8 @@ class Experiment(Net):
         return "\n".join([*self.lines, " ".join(map(str, ["counters", self.made, self.delivered, self.held, *self.drops]))])
 
 
-def report(text: bytes, sender: NewSender = Sender) -> Iterator[str]:
-    """Yields the reports of the experiments of a valid scenario, with senders of this kind."""
+def report(text: bytes, sender: NewSender = Sender, is_traced: bool = False) -> Iterator[str]:
+    """Yields the reports of the experiments of a valid scenario, with senders of this kind; all packets are traced on request."""
     experiments: list[tuple[list[str], list[Timed]]] = []
     for line in text.decode().split("\n"):
         words = line.split()
@@ -165,4 +167,4 @@ def report(text: bytes, sender: NewSender = Sender) -> Iterator[str]:
             experiments[-1][1].append((int(words[0][1:]), words[1:]))
     for head, commands in experiments:
         steps = int(head[7]) if len(head) > 6 else 10**6
-        yield f"experiment {head[1]}\n" + Experiment(int(head[3]), int(head[5]), sender).run(commands, steps) + "\n"
+        yield f"experiment {head[1]}\n" + Experiment(int(head[3]), int(head[5]), sender, is_traced).run(commands, steps) + "\n"
