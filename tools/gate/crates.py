@@ -9,16 +9,10 @@ import re
 import stat
 import subprocess
 import sys
-from typing import Dict, Iterable, List, Optional
+from typing import Dict, Iterable, List
 
 # What a check of a crate reads.
 PARTS = ("src", "specs", "proofs")
-GIGABYTE = 1_000_000_000
-# Where a control group bounds the processors: a quota, its period.
-QUOTAS = (
-    ("/sys/fs/cgroup/cpu.max", r"^(\d+)", "/sys/fs/cgroup/cpu.max", r"^\d+ (\d+)"),
-    ("/sys/fs/cgroup/cpu/cpu.cfs_quota_us", r"^(\d+)", "/sys/fs/cgroup/cpu/cpu.cfs_period_us", r"^(\d+)"),
-)
 
 
 def read_uses(root: pathlib.Path) -> Dict[str, List[str]]:
@@ -82,22 +76,9 @@ def checkout_name(root: pathlib.Path) -> str:
     return hashlib.sha256(os.fsencode(root)).hexdigest()[:16]
 
 
-def number_in(file: str, pattern: str) -> Optional[int]:
-    try:
-        found = re.search(pattern, pathlib.Path(file).read_text(encoding="utf-8"), re.M)
-    except OSError:
-        return None
-    return int(found[1]) if found else None
-
-
 def processors() -> int:
-    """The processors that there are to use: those that the process may run on, or fewer by the quota of its group."""
-    found = len(os.sched_getaffinity(0))
-    for file, words, of_period, period_words in QUOTAS:
-        quota, period = number_in(file, words), number_in(of_period, period_words)
-        if quota and period:
-            found = min(found, max(quota // period, 1))
-    return found
+    """Returns the number of processors that this process may run on."""
+    return len(os.sched_getaffinity(0))
 
 
 def kit_version() -> str:

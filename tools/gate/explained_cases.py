@@ -12,7 +12,9 @@ command, e1 to eN; %rules N, %pipes N and %trains N for N commands that make one
 
     4: badword rate            line 4 is refused: its number and the cause, the line, marks below the word that stands between « and » in the scenario,
                                what is expected and an example, by the name that sentences.tsv has for both
-    4: units                   a warning of line 4: its number and the cause, the line, and the name of its experiment
+    4: units                   a warning of line 4: its number and the cause, the line, and the name of its experiment; for
+                               a refused command also what refusals.tsv has of its code
+    %10 .. %                   the lines between, for each {number} from 1 to 10, and the number {after} it
 
 A row of explained/*.tsv is such a case with one faulty line and status 1: NAME | WORDS, the scenario, the cause, the name of what is expected, and the
 lines that follow. The scenario has its lines between ' | ', or is one line of an experiment with nothing else in it.
@@ -64,6 +66,13 @@ def refused(line: str) -> list[str]:
     return [f"  {shown(before + word + after)}", f"  {marks}"]
 
 
+def repeated(text: str) -> str:
+    """A text in which what stands between two lines with a percent sign is repeated."""
+    def times(found: re.Match[str]) -> str:
+        return "".join(found[2].format(number=k, after=k + 1) for k in range(1, int(found[1]) + 1))
+    return re.sub(r"(?ms)^%(\d+)\n(.*?)^%\n", times, text)
+
+
 def whole(lines: list[str], scenario: list[str], expected: dict[str, list[str]]) -> str:
     """The standard error, of lines some of which stand for several."""
     made: list[str] = []
@@ -78,8 +87,8 @@ def whole(lines: list[str], scenario: list[str], expected: dict[str, list[str]])
             made += [*refused(scenario[at]), *expected[found[3]]]
         else:
             name = next(it.split()[1] for it in scenario[at::-1] if it.startswith("experiment "))
-            made += [f"  {shown(scenario[at])}", f"  experiment: {name}"]
-    return "".join(f"{it}\n" for it in made)
+            made += [f"  {shown(scenario[at])}", f"  experiment: {name}", *(expected[found[2]] if " " in found[2] else [])]
+    return repeated("".join(f"{it}\n" for it in made))
 
 
 def case_of(head: str, scenario: list[str], status: int, said: list[str], expected: dict[str, list[str]]) -> Case:
@@ -96,7 +105,8 @@ def rows(path: pathlib.Path) -> Iterator[list[str]]:
 
 def cases() -> Iterator[Case]:
     expected = {name: [f"  expected: {it}", *(f"  example: {one}" for one in example)] for name, it, *example in rows(FOLDER / "sentences.tsv")}
-    for path in sorted({*FOLDER.glob("*.tsv")} - {FOLDER / "sentences.tsv"}):
+    expected |= {f"refused {code}": [f"  means: {means}", f"  hint: {hint}"] for code, means, hint in rows(FOLDER / "refusals.tsv")}
+    for path in sorted({*FOLDER.glob("*.tsv")} - {FOLDER / "sentences.tsv", FOLDER / "refusals.tsv"}):
         for head, text, cause, name, *more in rows(path):
             scenario = text.split(" | ") if " | " in text else [text, LAST] if text.lstrip("«").startswith("experiment") else [FIRST, text, LAST]
             at = next(k for k, line in enumerate(scenario, 1) if "«" in line)

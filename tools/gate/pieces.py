@@ -70,11 +70,11 @@ BY_PROGRAM = (
     Piece("tools/gate/check_rows", "the rows of --format npy, compared with those made from the text", ("sh", "-c", "PATH=/usr/bin:$PATH tools/gate/check_rows"),
           15, "/usr/bin/python3 -c 'import numpy'", (CHECKED,)),
     tried("cookbook/check", "the cookbook", 46),
-    tried("tools/gate/check_install", "the manual pages, completion and the installation", 29, needs="command -v man && command -v groff && command -v zsh"),
+    tried("tools/gate/check_install", "the manual pages, completion and the installation", 29, needs="command -v man && command -v groff && command -v help2man && command -v zsh", after=(LIBRARY,)),
     tried("tools/gate/check_library", "the library from C, Python and Rust", 10, needs="command -v cc", after=(LIBRARY,)),
 )
 # Beside those what only the whole tries.
-PACKAGING = "command -v dh && /usr/bin/python3 -c 'import build, wheel'"
+PACKAGING = "command -v dh && command -v help2man && /usr/bin/python3 -c 'import build, wheel'"
 RELEASE = tried("tools/gate/check_release", "what tools/release makes", 60, needs=PACKAGING)
 PACKAGES = tried("tools/gate/check_packages", "the Debian packages in clean roots", 120, needs=f"{PACKAGING} && command -v mmdebstrap")
 SCRIPT = Piece("tools/gate/check_dnlab", "the script ./dnlab, with a kit that only prints what the test chooses", ("tools/gate/check_dnlab",), 16)

@@ -70,14 +70,12 @@ def temporary_folder(prefix: str) -> Iterator[pathlib.Path]:
 
 
 @contextlib.contextmanager
-def started(
-    words: Iterable[str], copy: pathlib.Path, temporary: pathlib.Path, command: Sequence[str] = RT_CI, **more: str
-) -> "Iterator[subprocess.Popen[bytes]]":
+def started(words: Iterable[str], copy: pathlib.Path, temporary: pathlib.Path, **more: str) -> "Iterator[subprocess.Popen[bytes]]":
     """Starts rt ci in a session of its own, so that it ends when this is left, with all that it started."""
     if shutil.which("rt") is None:
         raise FileNotFoundError("rt, the command of the Rattle kit, is not on the PATH")
     process = subprocess.Popen(
-        [*command, *words],
+        [*RT_CI, *words],
         cwd=copy,
         stdin=subprocess.DEVNULL,
         stdout=subprocess.PIPE,
