@@ -13,7 +13,7 @@ ghost use Rattle.alone.specs.Reports.{made_alone};
 use crate::lone::LoneShelf;
 use crate::progress::Progress;
 use control::Experiment as Script;
-use emu_model::{Timed, later_commands_wait, packets_add_up};
+use emu_model::{Timed, laws};
 use experiment::{ApplyError, BATCH, Event, Experiment, Report, ReportKeeper};
 use std::alloc::{AllocError, Global};
 
@@ -64,7 +64,7 @@ fn advance<P: Progress>(
         (Advances report.old (own_pocket shelf.old) experiment.old
         report.new (own_pocket shelf.new) experiment.new) }
 {
-    packets_add_up();
+    laws::packets_add_up();
     loop {
         keep_batch(experiment, report)?;
         match experiment.event(shelf, 0) {
@@ -117,8 +117,8 @@ fn report_by_itself<P: Progress>(
     requires { AreInOrder 0 script.now.commands }
     ensures { IfOk result (λ report. report ≡ made_alone script.now) }
 {
-    later_commands_wait();
-    packets_add_up();
+    laws::later_commands_wait();
+    laws::packets_add_up();
     let mut shelf = LoneShelf::new(alloc, script.spec.budget.packets);
     let mut experiment = Experiment::new(alloc, script.spec)?;
     let mut report = ReportKeeper::new(alloc, script.name.as_bytes())?;

@@ -3,7 +3,7 @@
 
 ghost use Rattle.alone.specs.JoiningLaw.{ReportsJoin};
 
-use control::texts_part;
+use control::laws;
 
 /// If each of several texts spells a scenario by itself, and their concatenation spells one too,
 /// then that scenario is the concatenation of theirs, and its report is the concatenation of their
@@ -11,5 +11,5 @@ use control::texts_part;
 pub fn reports_join()
     ensures { ReportsJoin }
 {
-    texts_part();
+    laws::texts_part();
 }

@@ -18,7 +18,7 @@ use crate::packet_line::packet_line;
 use crate::ranges;
 use crate::raw::RawLine;
 use crate::shape::line_shape;
-use control_words::{Words, options_are_read};
+use control_words::{Words, laws};
 use emu_model::{Spec, Timed};
 
 /// The maximum length of a line in bytes, without its line feed.
@@ -118,6 +118,6 @@ pub fn read_line(line: &[u8]) -> Result<LineEntry, LineFault>
     ensures { MatchResult result (λ e. IsEntry line.now (view_entry e))
         (λ c. IsFirstAlone c line.now) }
 {
-    options_are_read();
+    laws::options_are_read();
     entry(line)
 }

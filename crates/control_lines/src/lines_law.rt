@@ -4,13 +4,13 @@
 ghost use Rattle.control_lines.specs.LinesAreRead.{LinesAreRead};
 ghost use Rattle.control_lines.specs.LinesSayOne.{LinesSayOne};
 
-use control_words::options_are_read;
+use control_words::laws;
 
 /// A line has at most one meaning.
 pub fn lines_say_one()
     ensures { LinesSayOne }
 {
-    options_are_read();
+    laws::options_are_read();
 }
 
 /// Words that are parsed as a line spell that line, and words that spell a line are parsed as
@@ -18,5 +18,5 @@ pub fn lines_say_one()
 pub fn lines_are_read()
     ensures { LinesAreRead }
 {
-    options_are_read();
+    laws::options_are_read();
 }

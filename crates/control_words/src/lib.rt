@@ -4,6 +4,7 @@
 #![tactic(auto)]
 
 pub mod addresses;
+pub mod laws;
 pub mod numbers;
 mod options;
 mod options_law;
@@ -12,7 +13,6 @@ mod raw_options;
 mod text;
 
 pub use options::{bare_discipline, flow_options, pipe_options};
-pub use options_law::options_are_read;
 pub use raw::{RawAddress, RawPorts, RawPrefix, RawQueue, RawTiming};
 pub use raw_options::{
     BareDiscipline, RawCodel, RawConfig, RawDiscipline, RawFields, RawFlowOptions, RawMask,

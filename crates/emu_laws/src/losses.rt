@@ -5,7 +5,7 @@ ghost use Rattle.emu_laws.specs.LossCauses.{FullAtLimit, LostBelowRate};
 ghost use Rattle.emu_laws.specs.Losses.{AcksPassTheBudget, NothingIsLost, CodelDropsNothing, NoQueueIsFull, RoomDropsNothing, NothingGoesWithPipes, PipesDropNothing};
 ghost use Rattle.emu_laws.specs.RunCauses.{DropsHaveCauses};
 
-use emu_model::each_packet_once;
+use emu_model::laws;
 
 /// A packet that arrives at a pipe is dropped as full only if it and the packets that wait in its
 /// instance would exceed the limit (ipfw(8), queue).
@@ -80,5 +80,5 @@ pub fn acks_pass_the_budget()
 pub fn pipes_drop_nothing()
     ensures { PipesDropNothing }
 {
-    each_packet_once();
+    laws::each_packet_once();
 }

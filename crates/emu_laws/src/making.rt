@@ -4,7 +4,7 @@ ghost use Rattle.emu_laws.specs.AcksAnswer.{AcksAnswerSegments};
 ghost use Rattle.emu_laws.specs.AcksCounted.{AcksMatchSegments};
 ghost use Rattle.emu_laws.specs.EndsHeld.{EndsWereHeld};
 
-use emu_model::each_packet_once;
+use emu_model::laws;
 
 /// In every run, the record before that of an acknowledgement's creation is that of the delivery of
 /// a segment of the same flow, at the same time (RFC 5681, section 4.2).
@@ -23,5 +23,5 @@ pub fn acks_match_segments()
 pub fn ends_were_held()
     ensures { EndsWereHeld }
 {
-    each_packet_once();
+    laws::each_packet_once();
 }

@@ -4,14 +4,14 @@ ghost use Rattle.emu_laws.specs.DeliveryDelay.{DeliveriesWait};
 ghost use Rattle.emu_laws.specs.RecordOrder.{RecordsAreInOrder};
 ghost use Rattle.emu_laws.specs.Isolation.{MomentsAreTheirOwn};
 
-use emu_model::{dues_differ, dues_stay_ahead, each_packet_once};
+use emu_model::laws;
 
 /// In a run a packet finishes in an instance, and the first one in flight leaves it, exactly when
 /// the instance's own state says so: the times of its events don't depend on anything else either.
 pub fn moments_are_their_own()
     ensures { MomentsAreTheirOwn }
 {
-    dues_differ();
+    laws::dues_differ();
 }
 
 /// If the times of the commands don't decrease, the records of a run are in the order of their
@@ -19,7 +19,7 @@ pub fn moments_are_their_own()
 pub fn records_are_in_order()
     ensures { RecordsAreInOrder }
 {
-    dues_stay_ahead();
+    laws::dues_stay_ahead();
 }
 
 /// If, in addition, each `config` of a pipe sets at least a given delay, each packet that finishes
@@ -27,7 +27,7 @@ pub fn records_are_in_order()
 pub fn deliveries_wait()
     ensures { DeliveriesWait }
 {
-    dues_stay_ahead();
-    dues_differ();
-    each_packet_once();
+    laws::dues_stay_ahead();
+    laws::dues_differ();
+    laws::each_packet_once();
 }

@@ -15,10 +15,7 @@ ghost use Rattle.experiment.specs.Kept.{view, IsAlone, IsAloneAfter, IsHousedIn,
 ghost use Rattle.experiment.specs.Moves.{Makes, Steps, Halts, Closes};
 
 use crate::told::command_due;
-use emu_model::{
-    Class, Command, Due, Ending, EventContext, Spec, Timed, command_in_range, later_commands_wait,
-    records_are_not_read, records_grow,
-};
+use emu_model::{Class, Command, Due, Ending, EventContext, Spec, Timed, command_in_range, laws};
 use network::Network;
 use packet_store::{Owner, Shelf};
 use std::alloc::{AllocError, Global};
@@ -113,7 +110,7 @@ impl Experiment {
             (λ e. (budget : ℕ) → spec.budget.packets ≤ budget →
             IsHousedIn (empty_pocket budget) e) }
     {
-        few_steps(&spec);
+        crate::laws::few_steps(&spec);
         let net = Network::new(alloc, spec.seed, spec.traced)?;
         Ok(Experiment {
             spec,
@@ -188,7 +185,7 @@ impl Experiment {
         let Ok(()) = self.consumed.reserve(1) else {
             return Err(ApplyError::NoMemory);
         };
-        later_commands_wait();
+        laws::later_commands_wait();
         command_in_range(&command.command);
         self.consumed.push_reserved(*command);
         self.next = Some(*command);
@@ -228,8 +225,8 @@ impl Experiment {
             6 ≤ self.old.net.log.spare → result ≢ Event.Halted }
         ensures others { OthersStay owner (S.pocket shelf.old) (S.pocket shelf.new) }
     {
-        records_grow();
-        records_are_not_read();
+        laws::records_grow();
+        laws::records_are_not_read();
         if self.ending.is_some() {
             return Event::Still;
         }
@@ -355,13 +352,6 @@ impl Experiment {
         self.held = shelf.count(owner) as u64;
         Ok(())
     }
-}
-
-// Shows the prover the range of a step budget.
-fn few_steps(spec: &Spec)
-    ensures { spec.now.budget.steps ≤ 10 ^ 7 }
-{
-    let _high = spec.budget.steps.get();
 }
 
 // Returns the context of an event at a time (ns).

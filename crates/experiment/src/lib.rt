@@ -6,6 +6,7 @@
 mod counts;
 mod experiment;
 mod keeper;
+pub mod laws;
 mod rehousing;
 mod room;
 mod rows;
@@ -21,11 +22,4 @@ pub use experiment::{ApplyError, Event, Experiment};
 pub use keeper::{BATCH, Report, ReportKeeper};
 pub use room::{put_npy, put_reports};
 pub use rows::{count_rows, npy_length};
-pub use sessions::{
-    ended_sessions_are_whole, ended_states_are_whole, sessions_are_alone, transcripts_are_whole,
-};
-pub use waits::{
-    commands_come_alone, commands_go_on, steps_before_wait, waits_agree, waits_begin,
-    waits_pass_events, waits_read_no_records, waits_rise, waits_settle,
-};
 pub use writer::ReportWriter;

@@ -13,9 +13,7 @@ ghost use Rattle.experiment.specs.Kept.{view, IsAlone, IsAloneAfter, IsHousedIn,
 ghost use Rattle.experiment.specs.Dues.{command_dues, dues_in, next_due_in};
 
 use crate::Experiment;
-use emu_model::{
-    Counters, Due, Ending, Record, Source, Spec, Timed, dues_stay_ahead, dues_stay_below,
-};
+use emu_model::{Counters, Due, Ending, Record, Source, Spec, Timed, laws};
 use network::Network;
 use std::alloc::{AllocError, Global};
 
@@ -143,8 +141,8 @@ impl Experiment {
             (dues_in (view p self.now)) }
     {
         let _ = &self.spec;
-        dues_stay_ahead();
-        dues_stay_below();
+        laws::dues_stay_ahead();
+        laws::dues_stay_below();
     }
 
     /// Appends the dues. If allocation fails, `dues` is unchanged.

@@ -9,11 +9,7 @@ ghost use Rattle.network.specs.Kept.{net_of};
 ghost use Rattle.experiment.specs.Kept.{view, IsHousedIn, IsWaiting};
 ghost use Rattle.experiment.specs.Moves.{IsPast, Passes};
 
-use crate::waits::{
-    steps_before_wait, waits_agree, waits_pass_events, waits_read_no_records, waits_rise,
-    waits_settle,
-};
-use crate::{Event, Experiment};
+use crate::{Event, Experiment, laws};
 use emu_model::{Class, Due, Source};
 use packet_store::{Owner, Shelf};
 
@@ -47,12 +43,12 @@ impl Experiment {
         ensures noted { self.new.noted ≡ self.old.noted }
         ensures others { OthersStay owner (S.pocket shelf.old) (S.pocket shelf.new) }
     {
-        steps_before_wait();
-        waits_pass_events();
-        waits_agree();
-        waits_rise();
-        waits_read_no_records();
-        waits_settle();
+        laws::steps_before_wait();
+        laws::waits_pass_events();
+        laws::waits_agree();
+        laws::waits_rise();
+        laws::waits_read_no_records();
+        laws::waits_settle();
         if self.ending.is_some() {
             return Event::Still;
         }
@@ -80,7 +76,7 @@ impl Experiment {
             m ≡ (least_due (2 * 10 ^ 15) (dues_of self.now.clock (net_of p self.now.net))).moment) }
         ensures none { result ≡ None → (p : Pocket) → IsSettled (2 * 10 ^ 15) (view p self.now) }
     {
-        waits_settle();
+        laws::waits_settle();
         let past = Due {
             moment: PAST_ALL,
             source: Source::next_command(),

@@ -3,7 +3,7 @@
 
 ghost use Rattle.experiment.specs.Waits.{StepsBeforeWait, WaitsAgree, WaitsPassEvents, WaitsReadNoRecords, WaitsSettle, CommandsComeAlone, WaitsBegin, WaitsRise, CommandsGoOn};
 
-use emu_model::{later_commands_wait, records_are_not_read};
+use emu_model::laws;
 
 /// Events that are due before a time may be made before it is known which command arrives then or
 /// later.
@@ -21,7 +21,7 @@ pub fn commands_come_alone()
 pub fn waits_begin()
     ensures { WaitsBegin }
 {
-    later_commands_wait();
+    laws::later_commands_wait();
 }
 
 /// An experiment that waits for a command at a time or later also waits for one at a later time.
@@ -34,7 +34,7 @@ pub fn waits_rise()
 pub fn commands_go_on()
     ensures { CommandsGoOn }
 {
-    later_commands_wait();
+    laws::later_commands_wait();
 }
 
 /// Earlier records, which may have been discarded, don't affect an event that is made before the
@@ -42,7 +42,7 @@ pub fn commands_go_on()
 pub fn waits_read_no_records()
     ensures { WaitsReadNoRecords }
 {
-    records_are_not_read();
+    laws::records_are_not_read();
 }
 
 /// Two waits that extend past the time of the earliest event make the same event, however far they

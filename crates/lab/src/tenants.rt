@@ -15,7 +15,7 @@ use crate::worker::Board;
 use alone::RunFault;
 use bench::{PostError, Registry, RingMail, Tenant};
 use control::Experiment;
-use emu_model::{Timed, later_commands_wait};
+use emu_model::{Timed, laws};
 use shard::{Dossier, Parcel, SLOTS};
 use std::alloc::Global;
 use std::sync::Wait;
@@ -177,7 +177,7 @@ fn settle_one(
         return Err(RunFault::Strange);
     };
     outcome.reveal_invariant();
-    later_commands_wait();
+    laws::later_commands_wait();
     let counters = outcome.counters();
     let (archive, rest) = outcome.into_records();
     Ok(Outcome::new(archive, rest, counters))

@@ -4,6 +4,7 @@
 
 mod answer;
 mod fates;
+pub mod laws;
 mod marks;
 mod open;
 mod request;
@@ -14,5 +15,4 @@ mod session;
 pub use answer::{Answer, cause_word, put_answer, put_comment};
 pub use fates::{Stop, Taken};
 pub use run::Run;
-pub use run_laws::{earlier_commands_come, ended_runs_are_reports, spent_runs_are_reports};
 pub use session::{MAX_LINE, Session};

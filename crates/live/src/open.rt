@@ -21,9 +21,8 @@ ghost use Rattle.live.specs.declared.open.Phase.TheVariants.{Lost, Going, Over};
 use crate::answer::Answer;
 use crate::fates::{Stop, Taken};
 use crate::run::Run;
-use crate::run_laws::{ended_runs_are_reports, spent_runs_are_reports};
 use control::Cause;
-use emu_model::{Command, Spec, Timed, packets_add_up};
+use emu_model::{Command, Spec, Timed};
 use std::alloc::{AllocError, Global};
 use std::marker::Model;
 
@@ -225,8 +224,8 @@ impl Open {
         ensures passes { OnOk result ((bytes : List ℕ) × (out.new.items ≡ out.old.items ++ bytes)
             × IsPassed limit stop bytes self.old self.new) }
     {
-        packets_add_up();
-        spent_runs_are_reports();
+        emu_model::laws::packets_add_up();
+        crate::laws::spent_runs_are_reports();
         self.phase = Phase::Lost;
         self.reached = self.run.pass(self.reached, limit, stop)?;
         self.settle(out)
@@ -252,9 +251,9 @@ impl Open {
         ensures reached { IfOk result (λ t. MatchOption t (self.new.reached ≤ command.now.moment)
             (λ _. self.new.reached ≡ command.now.moment)) }
     {
-        packets_add_up();
-        spent_runs_are_reports();
-        ended_runs_are_reports();
+        emu_model::laws::packets_add_up();
+        crate::laws::spent_runs_are_reports();
+        crate::laws::ended_runs_are_reports();
         self.phase = Phase::Lost;
         self.reached = self.run.pass(self.reached, command.moment, Stop::Moment)?;
         if self.run.ending().is_some() {

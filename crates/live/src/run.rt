@@ -17,11 +17,8 @@ ghost use Rattle.live.specs.declared.fates.Stop.TheVariants.{Moment};
 
 use crate::fates::{Stop, Taken, concerns, first_hold, mark_injected, taken_by};
 use crate::marks::Marks;
-use emu_model::{Ending, Record, Spec, Timed, packets_add_up, records_are_not_read};
-use experiment::{
-    ApplyError, BATCH, Event, Experiment, ReportWriter, commands_go_on, waits_begin,
-    waits_read_no_records,
-};
+use emu_model::{Ending, Record, Spec, Timed};
+use experiment::{ApplyError, BATCH, Event, Experiment, ReportWriter};
 use packet_store::OwnShelf;
 use std::alloc::{AllocError, Global};
 use std::marker::Model;
@@ -109,7 +106,7 @@ impl Run {
             × (r.report.text ≡ heading_of name.now)) }
         ensures begins { IfOk result (λ r. state_of r ≡ initial_state spec []) }
     {
-        waits_begin();
+        experiment::laws::waits_begin();
         Ok(Run {
             experiment: Experiment::new(alloc, spec)?,
             shelf: OwnShelf::new(alloc, spec.budget.packets),
@@ -184,7 +181,7 @@ impl Run {
         ensures quiet { IfOk result (λ r. IsQuietAfter limit r self.new) }
         ensures event { IfOk result (λ r. IsEvent reached limit r self.old self.new) }
     {
-        waits_read_no_records();
+        experiment::laws::waits_read_no_records();
         let event = self.experiment.event_before(&mut self.shelf, 0, limit);
         match event {
             Event::Halted => Err(AllocError),
@@ -216,7 +213,7 @@ impl Run {
         ensures whole { IfOk result (λ u. self.new.experiment.ending ≡ None → stop ≡ Moment → u ≡ limit) }
         ensures stops { IfOk result (λ u. StopsAt stop from limit u self.old self.new) }
     {
-        packets_add_up();
+        emu_model::laws::packets_add_up();
         let mut reached = from;
         let mut last = limit;
         let mut until = stop;
@@ -256,9 +253,9 @@ impl Run {
             (refusal_in (slice_get self.new.experiment.net.log.records
             (length self.old.experiment.net.log.records)))) }
     {
-        waits_begin();
-        commands_go_on();
-        records_are_not_read();
+        experiment::laws::waits_begin();
+        experiment::laws::commands_go_on();
+        emu_model::laws::records_are_not_read();
         let number = self.experiment.made_count();
         let seen = self.experiment.records().len();
         mark_injected(&mut self.mine, &command.command, number)?;

@@ -3,16 +3,13 @@
 
 ghost use Rattle.live.specs.RunLaws.{EndedRunsAreReports, SpentRunsAreReports, EarlierCommandsCome};
 
-use emu_model::{later_commands_wait, records_are_not_read};
-use experiment::{commands_go_on, ended_states_are_whole, waits_settle};
-
 /// If the last step was a command, the lines are the report of the commands that arrived, followed
 /// by any others.
 pub fn ended_runs_are_reports()
     ensures { EndedRunsAreReports }
 {
-    later_commands_wait();
-    ended_states_are_whole();
+    emu_model::laws::later_commands_wait();
+    experiment::laws::ended_states_are_whole();
 }
 
 /// If the steps were spent while time passed, the lines are the report of the commands that
@@ -20,7 +17,7 @@ pub fn ended_runs_are_reports()
 pub fn spent_runs_are_reports()
     ensures { SpentRunsAreReports }
 {
-    ended_states_are_whole();
+    experiment::laws::ended_states_are_whole();
 }
 
 /// If the last step would be spent on an event, a command at that event's time or earlier is
@@ -29,7 +26,7 @@ pub fn spent_runs_are_reports()
 pub fn earlier_commands_come()
     ensures { EarlierCommandsCome }
 {
-    commands_go_on();
-    records_are_not_read();
-    waits_settle();
+    experiment::laws::commands_go_on();
+    emu_model::laws::records_are_not_read();
+    experiment::laws::waits_settle();
 }

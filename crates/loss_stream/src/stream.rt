@@ -3,7 +3,7 @@
 ghost use Rattle.std.specs.Prelude.{◌≡◌, ◌+◌, ◌-◌, ◌^◌, min};
 ghost use Rattle.emu_model.specs.Loss.{is_lost, loss_word};
 
-use emu_model::{LossRate, PipeNumber, loss_has_its_extremes};
+use emu_model::{LossRate, PipeNumber, laws};
 use rand_chacha::ChaCha20Rng;
 use rand_core::SeedableRng;
 use rand_core::utils::NextWord;
@@ -94,7 +94,7 @@ impl LossStream {
         ensures drawn { self.new
             ≡ record self.old { drawn = min (self.old.drawn + 1) (2 ^ 128 - 1) } }
     {
-        loss_has_its_extremes();
+        laws::loss_has_its_extremes();
         let place = self.drawn;
         match place.checked_add(1) {
             Some(next) => self.drawn = next,

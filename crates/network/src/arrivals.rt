@@ -17,12 +17,12 @@ ghost use Rattle.emu_model.specs.declared.rules.Verdict.TheVariants.{IntoPipe};
 use crate::flow_cache::{Lookup, Route};
 use crate::state::Network;
 use emu_model::{
-    Delay, DropCause, EventContext, Origin, Packet, PipeNumber, Place, Record, RuleNumber, SendSpec,
-    Verdict,
+    Delay, DropCause, EventContext, Origin, Packet, PipeNumber, Place, Record, RuleNumber,
+    SendSpec, Verdict,
 };
 use emu_rules::{Match, NO_RULE};
 use packet_store::{Owner, Shelf};
-use pipe_core::{NO_INSTANCE, keys_say_all};
+use pipe_core::{NO_INSTANCE, laws};
 use std::alloc::AllocError;
 use traffic::Sending;
 use unchecked::unreachable_unchecked;
@@ -310,7 +310,7 @@ impl Network {
         ensures log { self.new.log ≡ self.old.log }
         ensures others { OthersStay owner (S.pocket shelf.old) (S.pocket shelf.new) }
     {
-        keys_say_all();
+        laws::keys_say_all();
         let Ok(key) = shelf.put(owner, *packet) else {
             unreachable_unchecked!();
         };
@@ -543,7 +543,7 @@ impl Network {
         ensures takes { TakesRoom 4 owner (S.pocket shelf.old) (S.pocket shelf.new)
             self.old self.new }
     {
-        keys_say_all();
+        laws::keys_say_all();
         let packet = packet_of(sending.origin, &sending.send, self.made);
         self.made += 1;
         self.note_made(at.now, sending.origin, &packet);

@@ -13,7 +13,7 @@ ghost use Rattle.network.specs.Due.{IsDue};
 use crate::state::Network;
 use due_index::DueNumber;
 use emu_model::{Counters, Due, Record, Source};
-use pipe_core::keys_say_all;
+use pipe_core::laws;
 use std::alloc::AllocError;
 
 impl Network {
@@ -107,7 +107,7 @@ impl Network {
         ensures { (p : Pocket) → IsHoused p self.now → held ≡ p.count →
             result ≡ counters_of (net_of p self.now) }
     {
-        keys_say_all();
+        laws::keys_say_all();
         Counters {
             made: self.made,
             delivered: self.log.delivered_count(),

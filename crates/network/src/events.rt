@@ -22,7 +22,7 @@ use crate::flow_cache::{Lookup, Route, line_of};
 use crate::state::Network;
 use emu_model::{Class, DropCause, Due, EventContext, FlowNumber, Packet, PipeNumber, Record};
 use packet_store::{Owner, Shelf};
-use pipe_core::keys_say_all;
+use pipe_core::laws;
 use pipe_table::RecordLog;
 use std::alloc::AllocError;
 use traffic::Sending;
@@ -155,7 +155,7 @@ impl Network {
         ensures freed { OnSome result (0 < S.room shelf.new owner) }
         ensures others { OthersStay owner (S.pocket shelf.old) (S.pocket shelf.new) }
     {
-        keys_say_all();
+        laws::keys_say_all();
         let key = self.direct.leave()?;
         let Some(packet) = shelf.take(owner, key) else {
             unreachable_unchecked!();

@@ -9,9 +9,9 @@ mod dues;
 mod events;
 mod flow_cache;
 mod housing_law;
+pub mod laws;
 mod rehousing;
 mod state;
 
 pub use flow_cache::{CacheEntry, FlowCache, Lookup, Route};
-pub use housing_law::still_is_housed;
 pub use state::Network;

@@ -6,7 +6,7 @@ ghost use Rattle.network.specs.Kept.{net_of, net_keys, IsHoused};
 
 use crate::Network;
 use packet_store::{Owner, Shelf};
-use pipe_core::{keys_say_all, rehouse_line};
+use pipe_core::{laws, rehouse_line};
 
 impl Network {
     /// Moves all packets from one shelf to another, where the other owner must have none and there
@@ -35,7 +35,7 @@ impl Network {
         ensures others_from { OthersStay owner (S.pocket from.old) (S.pocket from.new) }
         ensures others_to { OthersStay other (T.pocket to.old) (T.pocket to.new) }
     {
-        keys_say_all();
+        laws::keys_say_all();
         rehouse_line(&mut self.direct, from, owner, to, other);
         self.table.rehouse(from, owner, to, other);
     }

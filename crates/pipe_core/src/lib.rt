@@ -5,6 +5,7 @@
 
 mod instance;
 mod keys_law;
+pub mod laws;
 mod leftovers;
 mod pipe;
 mod rehouse;
@@ -13,7 +14,6 @@ mod slot;
 mod takes;
 
 pub use instance::{Finished, Instance, InstanceDues, Shown};
-pub use keys_law::keys_say_all;
 pub use leftovers::Leftovers;
 pub use pipe::{Arrival, NO_INSTANCE, Pipe};
 pub use rehouse::rehouse_line;

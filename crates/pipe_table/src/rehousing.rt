@@ -10,7 +10,7 @@ ghost use Rattle.pipe_table.specs.Table.{seen_pipes, with_pipes, pipe_keys, IsTa
 
 use crate::PipeTable;
 use packet_store::{Owner, Shelf};
-use pipe_core::{Pipe, keys_say_all};
+use pipe_core::{Pipe, laws};
 
 impl PipeTable {
     /// Moves all packets of the pipes from one shelf to another, which must have room for them, and
@@ -66,7 +66,7 @@ fn rehouse_all<S: Shelf, T: Shelf>(
     ensures others_from { OthersStay owner (S.pocket from.old) (S.pocket from.new) }
     ensures others_to { OthersStay other (T.pocket to.old) (T.pocket to.new) }
 {
-    keys_say_all();
+    laws::keys_say_all();
     for i in 0..pipes.len() {
         pipes[i].rehouse(from, owner, to, other);
     }

@@ -22,7 +22,7 @@ use crate::places::lead_all;
 use due_index::{DueIndex, NumberTable};
 use emu_model::{DropCause, Packet, PipeConfig, PipeNumber, Refusal, Size};
 use packet_store::{Owner, Shelf};
-use pipe_core::{NO_INSTANCE, Pipe, keys_say_all};
+use pipe_core::{NO_INSTANCE, Pipe, laws};
 use std::alloc::{AllocError, Global};
 use std::marker::Model;
 
@@ -174,7 +174,7 @@ impl PipeTable {
         ensures places { KeepsPlaces self.old.pipes self.new.pipes }
         ensures others { OthersStay owner (S.pocket shelf.old) (S.pocket shelf.new) }
     {
-        keys_say_all();
+        laws::keys_say_all();
         let pipe = &mut self.pipes[place];
         let answer = pipe.arrive_at(instance, shelf, owner, now, packet);
         if !answer.is_due_same {
@@ -239,7 +239,7 @@ impl PipeTable {
         ensures none { IsTrue plain → OnOk result (drops.new.items ≡ []) }
         ensures capacity { vec_capacity drops.old ≤ vec_capacity drops.new }
     {
-        keys_say_all();
+        laws::keys_say_all();
         let pipe = &mut self.pipes[place];
         let finished = pipe.finish(shelf, owner, instance, now, plain, drops);
         self.dues.set_least(place, pipe.least());
@@ -299,7 +299,7 @@ impl PipeTable {
             ((S.pocket shelf.new owner).count < (S.pocket shelf.new owner).budget) }
         ensures others { OthersStay owner (S.pocket shelf.old) (S.pocket shelf.new) }
     {
-        keys_say_all();
+        laws::keys_say_all();
         let pipe = &mut self.pipes[place];
         let packet = pipe.exit(shelf, owner, instance);
         self.dues.set_least(place, pipe.least());
@@ -342,7 +342,7 @@ impl PipeTable {
         ensures places { KeepsPlaces self.old.pipes self.new.pipes }
         ensures others { OthersStay owner (S.pocket shelf.old) (S.pocket shelf.new) }
     {
-        keys_say_all();
+        laws::keys_say_all();
         let pipe = &mut self.pipes[place];
         let answer = pipe.arrive(shelf, owner, now, packet);
         self.dues.set(place, pipe.least());
@@ -467,7 +467,7 @@ impl PipeTable {
         ensures refused_pocket { OnErr result
             (S.pocket shelf.new owner ≡ S.pocket shelf.old owner) }
     {
-        keys_say_all();
+        laws::keys_say_all();
         let Some(place) = self.place_of(number) else {
             return Ok(None);
         };

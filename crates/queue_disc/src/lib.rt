@@ -6,6 +6,7 @@
 mod controlled;
 mod entries;
 mod law;
+mod laws;
 mod plan;
 mod queue;
 mod state;

@@ -5,6 +5,7 @@ ghost use Rattle.emu_model.specs.DropTail.{bytes_of, accepts};
 ghost use Rattle.queue_disc.specs.Queues.{with_item, IsLimit};
 
 use crate::entries::{EnqueueError, Queued, Refused};
+use crate::laws;
 use emu_model::{QueueLimit, Size};
 use std::alloc::{AllocError, Global};
 use std::collections::VecDeque;
@@ -12,20 +13,6 @@ use std::marker::Model;
 
 /// The number of places of the first allocation.
 const LEAST_GROWTH: usize = 4;
-
-// Shows the prover the ranges of a limit's types; it compiles to nothing.
-fn limit_in_range(limit: &QueueLimit)
-    ensures { IsLimit limit.now }
-{
-    match limit {
-        QueueLimit::Slots(slots) => {
-            let _ = slots.get();
-        }
-        QueueLimit::KBytes(kbytes) => {
-            let _ = kbytes.get();
-        }
-    }
-}
 
 /// A queue with a limit, first in first out.
 #[derive(Drop)]
@@ -57,7 +44,7 @@ impl<A> DropTail<A> {
         ensures limit { result.limit ≡ limit }
         ensures empty { result.waiting ≡ [] }
     {
-        limit_in_range(&limit);
+        laws::limit_in_range(&limit);
         DropTail {
             limit,
             waiting: VecDeque::new(alloc),
@@ -169,7 +156,7 @@ impl<A> DropTail<A> {
     pub fn set_limit(&mut self, limit: QueueLimit)
         ensures { self.new ≡ record self.old { limit = limit } }
     {
-        limit_in_range(&limit);
+        laws::limit_in_range(&limit);
         self.limit = limit;
     }
 

@@ -11,10 +11,7 @@ ghost use Rattle.shard.specs.Seen.{IsToldMore, IsPublished};
 
 use crate::list_mail::ListMail;
 use crate::mail::Mail;
-use emu_model::{
-    Counters, Due, Ending, Record, Spec, Timed, dues_stay_ahead, packets_add_up,
-    records_are_not_read, records_grow,
-};
+use emu_model::{Counters, Due, Ending, Record, Spec, Timed, laws};
 use experiment::{ApplyError, BATCH, Event, Experiment, RecordCounts};
 use packet_store::{Owner, ReservedShelf, Shelf};
 use std::alloc::AllocError;
@@ -135,7 +132,7 @@ fn keep<M: Mail>(experiment: &mut Experiment, mail: &mut M, counts: &mut RecordC
     ensures housed { (p : Pocket) → IsHousedIn p experiment.old → IsHousedIn p experiment.new }
 {
     if mail.keep(experiment.records()) {
-        packets_add_up();
+        laws::packets_add_up();
         counts.count(experiment);
     }
 }
@@ -228,7 +225,7 @@ impl<M: Mail> Body<M> {
         ensures ahead { (p : Pocket) → IsAlone p self.now.experiment →
             IfSome result (λ d. self.now.experiment.clock ≤ d.moment) }
     {
-        dues_stay_ahead();
+        laws::dues_stay_ahead();
         self.experiment.next_due()
     }
 
@@ -272,8 +269,8 @@ impl<M: Mail> Body<M> {
         ensures mail { IsToldMore M.seen self.old.mail self.new.mail }
         ensures published { IsPublished M.seen self.new.experiment.net.log.records self.new.mail }
     {
-        records_grow();
-        records_are_not_read();
+        laws::records_grow();
+        laws::records_are_not_read();
         let event = self.experiment.event(shelf, 0);
         let look = looks(look, event);
         self.published = publish(
@@ -387,7 +384,7 @@ impl<M: Mail> Body<M> {
         ensures { (p : Pocket) → IsHousedIn p self.now.experiment →
             result ≡ counters_of (view p self.now.experiment).net }
     {
-        packets_add_up();
+        laws::packets_add_up();
         self.counts.counters(&self.experiment)
     }
 

@@ -3,6 +3,7 @@
 ghost use Rattle.world.specs.Kept.{AgreeOnNames};
 
 use crate::world::World;
+use emu_model::laws;
 use timer_wheel::Agenda;
 
 /// If two worlds gave a name the same specification, and the consumed commands of one are a prefix
@@ -12,8 +13,8 @@ use timer_wheel::Agenda;
 pub fn two_worlds<A: Agenda, B: Agenda>(one: &World<A>, other: &World<B>)
     ensures { AgreeOnNames one.now other.now }
 {
-    emu_model::records_grow();
-    emu_model::later_commands_wait();
+    laws::records_grow();
+    laws::later_commands_wait();
     let _ = &one.alloc;
     let _ = &other.alloc;
 }

@@ -16,7 +16,7 @@ use emu_model::{
     Prefix, PrefixLength, Protocol, ProtocolMatch, QueueLimit, Record, Rule, RuleNumber,
     SegmentSize, SendSpec, Size, SlotLimit, Source, Threshold, Timed, Timing, TrainSpec, Window,
 };
-use network::{Network, still_is_housed};
+use network::{Network, laws};
 use packet_store::{OwnShelf, Shelf};
 use std::alloc::Global;
 
@@ -63,7 +63,7 @@ fn obeys_once(
     ensures made { net.new.made ≤ net.old.made + 1 }
     ensures room { IsTrue result → 0 < net.new.log.spare }
 {
-    still_is_housed();
+    laws::still_is_housed();
     let Ok(()) = net.obey(shelf, 0, at, number, command) else {
         return false;
     };
@@ -124,7 +124,7 @@ fn happens(net: &mut Network, shelf: &mut OwnShelf, at: EventContext, due: Due) 
     ensures seed { net.new.table.seed ≡ net.old.table.seed }
     ensures made { net.new.made ≤ net.old.made + 1 }
 {
-    still_is_housed();
+    laws::still_is_housed();
     let Ok(()) = net.event(shelf, 0, at, due) else {
         return false;
     };
