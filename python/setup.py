@@ -1,4 +1,5 @@
-"""Builds the wheel: one that carries the program is for one platform and any Python 3. pyproject.toml has all else."""
+"""Builds the wheel: one that carries the program is for one platform and any Python 3. pyproject.toml has all
+else."""
 import os
 import shutil
 from pathlib import Path
@@ -8,15 +9,18 @@ from wheel.bdist_wheel import bdist_wheel
 
 # tools/release puts the program there. A wheel without it is pure Python.
 CARRIED = Path(__file__).resolve().parent / "dnlab" / "bin" / "dnlab"
-# The oldest C library that the program runs with, as auditwheel names it. tools/release compares it with the program.
+# The oldest C library that the program runs with, as auditwheel names it. tools/release compares it with the
+# program.
 PLATFORM = "manylinux_2_34_x86_64"
 
 
 MISSING = """
-error: these sources have no program `dnlab`, and there is none on the PATH. Nothing was installed. Do one of these:
+error: these sources have no program `dnlab`, and there is none on the PATH. Nothing was installed.
+Do one of these:
     pip install dnlab-*-manylinux_2_34_x86_64.whl    the wheel of a release has the program
     apt-get install ./dnlab_*.deb                    so has Debian's package, with all tools
-    DNLAB=/path/to/dnlab pip install ..              you have the program elsewhere; name it by DNLAB at each call too
+    DNLAB=/path/to/dnlab pip install ..              you have the program elsewhere; name it by DNLAB
+                                                     at each call too
 """
 
 

@@ -1,5 +1,6 @@
 #!/usr/bin/python3
-"""Tests, in a guest, the features of the kernel that services and their tests expect. Prints NAME: ok, or the error."""
+"""Tests, in a guest, the features of the kernel that services and their tests expect. Prints NAME: ok, or the
+error."""
 import ctypes
 import errno
 import os

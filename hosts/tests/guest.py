@@ -109,7 +109,8 @@ def kernel_command(kernel: pathlib.Path, mem: str, root: str) -> list[str]:
         "time-travel-polls=6",
     ]
     console = ["quiet", "con=null", "con0=null,fd:1"]
-    return [*start, f"mem={mem}", *clock, "rng-seed=1", *console, "dnlab=guest/link.conf", f"rootflags={root}"]
+    return [*start, f"mem={mem}", *clock, "rng-seed=1", *console, "dnlab=guest/link.conf",
+            f"rootflags={root}"]
 
 
 def run(

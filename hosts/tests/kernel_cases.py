@@ -98,7 +98,8 @@ class KernelCases(Room):
         assert 1_234_567_890 <= started < 1_234_567_890 + 500_000, started
 
     def check_failures(self) -> None:
-        """After a wrong plan, a failed set-up or a wrong link.conf, guest/failed has the cause, and there are no exits."""
+        """After a wrong plan, a failed set-up or a wrong link.conf, guest/failed has the cause, and there are
+        no exits."""
         for name, lines, cause in (
             ("setup", ["setup exit 3"], "setup failed (status 3)"),
             ("sysctl", ["sysctl net.no.such 1"], "No such file"),

@@ -69,8 +69,8 @@ def missing(modules: Sequence[str]) -> Optional[str]:
 
 def said_of(command: str, module: str) -> str:
     """Returns the message for a missing module: which Python lacks it, and how to install it."""
-    said = (f"{called(command)}: {module} is missing in {sys.executable} (pip install {PIP.get(module, module)}; Debian, for /usr/bin/python3: "
-            f"apt-get install python3-{module}")
+    said = (f"{called(command)}: {module} is missing in {sys.executable} (pip install "
+            f"{PIP.get(module, module)}; Debian, for /usr/bin/python3: apt-get install python3-{module}")
     if os.path.dirname(sys.executable) == "/usr/bin":
         return f"{said})"
     # Imported here, because --help and --version don't need it.
@@ -82,7 +82,8 @@ def said_of(command: str, module: str) -> str:
 def function_of(command: str) -> Callable[[Sequence[str]], int]:
     """Returns the function that runs a command: `main` of its module, or its own function in a shared one."""
     name = command.replace("-", "_")
-    module = {"from_ipfw": "ipfw", "to_ipfw": "ipfw", "to_tc": "ipfw", "pcap": "captures", "replay": "captures",
+    module = {"from_ipfw": "ipfw", "to_ipfw": "ipfw", "to_tc": "ipfw", "pcap": "captures",
+              "replay": "captures",
               "view": "plot"}.get(name)
     commands = importlib.import_module(f"dnlab.cli.{module or name}")
     found: Callable[[Sequence[str]], int] = getattr(commands, name if module else "main")
@@ -130,7 +131,8 @@ def begun(words: Sequence[str]) -> int:
 
     subprocesses.handle_signals(words[0])
     # --help and --_complete need none of these modules, and exit by themselves.
-    lacking = missing(NEEDS[words[0]]) if not words[1:] or not re.match("-h$|--help$|--_complete=", words[1]) else None
+    lacking = (missing(NEEDS[words[0]]) if not words[1:]
+               or not re.match("-h$|--help$|--_complete=", words[1]) else None)
     if lacking is not None:
         print(said_of(words[0], lacking), file=sys.stderr)
         return MACHINE
@@ -150,7 +152,8 @@ def write_no_more() -> None:
 
 
 def start() -> int:
-    """Runs the command that an installed script, such as dnlab-plot, is named after. A link to the script may have any name."""
+    """Runs the command that an installed script, such as dnlab-plot, is named after. A link to the script may
+    have any name."""
     script = sys.argv[0]
     while os.path.islink(script) and _command_of(script) not in COMMANDS:
         script = os.path.join(os.path.dirname(script), os.readlink(script))

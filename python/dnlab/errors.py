@@ -1,6 +1,7 @@
-"""The exceptions and warnings of the package, and the exit statuses and messages that commands derive from them."""
+"""The exceptions and warnings of the package, and the exit statuses and messages that commands derive from
+them."""
 from contextlib import contextmanager
-from typing import Iterator, NamedTuple
+from typing import Any, Iterable, Iterator, NamedTuple, Sequence
 
 
 class ParseError(Exception):
@@ -97,8 +98,8 @@ class ProgramError(Exception):
 
 
 class Note(NamedTuple):
-    """A note about an experiment. Notes of one `kind` are counted over many experiments; `mark` is the warning that rows get for it
-    ('' for none), and `of` the sender of these rows, '' for all."""
+    """A note about an experiment. Notes of one `kind` are counted over many experiments; `mark` is the
+    warning that rows get for it ('' for none), and `of` the sender of these rows, '' for all."""
     kind: str
     text: str
     mark: str = ""
@@ -120,10 +121,46 @@ KINDS = {
     "window-limited": "a flow's window, and not the network, held it back",
     "unused": "a rule or a pipe met no packet",
     "units": "a time, a gap or a rate looks like another unit",
-    "not traced": "they were made without --trace, so creation times, sizes, one-way delays and queues are unknown",
+    "not traced": "they were made without --trace, so creation times, sizes, one-way delays and "
+    "queues are unknown",
     "same header": "two senders have the same header, and the text of a report doesn't tell them apart",
 }
-NOT_TRACED = Note("not traced", "creation times, sizes, one-way delays and queues are unknown, because the report was made without"
-                  " --trace: run `dnlab alone --trace < scenario.txt > report.txt`")
+NOT_TRACED = Note("not traced",
+                  "creation times, sizes, one-way delays and queues are unknown, because the report was made "
+                  "without --trace: run `dnlab alone --trace < scenario.txt > report.txt`")
 # Warnings of experiments that did not run as written: no table is made of them, unless these are allowed.
 STOPPING = ("refused", "spent")
+
+
+# Failures of a run independent of the bounds, unless allowed: warnings of its rows, and bounds that always
+# hold.
+FAILING = ("refused", "spent", "budget", "unsent", "vacuous")
+
+
+class Failing(NamedTuple):
+    """A run that fails independently of the bounds: the experiment, the warning and its text."""
+    experiment: str
+    mark: str
+    said: str
+
+    def line(self) -> str:
+        return (f"FAILS  {self.mark}: experiment {self.experiment}: {self.said} (--allow "
+                f"{self.mark} permits it)")
+
+    def record(self) -> dict[str, Any]:
+        return self._asdict()
+
+
+def failing(notes: Iterable[tuple[str, Note]], allowed: Sequence[str] = ()) -> list[Failing]:
+    """Returns the experiments that fail by their notes, except for what is allowed."""
+    return [Failing(name, note.mark, note.text) for name, note in notes
+            if note.mark in FAILING and note.mark not in allowed]
+
+
+def allowed_of(text: str) -> list[str]:
+    """Returns the words of `--allow`, separated by commas. Raises `ValueError` with the words that exist."""
+    found = [word.strip() for word in text.split(",")]
+    for word in found:
+        if word not in FAILING:
+            raise ValueError(f"{word!r} can't be allowed; choose from {', '.join(FAILING)}")
+    return found

@@ -33,7 +33,8 @@ class Loop:
         heapq.heappush(self._timers, (moment, self._count, call))
 
     def run(self, until: int = LATEST, hold: int = 1) -> None:
-        """Advances time to `until` (ns), calling hosts and timers. Stops earlier if the experiment ends, or nothing is left to do."""
+        """Advances time to `until` (ns), calling hosts and timers. Stops earlier if the experiment ends, or
+        nothing is left to do."""
         while not self.link.is_over and self.now < until:
             while self._timers and self._timers[0][0] <= self.now:
                 heapq.heappop(self._timers)[2]()
@@ -64,8 +65,8 @@ class _Player:
 
 
 def play(link: Link, programs: Iterable[Waiting], until: int = LATEST) -> None:
-    """Runs generators until they end, or until time `until` (ns). A generator yields the time (ns) until which it waits. It continues
-    then, or after the first event, and is sent all events since."""
+    """Runs generators until they end, or until time `until` (ns). A generator yields the time (ns) until
+    which it waits. It continues then, or after the first event, and is sent all events since."""
     players = [_Player(program) for program in programs]
     for player in players:
         player.step(None)

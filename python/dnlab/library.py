@@ -1,10 +1,12 @@
-"""Runs dnlab in this process through the library libdnlab: the bytes of a scenario in, the bytes of its report out.
+"""Runs dnlab in this process through the library libdnlab: the bytes of a scenario in, the bytes of its
+report out.
 
     from dnlab import library
     report = library.alone(b"experiment a seed 0 budget 9\\n@0 end\\n")
 
-Calls release the GIL, so threads run concurrently. A call can't be interrupted: Ctrl-C waits for its end. `dnlab.run(..,
-engine="library")` returns the same as tables, and `dnlab.live(engine="library")` opens a session on `Talk`.
+Calls release the GIL, so threads run concurrently. A call can't be interrupted: Ctrl-C waits for its end.
+`dnlab.run(.., engine="library")` returns the same as tables, and `dnlab.live(engine="library")` opens a
+session on `Talk`.
 """
 import ctypes
 import ctypes.util
@@ -23,15 +25,17 @@ from dnlab.programs import ROOT
 __all__ = ["FaultIn", "Talk", "alone", "check", "explain", "library", "records", "version"]
 
 _NAME = "libdnlab.so.1"
-# A package of pip contains the library; tools/install puts it into PREFIX/lib, and the package into PREFIX/share/dnlab/python.
+# A package of pip contains the library; tools/install puts it into PREFIX/lib, and the package into
+# PREFIX/share/dnlab/python.
 PLACES = (Path(__file__).resolve().parent / "bin" / _NAME, ROOT.parents[1] / "lib" / _NAME)
-_LACKING = ("there is no libdnlab: build it with tools/library PREFIX, then name its libdnlab.so by the environment"
-            " variable LIBDNLAB, or install it next to the package")
+_LACKING = (
+    "there is no libdnlab: build it with tools/library PREFIX, then name its libdnlab.so by the environment "
+    "variable LIBDNLAB, or install it next to the package")
 
 
 def library() -> str:
-    """Returns the library to load: that of the environment variable LIBDNLAB, else the one in the package or installed with it, else
-    the system's.
+    """Returns the library to load: that of the environment variable LIBDNLAB, else the one in the package or
+    installed with it, else the system's.
 
     Raises `ProgramError` with status 2 if LIBDNLAB names no library, with 3 if there is none."""
     named = os.environ.get("LIBDNLAB")
@@ -53,7 +57,8 @@ FIRST = 1 << 16
 
 class Answer(ctypes.Structure):
     """The result of a call: a status, and lengths and lines as in library/dnlab.h."""
-    _fields_ = [("status", ctypes.c_uint32), ("cause", ctypes.c_uint32), ("line", ctypes.c_uint64), ("length", ctypes.c_uint64)]
+    _fields_ = [("status", ctypes.c_uint32), ("cause", ctypes.c_uint32), ("line", ctypes.c_uint64),
+                ("length", ctypes.c_uint64)]
 
 
 class Place(ctypes.Structure):
@@ -80,15 +85,19 @@ def bound(path: str) -> ctypes.CDLL:
     text: list[Any] = [ctypes.c_char_p, ctypes.c_size_t]
     room: list[Any] = [ctypes.c_void_p, ctypes.c_size_t, ctypes.POINTER(Answer)]
     place: Any = ctypes.POINTER(Place)
-    calls = {"alone": [*text, *room], "alone_within": [*text, ctypes.c_uint64, *room], "check": [*text, *room], "records": [*text, *room], "explain": [*text, ctypes.c_bool, *room], "version": room,
-             "open": [place, room[-1]], "take": [place, *text, *room], "close": [place, room[-1]]}
+    calls = {"alone": [*text, *room], "alone_within": [*text, ctypes.c_uint64, *room],
+             "check": [*text, *room], "records": [*text, *room], "explain": [*text, ctypes.c_bool, *room],
+             "version": room, "open": [place, room[-1]], "take": [place, *text, *room],
+             "close": [place, room[-1]]}
     try:
         found = ctypes.CDLL(path)
         for name, words in calls.items():
             call = getattr(found, f"dnlab_{name}")
             call.argtypes, call.restype = words, None
     except (OSError, AttributeError) as fault:
-        raise ProgramError(3, f"{path} can't be used: {fault} (tools/library makes it, for Linux on x86-64)") from None
+        raise ProgramError(3,
+                           f"{path} can't be used: {fault} (tools/library makes it, for "
+                           "Linux on x86-64)") from None
     return found
 
 
@@ -107,7 +116,9 @@ def _called(name: str, *given: Union[bytes, int, bool]) -> bytes:
         if answer.status == FAULT:
             raise FaultIn(answer.line, CAUSES[answer.cause - 1])
         if answer.status == STEPS:
-            raise ProgramError(3, f"steps: experiment {answer.line + 1} of the text exceeds max_steps; max_steps={answer.length} lets all run")
+            raise ProgramError(3,
+                               f"steps: experiment {answer.line + 1} of the text exceeds max_steps; "
+                               f"max_steps={answer.length} lets all run")
         if answer.status != DONE:
             raise ProgramError(3, "memory")
         return bytes(memoryview(room)[:answer.length])
@@ -116,8 +127,9 @@ def _called(name: str, *given: Union[bytes, int, bool]) -> bytes:
 def alone(text: bytes, max_steps: Optional[int] = None) -> bytes:
     """Returns the report of a scenario, the same bytes as `dnlab alone`.
 
-    Raises `FaultIn` if the text is not a valid scenario, and `ProgramError` if memory runs out, or if all experiments together
-    may take more than `max_steps` steps. Set `max_steps` for texts that you did not write.
+    Raises `FaultIn` if the text is not a valid scenario, and `ProgramError` if memory runs out, or if all
+    experiments together may take more than `max_steps` steps. Set `max_steps` for texts that you did not
+    write.
     """
     if max_steps is None:
         return _called("dnlab_alone", text, len(text))
@@ -125,7 +137,8 @@ def alone(text: bytes, max_steps: Optional[int] = None) -> bytes:
 
 
 def records(text: bytes) -> bytes:
-    """Returns the records of a scenario as one NumPy array, the same bytes as `dnlab alone --format npy`. Fails like `alone`."""
+    """Returns the records of a scenario as one NumPy array, the same bytes as `dnlab alone --format npy`.
+    Fails like `alone`."""
     return _called("dnlab_records", text, len(text))
 
 
@@ -135,7 +148,8 @@ def check(text: bytes) -> bytes:
 
 
 def explain(text: bytes, runs: bool = False) -> str:
-    """Returns what `--explain` prints after the line of a fault; if `runs` is true, also about the run, which is then made."""
+    """Returns what `--explain` prints after the line of a fault; if `runs` is true, also about the run, which
+    is then made."""
     return _called("dnlab_explain", text, len(text), runs).decode()
 
 
@@ -157,13 +171,14 @@ class Talk:
             talk.take(b"experiment a seed 0 budget 9")
             said = talk.take(b"@0 end")
 
-    Threads may share one; lines are processed one at a time. The memory is freed by `close`, at the end of the block, or with the
-    object."""
+    Threads may share one; lines are processed one at a time. The memory is freed by `close`, at the end of
+    the block, or with the object."""
 
     def __init__(self) -> None:
         calls = bound(library())
         self._place, self._answer, self._lock = Place(), Answer(), threading.Lock()
-        self._take, self._at, self._told = calls.dnlab_take, ctypes.byref(self._place), ctypes.byref(self._answer)
+        self._take, self._at, self._told = calls.dnlab_take, ctypes.byref(self._place), ctypes.byref(
+            self._answer)
         self._room = ctypes.create_string_buffer(FIRST)
         calls.dnlab_open(self._at, self._told)
         if self._answer.status != DONE:
@@ -176,13 +191,14 @@ class Talk:
         return not self._forget.alive
 
     def take(self, line: bytes) -> bytes:
-        """Returns the reply to a line, given without its line feed. A rejected line is answered by `#< fault CAUSE`. Raises `ProgramError`
-        if memory runs out, now or before, or if the session is closed."""
+        """Returns the reply to a line, given without its line feed. A rejected line is answered by `#< fault
+        CAUSE`. Raises `ProgramError` if memory runs out, now or before, or if the session is closed."""
         answer = self._answer
         with self._lock:
             self._take(self._at, line, len(line), self._room, len(self._room), self._told)
             while answer.status == ROOM:
-                # The buffer was too small, but the library keeps the reply: an empty line returns it and adds nothing.
+                # The buffer was too small, but the library keeps the reply: an empty line returns it and adds
+                # nothing.
                 self._room = ctypes.create_string_buffer(answer.length)
                 self._take(self._at, b"", 0, self._room, len(self._room), self._told)
             if answer.status == DONE:
@@ -193,8 +209,8 @@ class Talk:
         raise ProgramError(3, "memory")
 
     def close(self) -> None:
-        """Ends the session. Raises `FaultIn` if an experiment has no `end`, and `ProgramError` if memory ran out before; it is closed in
-        both cases. Further calls do nothing."""
+        """Ends the session. Raises `FaultIn` if an experiment has no `end`, and `ProgramError` if memory ran
+        out before; it is closed in both cases. Further calls do nothing."""
         with self._lock:
             answer = self._forget()
         if answer is not None and answer.status == FAULT:
@@ -205,7 +221,8 @@ class Talk:
     def __enter__(self) -> "Talk":
         return self
 
-    def __exit__(self, kind: Optional[type[BaseException]], value: Optional[BaseException], where: Optional[TracebackType]) -> None:
+    def __exit__(self, kind: Optional[type[BaseException]], value: Optional[BaseException],
+                 where: Optional[TracebackType]) -> None:
         if kind is None:
             self.close()
         else:

@@ -8,8 +8,8 @@ from typing import Optional
 
 from dnlab.errors import ProgramError
 
-# The repository, if this package is in one. tools/install puts the package into PREFIX/share/dnlab/python, and the program into
-# PREFIX/libexec/dnlab.
+# The repository, if this package is in one. tools/install puts the package into PREFIX/share/dnlab/python,
+# and the program into PREFIX/libexec/dnlab.
 ROOT = Path(__file__).resolve().parent.parent.parent
 SCRIPT = ROOT / "dnlab"
 # Installed files other than Python's: next to the package, or in PREFIX/share/dnlab if the package is in
@@ -35,8 +35,8 @@ def say(command: str, text: object) -> None:
 
 
 def named_program(named: Optional[str] = None) -> Optional[str]:
-    """Returns the named program, else that of the environment variable DNLAB, else None. Raises `ProgramError` if it is not a
-    program."""
+    """Returns the named program, else that of the environment variable DNLAB, else None. Raises
+    `ProgramError` if it is not a program."""
     wanted = named or os.environ.get("DNLAB")
     if not wanted:
         return None
@@ -44,7 +44,9 @@ def named_program(named: Optional[str] = None) -> Optional[str]:
     if found is None:
         raise ProgramError(2, f"{wanted} is no program (the environment variable DNLAB names it)")
     if _is_own(found):
-        raise ProgramError(2, f"{wanted} starts this package, and is no program (the environment variable DNLAB names it)")
+        raise ProgramError(2,
+                           f"{wanted} starts this package, and is no program (the environment variable "
+                           "DNLAB names it)")
     return os.path.abspath(found)
 
 
@@ -61,19 +63,23 @@ def _is_own(path: str) -> bool:
 def program(named: Optional[str] = None) -> str:
     """Returns the path of the program.
 
-    It is the named one, else that of the environment variable DNLAB. Otherwise, in the repository, it is the one that ./dnlab
-    starts: the proved program or a checked build, which is built first if necessary (a proof is never started). An installed
-    package uses the program in it or next to it, else `dnlab` on the PATH. Raises `ProgramError` with what is missing."""
+    It is the named one, else that of the environment variable DNLAB. Otherwise, in the repository, it is the
+    one that ./dnlab starts: the proved program or a checked build, which is built first if necessary (a proof
+    is never started). An installed package uses the program in it or next to it, else `dnlab` on the PATH.
+    Raises `ProgramError` with what is missing."""
     given = named_program(named)
     if given and not (is_repository() and os.path.samefile(given, SCRIPT)):
         return given
     if is_repository():
         return _of_repository()
-    for place in (_CARRIED, ROOT.parent.parent / "libexec" / "dnlab" / "dnlab", *(Path(one, "dnlab") for one in os.get_exec_path())):
+    for place in (_CARRIED, ROOT.parent.parent / "libexec" / "dnlab" / "dnlab",
+                  *(Path(one, "dnlab") for one in os.get_exec_path())):
         if place.is_file() and os.access(place, os.X_OK) and not _is_own(str(place)):
             return str(place)
-    raise ProgramError(3, "there is no program dnlab, and this package does not contain one: `tools/install` of the repository installs"
-                 " both, a wheel of `tools/release` contains it, or set the environment variable DNLAB to its path")
+    raise ProgramError(3,
+                       "there is no program dnlab, and this package does not contain one: `tools/install` of "
+                       "the repository installs both, a wheel of `tools/release` contains it, or set the "
+                       "environment variable DNLAB to its path")
 
 
 def carried() -> Optional[str]:
@@ -82,11 +88,13 @@ def carried() -> Optional[str]:
 
 
 def _of_repository() -> str:
-    """Returns the program that ./dnlab starts, which reports its progress on standard error if it has to build one."""
+    """Returns the program that ./dnlab starts, which reports its progress on standard error if it has to
+    build one."""
     words = [str(SCRIPT), "program"]
     environment = {name: word for name, word in os.environ.items() if name != "DNLAB"}
     try:
-        going = subprocess.Popen(words, stdin=subprocess.DEVNULL, stdout=subprocess.PIPE, text=True, env=environment)
+        going = subprocess.Popen(words, stdin=subprocess.DEVNULL, stdout=subprocess.PIPE, text=True,
+                                 env=environment)
     except OSError as error:
         raise ProgramError(3, f"{error.filename}: {error.strerror}") from error
     try:

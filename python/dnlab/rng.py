@@ -1,8 +1,9 @@
 """Random numbers of templates: the same for a seed on every machine and under every version of Python.
 
-Python guarantees that a seed gives the same `random.Random.random()` forever, but not the other methods. Everything here is
-therefore computed from `random()`, integers, and the logarithm and exponential of `decimal`, which are correctly rounded
-everywhere. Those of `math` depend on the machine, and are used only where their last digits don't matter.
+Python guarantees that a seed gives the same `random.Random.random()` forever, but not the other methods.
+Everything here is therefore computed from `random()`, integers, and the logarithm and exponential of
+`decimal`, which are correctly rounded everywhere. Those of `math` depend on the machine, and are used only
+where their last digits don't matter.
 """
 import itertools
 import math
@@ -18,7 +19,8 @@ _BITS = 53
 
 
 class Chance:
-    """The `rng` of a template. It depends only on the seed, so settings are compared under the same random numbers."""
+    """The `rng` of a template. It depends only on the seed, so settings are compared under the same random
+    numbers."""
 
     def __init__(self, seed: object) -> None:
         self._source = random.Random(f"{seed}")
@@ -42,16 +44,19 @@ class Chance:
         return next(_gaps(self._source.random, mean))
 
     def arrivals(self, mean: Number, end: int, begin: int = 0) -> list[int]:
-        """Returns the times of a Poisson process in order, from `begin` and before `end`, with `mean` between them on average."""
+        """Returns the times of a Poisson process in order, from `begin` and before `end`, with `mean` between
+        them on average."""
         if not mean > 0:
             raise ValueError(f"rng.arrivals({mean}, ..): the mean gap must be above 0")
         if end - begin > _MOST * mean:
-            raise ValueError(f"rng.arrivals({mean}, {end}): more than {_MOST} times; raise the mean or lower the end")
+            raise ValueError(
+                f"rng.arrivals({mean}, {end}): more than {_MOST} times; raise the mean or lower the end")
         moments = itertools.accumulate(_gaps(self._source.random, mean), initial=int(begin))
         return list(itertools.takewhile(lambda moment: moment < end, itertools.islice(moments, 1, None)))
 
     def pareto(self, shape: Number, least: Number) -> int:
-        """Returns a heavy-tailed size as an integer: at least `least`, and above x with probability (least / x)^shape."""
+        """Returns a heavy-tailed size as an integer: at least `least`, and above x with probability (least /
+        x)^shape."""
         grown = _EXACT.exp(_EXACT.divide(_lifetime(1 - self.random()), Decimal(shape)))
         return int(_EXACT.multiply(grown, Decimal(least)).to_integral_value())
 
@@ -72,8 +77,8 @@ class Chance:
         """Returns `count` different items (of a list or a range), in the order in which they are drawn."""
         if not 0 <= count <= len(items):
             raise ValueError(f"rng.sample: {count} of {len(items)} items")
-        # Replaces each drawn item by the last remaining one, and stores only the replaced ones, so a long range takes little
-        # memory.
+        # Replaces each drawn item by the last remaining one, and stores only the replaced ones, so a long
+        # range takes little memory.
         moved: dict[int, int] = {}
         found = []
         for last in range(len(items) - 1, len(items) - 1 - count, -1):
@@ -93,8 +98,8 @@ def _gaps(draw: Callable[[], float], mean: Number) -> Iterator[int]:
     while True:
         rest = 1 - draw()
         near = -log(rest) * mean
-        # No machine's logarithm has a relative error of 10^-14, so values that are not close to the middle round the same
-        # everywhere.
+        # No machine's logarithm has a relative error of 10^-14, so values that are not close to the middle
+        # round the same everywhere.
         if near < 10**11 and abs(near % 1 - 0.5) > 0.001:
             yield round(near)
         else:
@@ -110,8 +115,8 @@ def _lifetime(rest: float) -> Decimal:
 #     {{ traffic.on_off(1 | s, 1 | s, 20 | ms, 10 | s, "inject udp 10.0.0.2 1000 10.0.1.2 2000 200") }}
 #     {{ traffic }}
 #
-# Each source collects commands and prints nothing; the last line prints all of them by time. All random numbers come from the
-# template's `rng`, so they depend only on the seed.
+# Each source collects commands and prints nothing; the last line prints all of them by time. All random
+# numbers come from the template's `rng`, so they depend only on the seed.
 
 # More commands would make a text that no program accepts.
 _MOST_COMMANDS = 10**6
@@ -132,7 +137,8 @@ class Traffic:
             if len(self._lines) == _MOST_COMMANDS:
                 raise ValueError(f"traffic: more than {_MOST_COMMANDS} commands")
             if not command.strip() or "\n" in command:
-                raise ValueError(f"traffic.at({moment}, {command[:40]!r}): give one command each, without its time")
+                raise ValueError(
+                    f"traffic.at({moment}, {command[:40]!r}): give one command each, without its time")
             self._lines.append((int(moment), command))
         return ""
 
@@ -151,8 +157,9 @@ class Traffic:
 
     def on_off(self, on: Number, off: Number, gap: int, end: int, command: str, begin: int = 0,
                shape: Optional[Number] = None) -> str:
-        """Adds a command every `gap` while the source is on: `on` on average, then it is off for `off`. Both durations are exponential, or,
-        with a `shape` above 1, Pareto distributed with the same mean (many such sources together are self-similar)."""
+        """Adds a command every `gap` while the source is on: `on` on average, then it is off for `off`. Both
+        durations are exponential, or, with a `shape` above 1, Pareto distributed with the same mean (many
+        such sources together are self-similar)."""
         _positive("on_off", gap)
         moment = int(begin)
         while moment < end:
@@ -165,24 +172,27 @@ class Traffic:
         if not mean > 0 or (shape is not None and not shape > 1):
             raise ValueError("traffic.on_off: mean durations must be above 0, and the shape above 1")
         # A Pareto distribution of this shape has a mean of `shape / (shape - 1)` times its minimum.
-        drawn = self._rng.exponential(mean) if shape is None else self._rng.pareto(shape, mean * (shape - 1) / shape)
+        drawn = (self._rng.exponential(mean) if shape is None
+                 else self._rng.pareto(shape, mean * (shape - 1) / shape))
         return max(1, drawn)
 
     def flows(self, mean: Number, end: int, command: str, first: int = 1, shape: Number = 1.2, least: int = 4,
               most: int = 10**6, begin: int = 0) -> str:
-        """Adds flows that arrive as a Poisson process, `mean` apart, with Pareto-distributed sizes in segments, `least` to `most`. In the
-        command `{flow}` is replaced by the number, from `first` on, and `{segments}` by the size."""
+        """Adds flows that arrive as a Poisson process, `mean` apart, with Pareto-distributed sizes in
+        segments, `least` to `most`. In the command `{flow}` is replaced by the number, from `first` on, and
+        `{segments}` by the size."""
         for number, moment in enumerate(self._rng.arrivals(mean, end, begin), first):
             segments = min(self._rng.pareto(shape, least), most)
             self.at(moment, command.replace("{flow}", str(number)).replace("{segments}", str(segments)))
         return ""
 
-    def web(self, users: int, think: Number, end: int, command: str, first: int = 1, pages: int = 10**6, shape: Number = 1.2,
-            least: int = 4, most: int = 10**6, begin: int = 0) -> str:
-        """Adds users who request a page, read it for `think` on average, and request the next, at most `pages` of them.
+    def web(self, users: int, think: Number, end: int, command: str, first: int = 1, pages: int = 10**6,
+            shape: Number = 1.2, least: int = 4, most: int = 10**6, begin: int = 0) -> str:
+        """Adds users who request a page, read it for `think` on average, and request the next, at most
+        `pages` of them.
 
-        A page is a flow, as in `flows`; `{user}` is replaced by the user's number, from 1 on. Users don't wait for a page to arrive;
-        for that, write a session (`dnlab live`)."""
+        A page is a flow, as in `flows`; `{user}` is replaced by the user's number, from 1 on. Users don't
+        wait for a page to arrive; for that, write a session (`dnlab live`)."""
         asked: list[tuple[int, int]] = []
         for user in range(1, users + 1):
             moment = int(begin) + self._rng.exponential(think)
@@ -193,7 +203,10 @@ class Traffic:
                 moment += max(1, self._rng.exponential(think))
         for number, (moment, user) in enumerate(sorted(asked), first):
             segments = min(self._rng.pareto(shape, least), most)
-            self.at(moment, command.replace("{flow}", str(number)).replace("{segments}", str(segments)).replace("{user}", str(user)))
+            self.at(moment,
+                    command.replace("{flow}",
+                                    str(number)).replace("{segments}",
+                                                         str(segments)).replace("{user}", str(user)))
         return ""
 
     def lines(self) -> list[str]:

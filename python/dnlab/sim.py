@@ -11,8 +11,8 @@
         link.command("add 100 allow ip from any to any")
         dnlab.sim.run(main(), link=link)
 
-Nothing waits for real time and no socket is opened, so two runs have the same transcript if the program seeds its own random
-numbers. Streams, subprocesses and signals are refused; work for an executor is done at once.
+Nothing waits for real time and no socket is opened, so two runs have the same transcript if the program seeds
+its own random numbers. Streams, subprocesses and signals are refused; work for an executor is done at once.
 """
 import asyncio
 import contextvars
@@ -33,10 +33,11 @@ _Result = TypeVar("_Result")
 EPOCH = 1_767_225_600
 # This many turns of the loop without time passing must be a mistake.
 _MOST_TURNS = 1_000_000
-_REFUSED = ("create_connection", "create_server", "create_unix_connection", "create_unix_server", "connect_accepted_socket",
-            "connect_read_pipe", "connect_write_pipe", "subprocess_shell", "subprocess_exec", "add_reader", "remove_reader",
-            "add_writer", "remove_writer", "sock_recv", "sock_recv_into", "sock_recvfrom", "sock_recvfrom_into", "sock_sendall",
-            "sock_sendto", "sock_connect", "sock_accept", "sock_sendfile", "sendfile", "start_tls", "add_signal_handler",
+_REFUSED = ("create_connection", "create_server", "create_unix_connection", "create_unix_server",
+            "connect_accepted_socket", "connect_read_pipe", "connect_write_pipe", "subprocess_shell",
+            "subprocess_exec", "add_reader", "remove_reader", "add_writer", "remove_writer", "sock_recv",
+            "sock_recv_into", "sock_recvfrom", "sock_recvfrom_into", "sock_sendall", "sock_sendto",
+            "sock_connect", "sock_accept", "sock_sendfile", "sendfile", "start_tls", "add_signal_handler",
             "remove_signal_handler")
 
 
@@ -48,7 +49,8 @@ def _waits(task: "asyncio.Task[Any]") -> str:
     """Returns where a task waits."""
     inner: Any = task.get_coro()
     while True:
-        further = getattr(inner, "cr_await", None) or getattr(inner, "ag_await", None) or getattr(inner, "gi_yieldfrom", None)
+        further = (getattr(inner, "cr_await", None) or getattr(inner, "ag_await", None)
+                   or getattr(inner, "gi_yieldfrom", None))
         if further is None or not any(hasattr(further, it) for it in ("cr_frame", "gi_frame", "ag_frame")):
             break
         inner = further
@@ -58,7 +60,7 @@ def _waits(task: "asyncio.Task[Any]") -> str:
 
 
 class _Selector:
-    """The selector of the loop. Instead of waiting for the operating system, it advances the link's time to the first delivery."""
+    """The selector of the loop: it does not wait, but advances the link's time to the first delivery."""
 
     def __init__(self, loop: "Loop") -> None:
         self._loop = loop
@@ -69,14 +71,16 @@ class _Selector:
         if timeout is not None and timeout <= 0:
             self._turns += 1
             if self._turns > _MOST_TURNS:
-                raise DeadlockError(f"{_MOST_TURNS} turns of the loop, and no time passes (a loop round asyncio.sleep(0)?): "
-                               + self._loop.waiting())
+                raise DeadlockError(
+                    f"{_MOST_TURNS} turns of the loop, and no time passes (a loop round asyncio.sleep(0)?): "
+                    + self._loop.waiting())
             return []
         self._turns = 0
         link = self._loop.link
         if timeout is None and link.next_due() is None or link.now >= LATEST:
-            raise DeadlockError(f"nothing is due at {link.now} ns, and no timer is set: {self._loop.waiting()}")
-        # A timer's time differs from a whole nanosecond by less than half of one: floats have 53 bits, and seconds go up to 10^6.
+            waiting = self._loop.waiting()
+            raise DeadlockError(f"nothing is due at {link.now} ns, and no timer is set: {waiting}")
+        # A timer's time differs from a whole nanosecond by less than half of one: seconds go up to 10^6.
         until = LATEST if timeout is None else link.now + max(1, round(timeout * 1e9))
         return link.until_mine(min(until, LATEST), self._loop.hold)
 
@@ -89,8 +93,7 @@ class Loop(asyncio.BaseEventLoop):
         self.link, self.hold = link, hold
         self._names = {"localhost": "127.0.0.1", **(names or {})}
         self._network = _Network(link)
-        # asyncio runs a timer that is due within this time (s).
-        self._clock_resolution = 1e-9
+        self._clock_resolution = 1e-9  # asyncio runs a timer that is due within this time (s)
         self._selector = _Selector(self)
 
     def time(self) -> float:
@@ -118,13 +121,14 @@ class Loop(asyncio.BaseEventLoop):
         return future
 
     def address_of(self, name: Any) -> str:
-        """Returns the IPv4 address of a name or address; for an empty one, the current host's. Raises `OSError` if unknown."""
+        """Returns the IPv4 address of a name (if empty, the current host's). Raises `OSError`."""
         said = str(name or "0.0.0.0")
         said = self._names.get(said, said)
         try:
             found = ipaddress.ip_address(said)
         except ValueError:
-            raise socket.gaierror(socket.EAI_NONAME, f"{said} is neither an address nor one of the given names") from None
+            raise socket.gaierror(socket.EAI_NONAME,
+                                  f"{said} is neither an address nor one of the given names") from None
         if found.version != 4:
             raise _fault_of(errno.EAFNOSUPPORT)
         return here() if found.is_unspecified or found.is_loopback else said
@@ -132,14 +136,16 @@ class Loop(asyncio.BaseEventLoop):
     async def getaddrinfo(self, host: Any, port: Any, *, family: int = 0, type: int = 0, proto: int = 0,
                           flags: int = 0) -> list[Any]:
         kind = socket.SocketKind(type or socket.SOCK_DGRAM)
-        return [(socket.AF_INET, kind, proto or socket.IPPROTO_UDP, "", (self.address_of(host), int(port or 0)))]
+        return [(socket.AF_INET, kind, proto or socket.IPPROTO_UDP, "",
+                 (self.address_of(host), int(port or 0)))]
 
     async def getnameinfo(self, sockaddr: Any, flags: int = 0) -> tuple[str, str]:
         return str(sockaddr[0]), str(sockaddr[1])
 
     async def create_datagram_endpoint(self, protocol_factory: Callable[[], Any], local_addr: Any = None,
-                                       remote_addr: Any = None, *, family: int = 0, sock: Any = None, **_: Any) -> tuple[Any, Any]:
-        """Creates an endpoint; without an address, at a free port of the current `dnlab.sim.host`. Raises `OSError`."""
+                                       remote_addr: Any = None, *, family: int = 0, sock: Any = None,
+                                       **_: Any) -> tuple[Any, Any]:
+        """Creates an endpoint; without an address, at a free port of the host. Raises `OSError`."""
         if sock is not None:
             raise ValueError("a real socket can't be used in simulated time")
         if family not in (0, socket.AF_INET):
@@ -155,7 +161,8 @@ class Loop(asyncio.BaseEventLoop):
 
 def _refusal(name: str) -> Callable[..., NoReturn]:
     def refused(*_: Any, **__: Any) -> NoReturn:
-        raise NotImplementedError(f"{name} is not available in simulated time: only datagrams, timers and tasks are")
+        raise NotImplementedError(
+            f"{name} is not available in simulated time: only datagrams, timers and tasks are")
     return refused
 
 
@@ -165,9 +172,10 @@ for _name in _REFUSED:
 
 @contextmanager
 def clocks(link: Link) -> Iterator[None]:
-    """Makes `time.time`, `time.monotonic` and `time.perf_counter` (also `_ns`) return the link's time within the block. Functions that
-    a program imported earlier keep the machine's time."""
-    kept = {name: getattr(time, name) for word in ("time", "monotonic", "perf_counter") for name in (word, word + "_ns")}
+    """Makes `time.time`, `time.monotonic` and `time.perf_counter` (also `_ns`) return the link's time within
+    the block. Functions that a program imported earlier keep the machine's time."""
+    kept = {name: getattr(time, name) for word in ("time", "monotonic", "perf_counter")
+            for name in (word, word + "_ns")}
     for name in kept:
         begin = EPOCH * 10**9 if name.startswith("time") else 0
         if name.endswith("_ns"):
@@ -181,7 +189,8 @@ def clocks(link: Link) -> Iterator[None]:
             setattr(time, name, call)
 
 
-def run(main: Coroutine[Any, Any, _Result], *, link: Link, hold: int = 1, names: Optional[Mapping[str, str]] = None,
+def run(main: Coroutine[Any, Any, _Result], *, link: Link, hold: int = 1,
+        names: Optional[Mapping[str, str]] = None,
         has_clocks: bool = True) -> _Result:
     """Runs a coroutine and returns its result, like `asyncio.run`.
 
@@ -212,7 +221,7 @@ def _fault_of(number: int) -> OSError:
 
 @contextmanager
 def host(address: str) -> Iterator[None]:
-    """Runs the code in the block, and the tasks and endpoints that it creates, at this IPv4 address of the link."""
+    """Runs the block, and the tasks and endpoints that it creates, at this IPv4 address of the link."""
     token = _HERE.set(str(ipaddress.IPv4Address(address)))
     try:
         yield
@@ -224,15 +233,17 @@ def here() -> str:
     """Returns the address at which the code runs. Raises `OSError` if none is set."""
     found = _HERE.get("")
     if not found:
-        raise OSError(errno.EADDRNOTAVAIL, "at which address of the link does this run? Say it by `with dnlab.sim.host(ADDRESS):`"
-                      " or by a local address")
+        raise OSError(errno.EADDRNOTAVAIL,
+                      "at which address of the link does this run? Say it by `with dnlab.sim.host(ADDRESS):` "
+                      "or by a local address")
     return found
 
 
 class _Endpoint(asyncio.DatagramTransport):
     """A bound address, as an asyncio transport for datagrams."""
 
-    def __init__(self, network: "_Network", loop: asyncio.AbstractEventLoop, local: Address, remote: Optional[Address]) -> None:
+    def __init__(self, network: "_Network", loop: asyncio.AbstractEventLoop, local: Address,
+                 remote: Optional[Address]) -> None:
         super().__init__({"sockname": local, "peername": remote, "socket": None})
         self._network, self._loop, self.local, self.remote = network, loop, local, remote
         self._protocol: Optional[asyncio.BaseProtocol] = None
@@ -251,7 +262,7 @@ class _Endpoint(asyncio.DatagramTransport):
         self._protocol = protocol
 
     def sendto(self, data: Any, addr: Optional[Any] = None) -> None:
-        """Sends a datagram. Errors are passed to the protocol's `error_received`, as in asyncio's own transport."""
+        """Sends a datagram. As in asyncio, the protocol's `error_received` gets errors."""
         if self.remote is not None and addr not in (None, self.remote):
             raise ValueError(f"Invalid address: must be None or {self.remote}")
         target = addr if self.remote is None else self.remote
@@ -299,7 +310,7 @@ class _Network:
         self._free: dict[str, int] = {}
 
     def bind(self, loop: asyncio.AbstractEventLoop, local: Address, remote: Optional[Address]) -> _Endpoint:
-        """Returns a new endpoint at an address; for port 0, at a free port. Raises `OSError` as an operating system does."""
+        """Returns a new endpoint at an address; for port 0, at a free port. Raises `OSError`."""
         if not local[1]:
             local = (local[0], self._free_port(local[0]))
         if local in self._endpoints:
@@ -319,7 +330,7 @@ class _Network:
         self._endpoints.pop(endpoint.local, None)
 
     def send(self, source: Address, target: Address, data: bytes) -> None:
-        """Sends a datagram over the link. Raises `OSError` if it is too big, or if the experiment has ended."""
+        """Sends a datagram. Raises `OSError` if it is too big, or the experiment has ended."""
         size = len(data) + HEADERS
         if size > MOST_SIZE:
             raise _fault_of(errno.EMSGSIZE)

@@ -1,19 +1,21 @@
 #!/usr/bin/env python3
-"""Writes a scenario to compare queues: which is best for four flows that share a link with small, urgent packets?
+"""Writes a scenario to compare queues: which is best for four flows that share a link with small, urgent
+packets?
 
     python3 python/examples/queues.py [SEEDS] > queues.txt
 
-It has a bottleneck of 10 Mbit/s with 20 ms in each direction, eight queues, and 30 seeds for each queue: 240 experiments
-of five seconds. Four Reno flows start at random times that depend on the seed, and one packet in a thousand is lost; a train
-sends 100 bytes every 20 ms, like a call.
+It has a bottleneck of 10 Mbit/s with 20 ms in each direction, eight queues, and 30 seeds for each queue: 240
+experiments of five seconds. Four Reno flows start at random times that depend on the seed, and one packet in
+a thousand is lost; a train sends 100 bytes every 20 ms, like a call.
 
 Example: python3 python/examples/queues.py 2 | ./dnlab run --workers 4 > report.txt
 """
 import random
 import sys
 
-QUEUES = ("queue 10", "queue 25", "queue 50", "queue 100", "queue 200", "queue 200 codel target 5 interval 100",
-          "queue 200 codel target 15 interval 100", "queue 200 codel target 5 interval 50")
+QUEUES = ("queue 10", "queue 25", "queue 50", "queue 100", "queue 200",
+          "queue 200 codel target 5 interval 100", "queue 200 codel target 15 interval 100",
+          "queue 200 codel target 5 interval 50")
 
 
 def experiment(number: int, queue: str, seed: int) -> str:

@@ -24,11 +24,13 @@ from dnlab.io.rows import Records  # noqa: E402
 from dnlab.programs import program as program_of  # noqa: E402
 
 
-# True if only a part of the random cases and of the trials for each scenario is run, as `check_python --quick` requests.
+# True if only a part of the random cases and of the trials for each scenario is run, as `check_python
+# --quick` requests.
 QUICK = bool(os.environ.get("DNLAB_QUICK"))
 # The files that take longest. They start first, so that no core waits for one of them at the end.
-LONGEST = ("test_spread", "test_hosts_runs", "test_hosts_endings", "test_sweep", "test_view", "test_endings", "test_green",
-           "test_commands", "test_seeds", "test_docs", "test_pages")
+LONGEST = ("test_spread", "test_hosts_runs", "test_hosts_endings", "test_sweep_runs", "test_view",
+           "test_endings", "test_spread_faults", "test_sweep", "test_green", "test_commands", "test_seeds",
+           "test_docs", "test_pages")
 Case = TypeVar("Case")
 
 
@@ -83,7 +85,8 @@ def text_of(name: str, file: str) -> bytes:
 
 def report_of(text: bytes, *words: str) -> bytes:
     """Returns what `dnlab alone` writes for a scenario."""
-    done = subprocess.run([program_of(), "alone", *words], input=text, capture_output=True, timeout=300, check=False)
+    done = subprocess.run([program_of(), "alone", *words], input=text, capture_output=True, timeout=300,
+                          check=False)
     assert done.returncode == 0, done.stderr
     return done.stdout
 
@@ -142,8 +145,10 @@ def rows_file(scenario: Path, folder: Path) -> Path:
 
 @pytest.fixture(scope="session")
 def kernel() -> Path:
-    """Returns the folder of the guest's kernel, and builds it if necessary. Skips the test if packages for it are missing."""
-    done = subprocess.run([ROOT / "tools" / "hosts", "--kernel"], capture_output=True, text=True, timeout=3600, check=False)
+    """Returns the folder of the guest's kernel, and builds it if necessary. Skips the test if packages for it
+    are missing."""
+    done = subprocess.run([ROOT / "tools" / "hosts", "--kernel"], capture_output=True, text=True,
+                          timeout=3600, check=False)
     if done.returncode == 3:
         pytest.skip(f"there is no kernel of the guest: {done.stderr.strip().splitlines()[-1]}")
     assert done.returncode == 0, done.stderr
@@ -152,15 +157,16 @@ def kernel() -> Path:
 
 def tool(name: str, *words: object, text: bytes = b"", **more: str) -> tuple[int, str, str]:
     """Runs a script of tools/. Returns its status, standard output and standard error."""
-    done = subprocess.run([ROOT / "tools" / name, *map(str, words)], input=text, capture_output=True, timeout=120,
-                          check=False, env={**os.environ, **more})
+    done = subprocess.run([ROOT / "tools" / name, *map(str, words)], input=text, capture_output=True,
+                          timeout=120, check=False, env={**os.environ, **more})
     return done.returncode, done.stdout.decode(), done.stderr.decode()
 
 
 def wait_for_handlers(pid: int) -> None:
     """Waits until a command that was just started handles signals, or has ended.
 
-    Python catches SIGINT from its own start, and would then end with a traceback. The command catches SIGTERM after SIGINT."""
+    Python catches SIGINT from its own start, and would then end with a traceback. The command catches SIGTERM
+    after SIGINT."""
     until = time.monotonic() + 60
     while time.monotonic() < until:
         status = Path(f"/proc/{pid}/status").read_text()
@@ -169,3 +175,14 @@ def wait_for_handlers(pid: int) -> None:
             return
         time.sleep(0.002)
     raise AssertionError(f"process {pid} handles no signal")
+
+
+@pytest.fixture
+def files(program: str, tmp_path: Path) -> Callable[..., list[Path]]:
+    """Returns a function that writes the report and the scenario of a text to files."""
+    def made(text: str, name: str = "call") -> list[Path]:
+        report, scenario = tmp_path / f"{name}.report", tmp_path / f"{name}.txt"
+        scenario.write_text(text)
+        report.write_bytes(report_of(text.encode(), "--format", "npy"))
+        return [report, scenario]
+    return made

@@ -16,7 +16,8 @@ Run = Callable[..., tuple[int, str, str]]
 
 @pytest.fixture
 def run(kernel: Path, program: str, tmp_path: Path) -> Run:
-    """Writes a hosts file and runs it, with the output folder tmp_path / 'run'. Returns status, output and errors."""
+    """Writes a hosts file and runs it, with the output folder tmp_path / 'run'. Returns status, output and
+    errors."""
     def call(text: str, *words: object) -> tuple[int, str, str]:
         (tmp_path / "test.yaml").write_text(text)
         return tool("hosts", tmp_path / "test.yaml", "--out", tmp_path / "run", *words, DNLAB=program)
@@ -25,7 +26,8 @@ def run(kernel: Path, program: str, tmp_path: Path) -> Run:
 
 def one_host(process: str, more: str = "", stop: str = "5s") -> str:
     """Returns a hosts file with one process."""
-    return f"general: {{stop_time: {stop}}}\n{LINK}hosts:\n  one:\n    ip_addr: 10.0.0.1\n{more}    processes:\n    - {process}\n"
+    return (f"general: {{stop_time: {stop}}}\n{LINK}hosts:\n  one:\n    ip_addr: 10.0.0.1\n{more}    "
+            f"processes:\n    - {process}\n")
 
 
 def processes_in(folder: Path) -> Iterator[int]:

@@ -1,12 +1,12 @@
 """Two experiments calculated by hand: scenarios, reports, and their rows.
 
-TRAIN  four packets of 1000 bytes at once: at 8 Mbit/s each takes 1 ms, and the delay is 10 ms. One is served, two wait, and
-       the fourth is dropped (`full`). The first two are delivered at 11 and 12 ms; at the end, at 12.5 ms, the third is
-       in flight. A single packet at 5 ms is served until 6 ms.
-FLOWS  flow 1 has two segments of 960 bytes, 1000 with headers, over a link like that of TRAIN. They are delivered at 11 and
-       12 ms, and each is acknowledged 1 ns later. The only segment of flow 2 is denied at 0; at 1 s it is sent again, and a
-       rule delivers it 1 ns later. A command is refused, because there is no rule 7.
-"""
+TRAIN  four packets of 1000 bytes at once: at 8 Mbit/s each takes 1 ms, and the delay is 10 ms. One is
+       served, two wait, and the fourth is dropped (`full`). The first two are delivered at 11 and 12 ms; at
+       the end, at 12.5 ms, the third is in flight. A single packet at 5 ms is served until 6 ms.
+FLOWS  flow 1 has two segments of 960 bytes, 1000 with headers, over a link like that of TRAIN. They are
+       delivered at 11 and 12 ms, and each is acknowledged 1 ns later. The only segment of flow 2 is denied at
+       0; at 1 s it is sent again, and a rule delivers it 1 ns later. A command is refused, because there is
+       no rule 7."""
 import io
 from typing import NamedTuple
 
@@ -101,7 +101,8 @@ counters 7 6 0 1 0 0 0 0 0 0 0
 
 
 def rows_of(run: Run) -> dict[str, Row]:
-    """Returns the rows of a summary by sender, with the median and the 95th percentile of the one-way delays."""
+    """Returns the rows of a summary by sender, with the median and the 95th percentile of the one-way
+    delays."""
     piece = next(pieces(io.BytesIO(run.report)))
     view = View(piece.read(), scenario.read(run.scenario)[piece.name])
     return {row["sender"]: row for row in Tables(view, (50, 95)).rows()}

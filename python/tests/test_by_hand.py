@@ -1,4 +1,5 @@
-"""Reports and metrics that were calculated by hand: the program writes the reports, and each metric has the value."""
+"""Reports and metrics that were calculated by hand: the program writes the reports, and each metric has the
+value."""
 from fractions import Fraction
 from typing import Callable
 
@@ -7,19 +8,23 @@ from hand_calculated import FLOWS, TRAIN, Run, rows_of
 
 from dnlab.analysis.metrics import WORDS, metric_of
 
-# Two of the train's four packets arrived, after 11 and 12 ms. 16000 bits in 12 ms are 1333333 bit/s. The only difference,
-# 1 ms, counts a sixteenth in the jitter (RFC 3550). The pipe served 32000 bits by 6 ms, and could have served 48000. `ended` is
-# 0 for `end`. Flow 1 delivers 1920 bytes without headers in 12 ms; flow 2 retransmits after 1 s. With rates of 1280000 and
-# 7679 bit/s Jain's index is 1287679^2 / (2 * (1280000^2 + 7679^2)).
+# Two of the train's four packets arrived, after 11 and 12 ms. 16000 bits in 12 ms are 1333333 bit/s. The only
+# difference, 1 ms, counts a sixteenth in the jitter (RFC 3550). The pipe served 32000 bits by 6 ms, and could
+# have served 48000. `ended` is 0 for `end`. Flow 1 delivers 1920 bytes without headers in 12 ms; flow 2
+# retransmits after 1 s. With rates of 1280000 and 7679 bit/s Jain's index is 1287679^2 / (2 * (1280000^2 +
+# 7679^2)).
 VALUES = [
     (TRAIN, "train 1", {
-        "packets": 4, "delivered": 2, "in_flight": 1, "drops": 1, "drops.full": 1, "drops.lost": 0, "loss": Fraction(1, 4), "bytes": 2000,
-        "useful": 2000, "first": 0, "last": 12000000, "time": 12000000, "delay.min": 11000000, "delay.p50": 11000000,
-        "delay.mean": 11500000, "delay.p95": 12000000, "delay.max": 12000000, "rate": 1333333, "goodput": 1333333, "jitter": 62500,
-        "refused": 0, "ended": 0}),
+        "packets": 4, "delivered": 2, "in_flight": 1, "drops": 1, "drops.full": 1, "drops.lost": 0,
+        "loss": Fraction(1, 4), "bytes": 2000, "useful": 2000, "first": 0, "last": 12000000, "time": 12000000,
+        "delay.min": 11000000, "delay.p50": 11000000, "delay.mean": 11500000, "delay.p95": 12000000,
+        "delay.max": 12000000, "rate": 1333333, "goodput": 1333333, "jitter": 62500, "refused": 0,
+        "ended": 0}),
     (TRAIN, "pipe 1.0", {"utilisation": Fraction(32000, 48000)}),
-    (FLOWS, "flow 1", {"bytes": 2000, "useful": 1920, "goodput": 1280000, "retransmissions": 0, "fct": 12000000, "refused": 1}),
-    (FLOWS, "flow 2", {"packets": 2, "drops.denied": 1, "loss": Fraction(1, 2), "goodput": 7679, "retransmissions": 1, "fct": 1000000001}),
+    (FLOWS, "flow 1", {"bytes": 2000, "useful": 1920, "goodput": 1280000, "retransmissions": 0,
+                       "fct": 12000000, "refused": 1}),
+    (FLOWS, "flow 2", {"packets": 2, "drops.denied": 1, "loss": Fraction(1, 2), "goodput": 7679,
+                       "retransmissions": 1, "fct": 1000000001}),
     (FLOWS, "there", {"jain": Fraction(1287679**2, 2 * (1280000**2 + 7679**2))}),
 ]
 

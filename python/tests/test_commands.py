@@ -32,11 +32,11 @@ def test_words_and_statuses(name: str, tmp_path: Path) -> None:
     assert tool(name, REPORT, EXAMPLES / "one_packet" / "scenario.txt")[0] == 2
 
 
-WRONG = [("plot", REPORT, "--what", "windows"), ("plot", REPORT, "--out", "x"), ("summary", REPORT, "--csv", "--json"),
-         ("summary", REPORT, "--percentiles", "0"), ("summary", REPORT, "--percentiles", "101"),
-         ("summary", REPORT, "--every", "5"), ("summary", REPORT, "--columns", "median"),
-         ("summary", REPORT, "--by", "colour"), ("summary", REPORT, "--workers", "0"),
-         ("summary", REPORT, "--every", "1s", "--losses")]
+WRONG = [("plot", REPORT, "--what", "windows"), ("plot", REPORT, "--out", "x"),
+         ("summary", REPORT, "--csv", "--json"), ("summary", REPORT, "--percentiles", "0"),
+         ("summary", REPORT, "--percentiles", "101"), ("summary", REPORT, "--every", "5"),
+         ("summary", REPORT, "--columns", "median"), ("summary", REPORT, "--by", "colour"),
+         ("summary", REPORT, "--workers", "0"), ("summary", REPORT, "--every", "1s", "--losses")]
 
 
 @pytest.mark.parametrize("words", WRONG, ids=lambda words: " ".join(map(str, words[2:])))
@@ -52,13 +52,15 @@ def test_summary_forms() -> None:
     # Rows have no names of experiments, but senders and sizes.
     assert status == 0 and out.split("\n")[1].startswith("0,train 1,30,29,0,29000,0,232000001,") and not err
     status, out, err = tool("summary", EXAMPLES / "codel_one_drop" / "expected.txt", "--csv")
-    assert status == 0 and out.split("\n")[1].startswith("codel-one-drop,plain,30,29,0,,,") and "dnlab alone --trace <" in err
+    assert (status == 0 and out.split("\n")[1].startswith("codel-one-drop,plain,30,29,0,,,")
+            and "dnlab alone --trace <" in err)
     status, out, _ = tool("summary", REPORT, SCENARIO)
     assert status == 0 and "120.000 " in out.split("\n")[1] and "120.000001" not in out and "codel:1" in out
 
 
 def test_summary_percentiles_and_rows() -> None:
-    status, out, err = tool("summary", REPORT, "--percentiles", "50,95,99", "--csv", SCENARIO, "--of", "train *")
+    status, out, err = tool("summary", REPORT, "--percentiles", "50,95,99", "--csv", SCENARIO, "--of",
+                            "train *")
     rows = list(csv.DictReader(io.StringIO(out)))
     assert status == 0 and not err and [row["sender"] for row in rows] == ["train 1"]
     assert (rows[0]["p50"], rows[0]["p95"], rows[0]["p99"]) == ("120000001", "224000001", "232000001")
@@ -76,12 +78,16 @@ def test_some_columns() -> None:
 
 def test_other_tables() -> None:
     status, out, _ = tool("summary", REPORT, SCENARIO, "--every", "100ms", "--csv")
-    assert status == 0 and out.startswith("experiment,sender,begin,end,packets,bytes,rate,useful,goodput,seed,varied,ended\n")
+    assert (status == 0
+            and out.startswith(
+                "experiment,sender,begin,end,packets,bytes,rate,useful,goodput,seed,varied,ended\n"))
     # Packet k is delivered at 8 ms * k + 1 ns: twelve before 100 ms.
     assert out.split("\n")[1] == "codel-one-drop,train 1,0,100000000,12,12000,960000,12000,960000,0,,end"
     status, out, _ = tool("summary", REPORT, SCENARIO, "--losses")
-    assert status == 0 and out.split("\n")[1].split() == ["codel-one-drop", "train", "1", "codel", "1.0", "1", "0", "end"]
-    status, out, _ = tool("summary", REPORT, SCENARIO, "--by", "varied", "--columns", "p50", "--of", "train*", "--json")
+    assert (status == 0 and out.split("\n")[1].split() == ["codel-one-drop", "train", "1", "codel", "1.0",
+                                                           "1", "0", "end"])
+    status, out, _ = tool("summary", REPORT, SCENARIO, "--by", "varied", "--columns", "p50", "--of", "train*",
+                          "--json")
     assert status == 0 and json.loads(out) == [{"varied": "", "sender": "train 1", "rows": 1, "p50 n": 1,
                                                 "p50 mean": 120000001.0, "p50 ci95": None}]
 
@@ -89,32 +95,41 @@ def test_other_tables() -> None:
 @pytest.mark.parametrize("name", ["median", "least", "completion", "again", "held", "nothing"])
 def test_a_column_has_one_name(name: str) -> None:
     status, out, err = tool("summary", REPORT, SCENARIO, "--by", "sender", "--columns", name)
-    assert (status, out) == (2, "") and f"there is no column {name}; the columns are experiment, sender, packets, delivered, in_flight, " in err
+    assert ((status, out) == (2, "")
+            and f"there is no column {name}; the columns are experiment, sender, packets, "
+                "delivered, in_flight, " in err)
 
 
 def test_the_printed_table_has_the_names_of_columns() -> None:
-    """Each heading is a column of --csv, except for `drops`, which has all causes. Only headings of times end with ` ms`."""
+    """Each heading is a column of --csv, except for `drops`, which has all causes. Only headings of times end
+    with ` ms`."""
     printed = re.split("  +", tool("summary", REPORT, SCENARIO)[1].split("\n")[0])
     columns = tool("summary", REPORT, SCENARIO, "--csv")[1].split("\n")[0].split(",")
     assert set(printed) - {"drops"} <= {name for column in columns for name in (column, f"{column} ms")}
-    assert [one for one in printed if one.endswith(" ms")] == ["time ms", "min ms", "p50 ms", "p99 ms", "max ms", "fct ms"]
+    assert [one for one in printed if one.endswith(" ms")] == ["time ms", "min ms", "p50 ms", "p99 ms",
+                                                               "max ms", "fct ms"]
     assert {"sender", "in_flight", "rate", "goodput", "retransmissions", "warnings"} < set(printed)
 
 
 @pytest.mark.parametrize("name", ["delay.median", "completion", "held"])
 def test_a_metric_has_one_name(name: str, tmp_path: Path) -> None:
-    for words in (("expect", REPORT, SCENARIO, f"train 1: {name} >= 0"), ("compare", REPORT, REPORT, SCENARIO, "--tolerance", f"{name}=0")):
+    for words in (("expect", REPORT, SCENARIO, f"train 1: {name} >= 0"),
+                  ("compare", REPORT, REPORT, SCENARIO, "--tolerance", f"{name}=0")):
         status, out, err = tool(*words)
-        assert (status, out) == (2, "") and f"there is no metric '{name}'; the metrics are packets, delivered, in_flight, " in err
+        assert ((status, out) == (2, "")
+                and f"there is no metric '{name}'; the metrics are packets, delivered, in_flight, " in err)
     template = tmp_path / "one.tmpl"
     template.write_text(SCENARIO.read_text().replace("experiment codel-one-drop", "experiment {{ name }}"))
     status, out, err = tool("sweep", template, "--of", "train 1", "--stat", name)
-    assert (status, out) == (2, "") and f"there is no statistic '{name}'; use one of packets, delivered, in_flight, " in err
+    assert ((status, out) == (2, "")
+            and f"there is no statistic '{name}'; use one of packets, delivered, in_flight, " in err)
 
 
 def test_times_for_people_are_ms() -> None:
-    out = tool("summary", REPORT, SCENARIO, "--by", "varied", "--columns", "p50", "--of", "train*")[1].split("\n")
-    assert out[0].split() == ["varied", "sender", "rows", "p50", "n", "p50", "mean", "ms", "p50", "ci95", "ms"]
+    out = tool("summary", REPORT, SCENARIO, "--by", "varied", "--columns", "p50", "--of",
+               "train*")[1].split("\n")
+    assert out[0].split() == ["varied", "sender", "rows", "p50", "n", "p50", "mean", "ms", "p50", "ci95",
+                              "ms"]
     assert out[1].split() == ["train", "1", "1", "1", "120.000", "-"]
     out = tool("summary", REPORT, SCENARIO, "--every", "100ms")[1].split("\n")
     assert out[0].split()[2:6] == ["begin", "ms", "end", "ms"] and out[1].split()[3:5] == ["0.000", "100.000"]
@@ -144,7 +159,8 @@ def test_scenarios_in_several_texts(tmp_path: Path) -> None:
     cut = text.index("\nexperiment ", text.index("experiment ") + 1) + 1
     (tmp_path / "a").write_text(text[:cut])
     (tmp_path / "b").write_text(text[cut:])
-    assert tool("summary", report, tmp_path / "a", tmp_path / "b", "--csv") == tool("summary", report, scenario, "--csv")
+    assert tool("summary", report, tmp_path / "a", tmp_path / "b",
+                "--csv") == tool("summary", report, scenario, "--csv")
     status, _, err = tool("summary", report, scenario, tmp_path / "b")
     assert status == 2 and "a second experiment" in err
 
@@ -164,8 +180,8 @@ def test_files_drawn(tmp_path: Path) -> None:
 
 
 def module(*words: str, **more: object) -> "subprocess.CompletedProcess[str]":
-    return subprocess.run([sys.executable, "-B", "-m", "dnlab", *words], capture_output=True, text=True, check=False,
-                          env={**os.environ, "PYTHONPATH": str(ROOT / "python")}, **more)
+    return subprocess.run([sys.executable, "-B", "-m", "dnlab", *words], capture_output=True, text=True,
+                          check=False, env={**os.environ, "PYTHONPATH": str(ROOT / "python")}, **more)
 
 
 def test_as_a_module() -> None:
@@ -176,7 +192,8 @@ def test_as_a_module() -> None:
 
 
 def test_a_reader_that_leaves() -> None:
-    done = subprocess.run(f"{sys.executable} -B -m dnlab summary {REPORT} {SCENARIO} --every 10us --csv | head -n 1",
-                          shell=True, capture_output=True, text=True, check=False,
-                          env={**os.environ, "PYTHONPATH": str(ROOT / "python")})
+    done = subprocess.run(
+        f"{sys.executable} -B -m dnlab summary {REPORT} {SCENARIO} --every 10us --csv | head -n 1",
+        shell=True, capture_output=True, text=True, check=False,
+        env={**os.environ, "PYTHONPATH": str(ROOT / "python")})
     assert done.returncode == 0 and done.stdout.count("\n") == 1 and "Traceback" not in done.stderr

@@ -19,7 +19,8 @@ from dnlab.io import scenario
 from dnlab.analysis.quantities import amount_of, shown
 
 Alone = Callable[[bytes], bytes]
-# Five packets of 1000 bytes at once: at 8 Mbit/s each is served in 1 ms, and delivered 10 ms later: 11 .. 15 ms.
+# Five packets of 1000 bytes at once: at 8 Mbit/s each is served in 1 ms, and delivered 10 ms later: 11 .. 15
+# ms.
 TRAIN = """experiment a seed 0 budget 100
 @0 pipe 1 config bw 8Mbit/s delay 10
 @0 add 100 pipe 1 ip from any to any
@@ -40,7 +41,8 @@ def two(traced: Alone, tmp_path: Path) -> list[Path]:
     return paths
 
 
-FLOW = b"experiment f seed 0 budget 9\n@0 add 1 allow ip from any to any\n@0 flow 1 10.0.0.1 1 10.0.0.2 2 smss 100 segments 9\n@9 end\n"
+FLOW = (b"experiment f seed 0 budget 9\n@0 add 1 allow ip from any to any\n@0 flow 1 10.0.0.1 1 10.0.0.2 2 "
+        b"smss 100 segments 9\n@9 end\n")
 
 
 def view(traced: Alone, text: str, joined: bool = True) -> View:
@@ -57,7 +59,8 @@ def test_metrics_and_ratio(two: list[Path]) -> None:
     # At 4 Mbit/s a packet takes 2 ms, so they arrive at 12, 14, 16, 18 and 20 ms.
     assert found["train 9", "delay.p50"] == (13 * 10**6, 16 * 10**6, 16 / 13, "differs")
     assert found["train 9", "delay.p95"] == (15 * 10**6, 20 * 10**6, 20 / 15, "differs")
-    assert found["train 9", "goodput"] == (5000 * 8 * 10**9 // (15 * 10**6), 2 * 10**6, 2 * 10**6 / 2666666, "differs")
+    assert found["train 9", "goodput"] == (5000 * 8 * 10**9 // (15 * 10**6), 2 * 10**6, 2 * 10**6 / 2666666,
+                                           "differs")
     assert found["train 9", "packets"] == (5, 5, 1.0, "same")
     status, out, _ = tool("compare", a, b, plan, other, "--percentiles", "95", "--of", "train *")
     row = [line.split() for line in out.split("\n") if "delay.p95" in line]
@@ -69,7 +72,8 @@ def pair(first: Optional[Fraction], second: Optional[Fraction], word: str = "del
 
 
 def test_three_digits_unless_exact() -> None:
-    """1234567 ns are 1.235 ms with three digits. Values that differ never look equal, and a difference never looks like zero."""
+    """1234567 ns are 1.235 ms with three digits. Values that differ never look equal, and a difference never
+    looks like zero."""
     apart = pair(Fraction(1234567), Fraction(2469134))
     assert apart.shown(exact=False) == ["1.235ms", "2.469ms", "2.000"]
     assert apart.shown(exact=True) == ["1.234567ms", "2.469134ms", "2"]
@@ -81,16 +85,20 @@ def test_three_digits_unless_exact() -> None:
 
 
 def test_exact_goes_with_the_table(two: list[Path], tmp_path: Path) -> None:
-    """The last of five packets of 1000 bytes at 7 Mbit/s and 8 takes 5714286 ns (40000 bits, rounded up once) and 5000000."""
+    """The last of five packets of 1000 bytes at 7 Mbit/s and 8 takes 5714286 ns (40000 bits, rounded up once)
+    and 5000000."""
     report, plan = two[:2]
     other = tmp_path / "seven"
-    other.write_bytes(subprocess.run([os.environ["DNLAB"], "alone", "--trace"], input=TRAIN.replace("8Mbit/s", "7Mbit/s").encode(),
+    other.write_bytes(subprocess.run([os.environ["DNLAB"], "alone", "--trace"],
+                                     input=TRAIN.replace("8Mbit/s", "7Mbit/s").encode(),
                                      capture_output=True, check=True).stdout)
     seven = tmp_path / "seven.txt"
     seven.write_text(TRAIN.replace("8Mbit/s", "7Mbit/s"))
     rows = [line.split() for words in ((), ("--exact",))
-            for line in tool("compare", report, other, plan, seven, "--of", "train 9", *words)[1].splitlines() if " delay.max " in line]
-    assert [row[-4:-1] for row in rows] == [["15ms", "15.714ms", "1.048"], ["15ms", "15.714286ms", "1.04761907"]]
+            for line in tool("compare", report, other, plan, seven, "--of", "train 9", *words)[1].splitlines()
+            if " delay.max " in line]
+    assert [row[-4:-1] for row in rows] == [["15ms", "15.714ms", "1.048"],
+                                            ["15ms", "15.714286ms", "1.04761907"]]
 
 
 def test_where_they_part(two: list[Path]) -> None:
@@ -100,12 +108,14 @@ def test_where_they_part(two: list[Path]) -> None:
     assert lines[:6] == ["a: they diverge at 1000000 ns",
                          "  only in A: line 2: @0 pipe 1 config bw 8Mbit/s delay 10",
                          "  only in B: line 2: @0 pipe 1 config bw 4Mbit/s delay 10",
-                         "  last equal: A line 15: 0 ns arrive train 9 packet 4 at 1.0 | B line 15: 0 ns arrive train 9 packet 4 at 1.0",
+                         "  last equal: A line 15: 0 ns arrive train 9 packet 4 at 1.0 | B line 15: 0 ns "
+                         "arrive train 9 packet 4 at 1.0",
                          "  A: line 16: 1000000 ns finish train 9 packet 0 at 1.0",
                          "  B: line 16: 2000000 ns finish train 9 packet 0 at 1.0"]
     # At 1 ms, one of the five packets has left the queue of A and is in the delay line.
     assert [line.split() for line in lines[6:8]] == [
-        ["packets", "A", "before", "A", "after", "B", "before", "B", "after"], ["at", "1.0", "5+0", "4+1", "5+0", "5+0"]]
+        ["packets", "A", "before", "A", "after", "B", "before", "B", "after"],
+        ["at", "1.0", "5+0", "4+1", "5+0", "5+0"]]
     assert json.loads(tool("compare", a, b, plan, other, "--json")[1])["partings"] == [
         {"experiment": "a", "moment": 10**6, "a": "line 16: 1000000 ns finish train 9 packet 0 at 1.0",
          "b": "line 16: 2000000 ns finish train 9 packet 0 at 1.0"}]
@@ -128,12 +138,14 @@ def test_tolerances(two: list[Path]) -> None:
         assert tool("compare", a, b, plan, other, "--of", "train *", *given)[0] == status, words
     out = tool("compare", a, b, plan, other, "--of", "train *", "--tolerance", "delay.p50=24%")[1]
     assert "within 24%" in out
-    assert tolerance_of("drops=2").allows(Fraction(3), Fraction(5)) and not tolerance_of("drops=2").allows(Fraction(3), Fraction(6))
+    assert (tolerance_of("drops=2").allows(Fraction(3), Fraction(5))
+            and not tolerance_of("drops=2").allows(Fraction(3), Fraction(6)))
 
 
 def test_serial_numbers_that_shift(traced: Alone) -> None:
     """An additional packet that no line names shifts all serial numbers, and changes nothing else."""
-    more = TRAIN.replace("@0 add 100", "@0 pipe 2 config bw 1bit/s\n@0 add 50 pipe 2 tcp from any to any\n@0 add 100")
+    more = TRAIN.replace("@0 add 100",
+                         "@0 pipe 2 config bw 1bit/s\n@0 add 50 pipe 2 tcp from any to any\n@0 add 100")
     first = view(traced, more)
     second = view(traced, more.replace("@0 train", "@0 inject tcp 10.0.0.1 1 10.0.0.2 2 1000\n@0 train"))
     assert second.counters.made == first.counters.made + 1
@@ -153,14 +165,17 @@ def test_a_traced_run_beside_one_that_is_not(traced: Alone) -> None:
 
 
 def test_segments_are_told_by_bytes(traced: Alone) -> None:
-    """Lost segments are sent again. Where B stops, A's next line is the third transmission of the first byte."""
+    """Lost segments are sent again. Where B stops, A's next line is the third transmission of the first
+    byte."""
     text = ("experiment a seed 0 budget 100\n@0 pipe 1 config plr 1\n@0 add 100 pipe 1 ip from any to any\n"
             "@0 flow 1 10.0.0.1 1 10.0.0.2 2 smss 1000 segments 3\n@STOP stop 1\n@9000000000 end\n")
     # The first expiry is after 1 s, the next after 2 s more.
-    first, second = view(traced, text.replace("STOP", "8000000000")), view(traced, text.replace("STOP", "2000000000"))
+    first, second = view(traced,
+                         text.replace("STOP", "8000000000")), view(traced, text.replace("STOP", "2000000000"))
     found = parting(first, second)
     assert found is not None and found.moment == 3 * 10**9
-    assert found.told[0].line(found.rows[0] or 0).split(": ")[1] == "3000000000 ns expire flow 1 cwnd 1000 ssthresh 2000"
+    assert (found.told[0].line(found.rows[0]
+                               or 0).split(": ")[1] == "3000000000 ns expire flow 1 cwnd 1000 ssthresh 2000")
     assert found.rows[1] is None
     following = [found.told[0].line(int(row)).split(": ")[1] for row in found.following[0][:4]]
     assert following[1].startswith("3000000000 ns make flow 1 byte 0 (sent 3 times) 1040 bytes, tcp")
@@ -171,9 +186,11 @@ def test_what_compare_refuses(two: list[Path]) -> None:
     a, plan, b, other = two
     for status, said, words in (
             (2, "there is no metric 'delay.95'", (a, b, "--tolerance", "delay.95=5%")), (2, "usage", (a,)),
-            (2, "its unit is missing: ns, us", (a, b, "--tolerance", "delay.p95=5")), (2, "two scenarios", (a, b, plan, plan, plan)),
+            (2, "its unit is missing: ns, us", (a, b, "--tolerance", "delay.p95=5")),
+            (2, "two scenarios", (a, b, plan, plan, plan)),
             (2, "it has no experiment x; its experiments are a", (a, b, plan, other, "--experiment", "x")),
-            (2, "it has no experiment, so", (a, os.devnull)), (2, "no row matches train 8", (a, b, "--of", "train 8")),
+            (2, "it has no experiment, so", (a, os.devnull)),
+            (2, "no row matches train 8", (a, b, "--of", "train 8")),
             (2, "none.txt", (a, "none.txt")), (2, "line 1", (a, plan)), (2, "standard input", ("-", "-"))):
         got = tool("compare", *words)
         assert got[0] == status and said in got[2] and not got[1], words
@@ -186,30 +203,40 @@ def test_what_compare_refuses(two: list[Path]) -> None:
 
 def test_bounds_that_hold_and_fail(two: list[Path], tmp_path: Path) -> None:
     a, plan, *_ = two
-    status, out, err = tool("expect", a, plan, "train 9: delay.p95 <= 15ms", "a/train *: goodput > 2.6Mbit/s", "all: drops = 0")
+    status, out, err = tool("expect", a, plan, "train 9: delay.p95 <= 15ms", "a/train *: goodput > 2.6Mbit/s",
+                            "all: drops = 0")
     assert status == 0 and not err and out.split("\n")[:3] == [
         "holds  bound 1: train 9: delay.p95 <= 15ms  (measured 15ms of a/train 9; holds by 0 %)",
-        "holds  bound 2: a/train *: goodput > 2.6Mbit/s  (measured 2.666666Mbit/s of a/train 9; holds by 2.6 %)",
+        "holds  bound 2: a/train *: goodput > 2.6Mbit/s  (measured 2.666666Mbit/s of a/train 9; "
+        "holds by 2.6 %)",
         "holds  bound 3: all: drops = 0  (measured 0 of a/all)"]
-    (tmp_path / "bounds").write_text("# of the train\ntrain 9: delay.min >= 11ms\n\n train 9 : delay.p95<15 ms\nall: packets > 9\n")
+    (tmp_path / "bounds").write_text(
+        "# of the train\ntrain 9: delay.min >= 11ms\n\n train 9 : delay.p95<15 ms\nall: packets > 9\n")
     status, out, _ = tool("expect", a, plan, "--bounds", tmp_path / "bounds")
     assert status == 1 and out == (
-        f"holds  {tmp_path}/bounds: line 2: train 9: delay.min >= 11ms  (measured 11ms of a/train 9; holds by 0 %)\n"
-        f"FAILS  {tmp_path}/bounds: line 4: train 9 : delay.p95<15 ms  (measured 15ms of a/train 9)\n"
-        f"FAILS  {tmp_path}/bounds: line 5: all: packets > 9  (measured 5 of a/all)\n")
+        f"holds  {tmp_path}/bounds: line 2: train 9: delay.min >= 11ms  (measured 11ms of a/train 9; holds "
+        f"by 0 %)\nFAILS  {tmp_path}/bounds: line 4: train 9 : delay.p95<15 ms  (measured 15ms of a/train "
+        f"9)\nFAILS  {tmp_path}/bounds: line 5: all: packets > 9  (measured 5 of a/all)\n")
     status, out, _ = tool("expect", a, plan, "--bounds", tmp_path / "bounds", "--first")
     assert status == 1 and out.count("\n") == 2 and "line 5" not in out
     (tmp_path / "untraced").write_bytes(report_of(TRAIN.encode()))
     status, out, _ = tool("expect", tmp_path / "untraced", "plain: delay.p95 < 1s")
-    assert status == 1 and "it is unknown for a/plain: make the report with --trace: `dnlab alone --trace < scenario.txt" in out
+    assert (status == 1
+            and "it is unknown for a/plain: make the report with --trace: `dnlab alone --trace "
+                "< scenario.txt" in out)
 
 
 @pytest.mark.parametrize("text, said", [
-    ("train 9: delay.p95 < 50", "its unit is missing: ns, us, ms, s"), ("train 9: delay.p95 < 50kg", "'kg' is not a unit here"),
-    ("train 9: delay.q95 < 50ms", "there is no metric 'delay.q95'; the metrics are packets, delivered"), ("train 9 delay.p95 < 50ms", "the colon"),
-    ("train 9: delay.p95 50ms", "a sign"), ("train 9: delay.p95 => 50ms", "'=>' is not a sign"), (": drops < 1", "WHO"),
-    ("all: drops < many", "'many' is not an amount such as 3"), ("all: delay.p0 < 1ms", "no metric 'delay.p0'"),
-    ("all: delay.p100.5 < 1ms", "no metric"), ("all: loss < 5", "%"), ("all: rate < 5Mbps", "'Mbps' is not a unit here: bit/s, kbit/s")])
+    ("train 9: delay.p95 < 50", "its unit is missing: ns, us, ms, s"),
+    ("train 9: delay.p95 < 50kg", "'kg' is not a unit here"),
+    ("train 9: delay.q95 < 50ms", "there is no metric 'delay.q95'; the metrics are packets, delivered"),
+    ("train 9 delay.p95 < 50ms", "the colon"),
+    ("train 9: delay.p95 50ms", "a sign"), ("train 9: delay.p95 => 50ms", "'=>' is not a sign"),
+    (": drops < 1", "WHO"),
+    ("all: drops < many", "'many' is not an amount such as 3"),
+    ("all: delay.p0 < 1ms", "no metric 'delay.p0'"),
+    ("all: delay.p100.5 < 1ms", "no metric"), ("all: loss < 5", "%"),
+    ("all: rate < 5Mbps", "'Mbps' is not a unit here: bit/s, kbit/s")])
 def test_what_is_no_bound(text: str, said: str) -> None:
     with pytest.raises(InputError, match="line 2: ") as faulty:
         bounds_in("bounds", f"# first\n{text}\n")
@@ -220,7 +247,8 @@ def test_statuses_of_expect(two: list[Path], tmp_path: Path) -> None:
     a, plan, *_ = two
     for status, said, words in (
             (2, "no row 'train 8'; there are train 9, pipe 1.0, all", (a, plan, "train 8: drops < 1")),
-            (2, "no experiment 'b'; there are a", (a, plan, "b/train 9: drops < 1")), (2, "no bound", (a, plan)),
+            (2, "no experiment 'b'; there are a", (a, plan, "b/train 9: drops < 1")),
+            (2, "no bound", (a, plan)),
             (2, "a sign", (a, plan, "train 9: drops 1")), (2, "none", (tmp_path / "none", "all: drops < 1")),
             (2, "line 1", (plan, "all: drops < 1")), (2, "no experiment", (os.devnull, "all: drops < 1")),
             (2, "it has no bound", (a, "--bounds", os.devnull))):
@@ -231,7 +259,8 @@ def test_statuses_of_expect(two: list[Path], tmp_path: Path) -> None:
 def test_amounts() -> None:
     assert amount_of("1.5us", "time") == (1500, "us") and amount_of("10 Mbit/s", "rate") == (10**7, "Mbit/s")
     assert shown(Fraction(10**15 + 1), "time", "s") == "1000000.000000001s"
-    row = {"packets": 40, "denied": 1, **dict.fromkeys(("nopipe", "noinstance", "lost", "full", "codel", "deleted", "budget"), 0)}
+    row = {"packets": 40, "denied": 1,
+           **dict.fromkeys(("nopipe", "noinstance", "lost", "full", "codel", "deleted", "budget"), 0)}
     assert metric_of("loss").of(row) == Fraction(1, 40) and metric_of("drops.denied").of(row) == 1
     assert bound_of("all: loss<2.5%", "").holds(Fraction(1, 40)) is False
     assert metric_of("loss").of({**row, "full": None}) is None
@@ -250,8 +279,9 @@ def test_the_fixture(two: list[Path], tmp_path: Path) -> None:
         "def test_bad(expect):\n    expect(report, 'all: drops == 0', 'train 9: delay.p95 < 15ms')\n"
         "def test_file(expect, tmp_path):\n    (tmp_path / 'b').write_text('all: packets == 5\\n')\n"
         "    expect(report, tmp_path / 'b')\n")
-    done = subprocess.run([sys.executable, "-B", "-m", "pytest", "-q", "-p", "no:cacheprovider", str(room)], cwd=room,
-                          env={**os.environ, "PYTHONPATH": str(ROOT / "python")}, capture_output=True, text=True, check=False)
+    done = subprocess.run([sys.executable, "-B", "-m", "pytest", "-q", "-p", "no:cacheprovider", str(room)],
+                          cwd=room, env={**os.environ, "PYTHONPATH": str(ROOT / "python")},
+                          capture_output=True, text=True, check=False)
     assert "1 failed, 2 passed" in done.stdout, done.stdout
     assert "FAILS  bound 2: train 9: delay.p95 < 15ms  (measured 15ms of a/train 9)" in done.stdout
     assert "holds  bound 1: all: drops == 0" in done.stdout

@@ -1,4 +1,5 @@
-"""A report of another scenario is refused if its lines show this. docs/reference/tools.md lists what they can't show."""
+"""A report of another scenario is refused if its lines show this. docs/reference/tools.md lists what they
+can't show."""
 from pathlib import Path
 from typing import Callable
 
@@ -11,14 +12,16 @@ CHANGES = [
     ("queue 100\n", "queue 100 plr 1\n", "plr 1"), ("queue 100\n", "queue 100 plr 0.5\n", "plr 0.5"),
     ("queue 100\n", "queue 100 mask src-ip 0xff\n", "mask"), ("budget 1000\n", "budget 3\n", "budget 3"),
     ("budget 1000\n", "budget 1000 steps 50\n", "steps 50"), ("ssthresh 3000", "ssthresh 9000", "ssthresh"),
-    ("add 100 pipe 1 ip", "add 100 deny ip", "deny it"), ("add 100 pipe 1 ip", "add 100 allow ip", "allow it"),
+    ("add 100 pipe 1 ip", "add 100 deny ip", "deny it"),
+    ("add 100 pipe 1 ip", "add 100 allow ip", "allow it"),
     ("add 100 pipe 1 ip", "add 100 pipe 1 tcp", "deny it"), ("bw 200Kbit/s", "bw 300Kbit/s", "bw 300Kbit/s"),
     ("delay 10 queue", "delay 11 queue", "delay 11"),
 ]
 
 
 @pytest.mark.parametrize("old, new, said", CHANGES, ids=[new.strip() for _, new, _ in CHANGES])
-def test_a_stale_report(old: str, new: str, said: str, tmp_path: Path, traced: Callable[[bytes], bytes]) -> None:
+def test_a_stale_report(old: str, new: str, said: str, tmp_path: Path,
+                        traced: Callable[[bytes], bytes]) -> None:
     """Each change makes a different report (in the program), and the old report is refused."""
     report, changed = tmp_path / "r.txt", SCENARIO.replace(old, new)
     report.write_bytes(traced(SCENARIO.encode()))

@@ -25,7 +25,8 @@ def told(cell) -> list[str]:
 def test_the_notebook(program: str, monkeypatch: pytest.MonkeyPatch) -> None:
     """It runs in its own folder, where nothing sets the path of the package."""
     nbformat = pytest.importorskip("nbformat", reason="nbconvert is missing (Debian: python3-nbconvert)")
-    execute = pytest.importorskip("nbconvert.preprocessors", reason="nbconvert is missing (Debian: python3-nbconvert)")
+    execute = pytest.importorskip("nbconvert.preprocessors",
+                                  reason="nbconvert is missing (Debian: python3-nbconvert)")
     pytest.importorskip("ipykernel", reason="ipykernel is missing (Debian: python3-ipykernel)")
     pytest.importorskip("matplotlib_inline", reason="matplotlib is missing (Debian: python3-matplotlib)")
     monkeypatch.delenv("PYTHONPATH", raising=False)
@@ -34,6 +35,8 @@ def test_the_notebook(program: str, monkeypatch: pytest.MonkeyPatch) -> None:
     [path] = (ROOT / "docs").rglob("queues.ipynb")
     book = nbformat.read(path, 4)
     wanted = [told(cell) for cell in book.cells]
-    execute.ExecutePreprocessor(timeout=600, kernel_name="python3").preprocess(book, {"metadata": {"path": str(path.parent)}})
+    execute.ExecutePreprocessor(timeout=600,
+                                kernel_name="python3").preprocess(book,
+                                                                  {"metadata": {"path": str(path.parent)}})
     assert [told(cell) for cell in book.cells] == wanted
     assert sum("a picture" in one for one in wanted) == 2

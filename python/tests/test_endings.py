@@ -1,9 +1,10 @@
-"""How long runs end: at random times a signal is sent to the tool or its group, or kills it, a worker or a program.
+"""How long runs end: at random times a signal is sent to the tool or its group, or kills it, a worker or a
+program.
 
-Each time all has ended within two seconds (longer on a machine that is busy besides), nothing is left (of a tool that was
-killed: after the next call), one line says why and how much is kept, and the next call goes on to the same bytes. The times
-begin when the tool handles signals. DNLAB_MOMENTS says how many moments are tried (24); 200 take some ten minutes:
-DNLAB_MOMENTS=200 tools/gate/check_python -k endings
+Each time all has ended within two seconds (longer on a machine that is busy besides), nothing is left (of a
+tool that was killed: after the next call), one line says why and how much is kept, and the next call goes on
+to the same bytes. The times begin when the tool handles signals. DNLAB_MOMENTS says how many moments are
+tried (24); 200 take some ten minutes: DNLAB_MOMENTS=200 tools/gate/check_python -k endings
 """
 import os
 import random
@@ -29,16 +30,17 @@ LINK = """experiment {{ name }} seed {{ seed }} budget 1000
 @{{ 2 | s }} end
 """
 EXPERIMENTS = 60
-WORDS = ["link.tmpl", "--set", "queue=10,50", "--seeds", "1-30", "--of", "injected", "--stat", "delay.p50,lost",
-         "--csv", "table.csv", "--workers", "2"]
+WORDS = ["link.tmpl", "--set", "queue=10,50", "--seeds", "1-30", "--of", "injected", "--stat",
+         "delay.p50,lost", "--csv", "table.csv", "--workers", "2"]
 # The signals and their targets, which are used in turn.
 WAYS = [(signal.SIGINT, "tool"), (signal.SIGTERM, "tool"), (signal.SIGHUP, "tool"), (signal.SIGINT, "group"),
-        (signal.SIGKILL, "tool"), (signal.SIGTERM, "group"), (signal.SIGKILL, "worker"), (signal.SIGHUP, "group"),
-        (signal.SIGKILL, "program")]
+        (signal.SIGKILL, "tool"), (signal.SIGTERM, "group"), (signal.SIGKILL, "worker"),
+        (signal.SIGHUP, "group"), (signal.SIGKILL, "program")]
 
 
 def heed_signals() -> None:
-    """Handles signals like a program in a terminal, even if pytest was started by nohup or in the background of a script."""
+    """Handles signals like a program in a terminal, even if pytest was started by nohup or in the background
+    of a script."""
     for number in signal.SIGINT, signal.SIGTERM, signal.SIGHUP:
         signal.signal(number, signal.SIG_DFL)
 
@@ -55,8 +57,10 @@ class Place:
         self.env = {**os.environ, "DNLAB": program, "TMPDIR": str(self.room), "PYTHONFAULTHANDLER": "1"}
 
     def begin(self, *words: str) -> "subprocess.Popen[str]":
-        return subprocess.Popen([sys.executable, ROOT / "tools" / "sweep", *WORDS, *words], cwd=self.folder, env=self.env,
-                                stdout=subprocess.PIPE, stderr=subprocess.PIPE, text=True, start_new_session=True,
+        return subprocess.Popen([sys.executable, ROOT / "tools" / "sweep", *WORDS, *words], cwd=self.folder,
+                                env=self.env,
+                                stdout=subprocess.PIPE, stderr=subprocess.PIPE, text=True,
+                                start_new_session=True,
                                 preexec_fn=heed_signals)
 
     def kept(self) -> int:
@@ -114,11 +118,13 @@ def judge_line(place: Place, way: tuple[signal.Signals, str], status: int, err: 
         assert not err or re.fullmatch(done, err) and place.kept() == EXPERIMENTS, err
         return
     assert err.count("\n") == 1 and err.startswith("sweep: "), err
-    found = re.search(rf"(\d+) of {EXPERIMENTS} experiments are kept in link.tmpl.kept; the same command continues\n$", err)
+    found = re.search(
+        rf"(\d+) of {EXPERIMENTS} experiments are kept in link.tmpl.kept; the same command continues\n$", err)
     if found:
         assert int(found[1]) <= place.kept() <= EXPERIMENTS
     else:
-        assert err.endswith(("nothing was written\n", "no experiment was run\n")) or place.kept() == EXPERIMENTS, err
+        assert err.endswith(("nothing was written\n",
+                             "no experiment was run\n")) or place.kept() == EXPERIMENTS, err
 
 
 def finished(going: "subprocess.Popen[str]", seconds: float = 60) -> str:
@@ -135,13 +141,14 @@ def finished(going: "subprocess.Popen[str]", seconds: float = 60) -> str:
 
 
 def patience() -> float:
-    """Returns two seconds, or more if there are more running processes than cores, because each gets only its share."""
+    """Returns two seconds, or more if there are more running processes than cores, because each gets only its
+    share."""
     return 2 * max(1.0, os.getloadavg()[0] / (os.cpu_count() or 1))
 
 
 def one_moment(place: Place, way: tuple[signal.Signals, str], moment: float) -> Optional[str]:
-    """Starts a sweep, and ends it after a time, counted from when it handles signals. Returns its output if it was ended, or None
-    if it was done before."""
+    """Starts a sweep, and ends it after a time, counted from when it handles signals. Returns its output if
+    it was ended, or None if it was done before."""
     number, whom = way
     going = place.begin()
     wait_for_handlers(going.pid)
@@ -156,7 +163,8 @@ def one_moment(place: Place, way: tuple[signal.Signals, str], moment: float) -> 
         took = time.monotonic() - sent
         while list(session(going.pid)) and time.monotonic() - sent < 10:
             time.sleep(0.01)
-        assert time.monotonic() - sent < patience(), f"{way} at {moment:.3f} s: {took:.1f} s, {list(session(going.pid))}"
+        left = list(session(going.pid))
+        assert time.monotonic() - sent < patience(), f"{way} at {moment:.3f} s: {took:.1f} s, {left}"
     finally:
         for one, _ in session(going.pid):
             os.kill(one, signal.SIGKILL)

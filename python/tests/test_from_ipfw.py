@@ -1,36 +1,28 @@
-"""tools/from-ipfw: five configurations of an administrator, and the result of each word of ipfw(8).
+"""tools/from-ipfw: five configurations of an administrator, and what becomes of their lines.
 
-The expected commands beside the scripts (tests/ipfw/NAME.txt) were worked out by hand from ipfw(8) and docs/reference/scenario.md.
+The expected commands beside the scripts (tests/ipfw/NAME.txt) were worked out by hand from ipfw(8) and
+docs/reference/scenario.md.
 """
 from pathlib import Path
 from typing import Callable
 
 import pytest
 from conftest import tool
+from ipfw_lines import became, imported
 
-from dnlab.io.ipfw_script import Translation
 from dnlab.io.ipfw_import import Import
-from dnlab.io.ipfw_script import Line, lines_of
-from dnlab.io.ipfw_words import APPROXIMATED, DROPPED, REFUSED, REWRITTEN, SAME, UnsupportedError, rate
+from dnlab.io.ipfw_script import lines_of
+from dnlab.io.ipfw_words import APPROXIMATED, DROPPED, REFUSED, REWRITTEN, SAME
 
 FOLDER = Path(__file__).parent / "ipfw"
-INTERFACES = ("--if", "em1=10.0.1.0/24", "--if", "dc0=any", "--if", "igb0=any", "--if", "igb1=any", "--me", "203.0.113.10")
-# Counted by hand in the scripts: lines of ipfw and sysctl, those without an effect (`flush` at the start, the loopback
-# interface, `check-state`), and those that need missing features (icmp, frag, established; sched, queue, and rules to queues).
-LINES = {"wanem": (9, 3, 0), "handbook-stateful": (23, 3, 4), "hotel-per-host": (20, 2, 0), "bufferbloat-fq-codel": (12, 1, 6),
+INTERFACES = ("--if", "em1=10.0.1.0/24", "--if", "dc0=any", "--if", "igb0=any", "--if", "igb1=any", "--me",
+              "203.0.113.10")
+# Counted by hand in the scripts: lines of ipfw and sysctl, those without an effect (`flush` at the start, the
+# loopback interface, `check-state`), and those that need missing features (icmp, frag, established; sched,
+# queue, and rules to queues).
+LINES = {"wanem": (9, 3, 0), "handbook-stateful": (23, 3, 4), "hotel-per-host": (20, 2, 0),
+         "bufferbloat-fq-codel": (12, 1, 6),
          "satellite-voip": (22, 3, 4)}
-
-
-def imported(*lines: str, **more: object) -> list[Translation]:
-    """Imports lines of ipfw."""
-    one = Import(**{"behind": {"em1": "10.0.1.0/24"}, **more})  # type: ignore[arg-type]
-    one.take_all([Line((("sysctl",) if line.startswith("net.") else ("ipfw",)) + tuple(line.split())) for line in lines])
-    return one.became
-
-
-def became(line: str, *before: str, **more: object) -> tuple[str, tuple[str, ...]]:
-    last = imported(*before, line, **more)[-1]
-    return last.kind, last.commands
 
 
 @pytest.mark.parametrize("name", LINES)
@@ -49,7 +41,8 @@ def test_configurations(name: str, tmp_path: Path, alone: Callable[[bytes], byte
 
 
 def test_how_many_come_through() -> None:
-    """72 of 86 lines are imported. The other fourteen have the firewall's flags and ICMP, and weighted queues."""
+    """72 of 86 lines are imported. The other fourteen have the firewall's flags and ICMP, and weighted
+    queues."""
     assert sum(lines for lines, _, _ in LINES.values()) == 86
     assert sum(lines - refused for lines, _, refused in LINES.values()) == 72
 
@@ -62,7 +55,8 @@ def test_refused_lines_leave_no_file(tmp_path: Path) -> None:
 
 
 def test_flattened() -> None:
-    """Rules to queues become rules to their pipes. By hand: rules 1000 and 1010 go to pipe 1, and nothing is refused."""
+    """Rules to queues become rules to their pipes. By hand: rules 1000 and 1010 go to pipe 1, and nothing is
+    refused."""
     status, said, told = tool("from-ipfw", FOLDER / "satellite-voip.sh", "--flatten")
     assert status == 0 and " 0 refused" in told and "weight, queue, mask and red are lost" in told
     assert "@0 add 1000 pipe 1 udp from any 5060 to 192.0.2.0/24\n" in said
@@ -71,7 +65,8 @@ def test_flattened() -> None:
 
 def test_flattened_schedulers() -> None:
     """A pipe with FQ-CoDel becomes a pipe with CoDel and the same times."""
-    became = imported("pipe 1 config bw 9Mbit/s delay 5", "sched 1 config pipe 1 type fq_codel target 4ms interval 80ms flows 1024",
+    became = imported("pipe 1 config bw 9Mbit/s delay 5",
+                      "sched 1 config pipe 1 type fq_codel target 4ms interval 80ms flows 1024",
                       "queue 1 config sched 1 weight 9", "add 10 queue 1 ip from any to any", flatten=True)
     assert became[1].commands == ("pipe 1 config bw 9Mbit/s delay 5 codel target 4ms interval 80ms",)
     assert became[3].commands == ("add 10 pipe 1 ip from any to any",)
@@ -79,12 +74,15 @@ def test_flattened_schedulers() -> None:
 
 
 def test_what_the_rules_do(tmp_path: Path, alone: Callable[[bytes], bytes]) -> None:
-    """By hand: rule 2000 sends 320 bytes to port 24 through pipe 2, 256 kbit/s and 270 ms, and 2099 allows them (1 ns): 280000001 ns.
-    With `not dst-port 22`, packets to port 22 bypass it: 1 ns. Rule 2020 after the pipe denies a TCP packet to port 23."""
+    """By hand: rule 2000 sends 320 bytes to port 24 through pipe 2, 256 kbit/s and 270 ms, and 2099 allows
+    them (1 ns): 280000001 ns. With `not dst-port 22`, packets to port 22 bypass it: 1 ns. Rule 2020 after the
+    pipe denies a TCP packet to port 23."""
     traffic = tmp_path / "traffic.txt"
-    traffic.write_text("@1000000000 inject udp 192.0.2.1 1000 198.51.100.1 24 320\n@2000000000 inject udp 192.0.2.1 1000 198.51.100.1 22 320\n"
-                       "@3000000000 inject tcp 192.0.2.1 1000 198.51.100.1 23 320\n")
-    status, said, _ = tool("from-ipfw", FOLDER / "satellite-voip.sh", "--lenient", "--traffic", traffic, "--seed", 7)
+    traffic.write_text(
+        "@1000000000 inject udp 192.0.2.1 1000 198.51.100.1 24 320\n@2000000000 inject udp 192.0.2.1 1000 "
+        "198.51.100.1 22 320\n@3000000000 inject tcp 192.0.2.1 1000 198.51.100.1 23 320\n")
+    status, said, _ = tool("from-ipfw", FOLDER / "satellite-voip.sh", "--lenient", "--traffic", traffic,
+                           "--seed", 7)
     assert status == 0
     report = alone(said.encode()).decode()
     assert "1280000001 deliver 0 plain" in report
@@ -92,127 +90,32 @@ def test_what_the_rules_do(tmp_path: Path, alone: Callable[[bytes], bytes]) -> N
     assert "3280000000 drop 2 plain denied" in report
 
 
-# According to ipfw(8): units, numbers in front of a rule, and the packets that match.
-@pytest.mark.parametrize("line, kind, commands", [
-    ("pipe 1 config bw 10Mbit/s delay 20 queue 50 plr 0.01", SAME, ["pipe 1 config bw 10Mbit/s delay 20 queue 50 plr 0.01"]),
-    ("pipe 1 config bw 10Mb/s", REWRITTEN, ["pipe 1 config bw 10Mbit/s"]),
-    ("pipe 1 config bw 64k", REWRITTEN, ["pipe 1 config bw 64Kbit/s"]),
-    ("pipe 1 config bw 10MBytes/s", REWRITTEN, ["pipe 1 config bw 80Mbit/s"]),
-    ("pipe 1 config bw 1.5Mbit/s", REWRITTEN, ["pipe 1 config bw 1500Kbit/s"]),
-    ("pipe 1 config bw em0", REFUSED, []),
-    ("pipe 1 config plr .005", REWRITTEN, ["pipe 1 config plr 0.005"]),
-    ("pipe 1 config plr 5e-3", REWRITTEN, ["pipe 1 config plr 0.005"]),
-    ("pipe 1 config plr 0.00000149", APPROXIMATED, ["pipe 1 config plr 0.000001"]),
-    ("pipe 1 config plr 1%", REFUSED, []),
-    ("pipe 1 config queue 30000bytes", APPROXIMATED, ["pipe 1 config queue 29KBytes"]),
-    ("pipe 1 config queue 1001", REFUSED, []),
-    ("pipe 1 config delay 60001", REFUSED, []),
-    ("pipe 1 config mask src-ip /24 queue 5", REWRITTEN, ["pipe 1 config mask src-ip 0xffffff00 queue 5"]),
-    ("pipe 1 config mask proto 255", REWRITTEN, ["pipe 1 config mask proto 0xff"]),
-    ("pipe 1 config mask src-ip6 /64", REFUSED, []),
-    ("pipe 1 config mask src-ip 0x1ffffffff", REFUSED, []),
-    ("pipe 1 config codel target 5ms ecn", APPROXIMATED, ["pipe 1 config codel target 5ms"]),
-    ("pipe 1 config codel noecn droptail buckets 9", REWRITTEN, ["pipe 1 config codel droptail"]),
-    ("pipe 1 config burst 10000", REFUSED, []),
-    ("pipe 1 config red 0.002/5/15/0.1", REFUSED, []),
-    ("add 00100 pass all from any to any", REWRITTEN, ["add 100 allow ip from any to any"]),
-    ("add 100 reset tcp from any to any", APPROXIMATED, ["add 100 deny tcp from any to any"]),
-    ("add 100 unreach port udp from any to any", APPROXIMATED, ["add 100 deny udp from any to any"]),
-    ("add 100 allow tcp from 10.0.0.0:255.255.0.0 to any dst-port 22", REWRITTEN, ["add 100 allow tcp from 10.0.0.0/16 to any 22"]),
-    ("add 100 allow tcp from any to { 10.0.0.1 or 10.0.0.2 } 80,443", REWRITTEN,
-     [f"add 100 allow tcp from any to 10.0.0.{host} {port}" for host in (1, 2) for port in (80, 443)]),
-    ("add 100 allow ip from 10.0.0.0/8,10.1.0.0/16 to any", REWRITTEN, ["add 100 allow ip from 10.0.0.0/8 to any"]),
-    ("add 100 deny tcp from not 10.0.0.0/8 to any", REWRITTEN,
-     ["add 100 skipto 101 tcp from 10.0.0.0/8 to any", "add 100 deny tcp from any to any"]),
-    ("add 100 allow ip from any to any in recv em1", APPROXIMATED, ["add 100 allow ip from 10.0.1.0/24 to any"]),
-    ("add 100 allow ip from any to 10.0.1.7 out xmit em1", APPROXIMATED, ["add 100 allow ip from any to 10.0.1.7"]),
-    ("add 100 allow ip from any to any via em1", APPROXIMATED,
-     ["add 100 allow ip from 10.0.1.0/24 to any", "add 100 allow ip from any to 10.0.1.0/24"]),
-    ("add 100 allow ip from any to any in recv em7", REFUSED, []),
-    ("add 100 allow ip from any to any via lo0", DROPPED, []),
-    ("add 100 allow udp from any 53 to any keep-state", APPROXIMATED,
-     ["add 100 allow udp from any 53 to any", "add 100 allow udp from any to any 53"]),
-    ("add 100 deny tcp from any to any setup", REFUSED, []),
-    ("add 100 allow ip from me to any", REFUSED, []),
-    ("add 100 allow ip from any to 10.0.0.0/24{1,7}", REFUSED, []),
-    ("add 100 skipto 50 ip from any to any", REFUSED, []),
-    ("add 65535 allow ip from any to any", REFUSED, []),
-    ("add 100 prob 0.5 allow ip from any to any", REFUSED, []),
-    ("add 100 prob 0.5 deny ip from any to any", APPROXIMATED,
-     ["one_pass 0", "pipe 65535 config plr 0.5 queue 1000", "add 100 pipe 65535 ip from any to any"]),
-    ("add 100 divert 8668 ip from any to any", REFUSED, []),
-    ("add 100 allow icmp from any to any", REFUSED, []),
-    ("net.inet.ip.fw.one_pass=0", REWRITTEN, ["one_pass 0"]),
-    ("net.inet.ip.dummynet.hash_size=64", APPROXIMATED, []),
-    ("enable one_pass", REWRITTEN, ["one_pass 1"]),
-    ("nat 1 config if em0", REFUSED, []),
-])
-def test_lines(line: str, kind: str, commands: list[str]) -> None:
-    assert became(line) == (kind, tuple(commands))
-
-
-# Rules that match packets of TCP or UDP. According to ipfw(8) an omitted body is any, `not` negates a protocol, and options
-# can appear alone.
-@pytest.mark.parametrize("line, command", [
-    ("add 100 deny not icmp from any to any", "deny ip from any to any"),
-    ("add 100 deny not tcp from any to any", "deny udp from any to any"),
-    ("add 100 pipe 1 out", "pipe 1 ip from any to any"), ("add 100 pipe 1 in", "pipe 1 ip from any to any"),
-    ("add 100 count", "count ip from any to any"),
-    ("add 100 allow proto tcp from any to any", "allow tcp from any to any"), ("add 100 allow proto udp", "allow udp from any to any"),
-    ("add 100 allow src-ip 10.0.0.0/8 dst-port 80", "allow ip from 10.0.0.0/8 to any 80"),
-    ("add 100 allow { tcp or icmp } from any to any", "allow tcp from any to any"),
-    ("add 100 allow not { tcp or icmp } from any to any", "allow udp from any to any"),
-    ("add 100 allow { not icmp } from any to any", "allow ip from any to any"),
-    ("add 100 allow ip from any to any dst-ip 10.0.0.1 proto 17", "allow udp from any to 10.0.0.1"),
-    ("add 100 pipe 1 ip from any to any not layer2", "pipe 1 ip from any to any"),
-    ("add 100 tee 4000 ip from any to any", "count ip from any to any"),
-])
-def test_rules_that_match_stay(line: str, command: str) -> None:
-    assert became(line, drop_unmatchable=True)[1] == (f"add 100 {command}",)
-
-
-@pytest.mark.parametrize("body", ["icmp from any to any", "not ip from any to any", "{ icmp or 47 } from any to any", "proto ospf from any to any",
-                                  "tcp from any to any proto udp", "ip from any to any icmptypes 8", "ip6 from any to any"])
-def test_rules_that_match_nothing(body: str) -> None:
-    assert became(f"add 100 allow {body}", drop_unmatchable=True) == (DROPPED, ())
-    assert imported(f"add 100 allow {body}")[0].said[0].endswith("--drop-unmatchable leaves it out")
-
-
-@pytest.mark.parametrize("body", ["tpc from any to any", "ip from any to any established", "ip from any to any bogus", "ip from any 0.0.0.0"])
-def test_what_isnt_read_is_never_dropped(body: str) -> None:
-    assert became(f"add 100 deny {body}", drop_unmatchable=True) == (REFUSED, ())
-
-
 def test_directions_of_a_host() -> None:
-    """With --me and no --if, outgoing packets have the host's address as source, and incoming ones as destination."""
-    rules = imported("add 1 pipe 1 out", "add 2 pipe 2 in", "add 3 allow ip from 10.0.0.1 to any out", behind={}, me="10.0.0.9")
-    assert [one.commands[0] for one in rules] == ["add 1 pipe 1 ip from 10.0.0.9 to any", "add 2 pipe 2 ip from any to 10.0.0.9",
+    """With --me and no --if, outgoing packets have the host's address as source, and incoming ones as
+    destination."""
+    rules = imported("add 1 pipe 1 out", "add 2 pipe 2 in", "add 3 allow ip from 10.0.0.1 to any out",
+                     behind={}, me="10.0.0.9")
+    assert [one.commands[0] for one in rules] == ["add 1 pipe 1 ip from 10.0.0.9 to any",
+                                                  "add 2 pipe 2 ip from any to 10.0.0.9",
                                                   "add 3 allow ip from 10.0.0.1 to any"]
 
 
 def test_any_address_behind_an_interface() -> None:
     """Nothing narrows the rule, so the note states that the direction is lost."""
-    deny, via = imported("add 1 deny tcp from any to any 113 in via em0", "add 2 deny udp from any to any via em0", behind={"em0": "any"})
-    assert deny.commands == ("add 1 deny tcp from any to any 113",) and via.commands == ("add 2 deny udp from any to any",)
-    assert "left out" in deny.said[0] and "packets the other way now match too" in deny.said[0] and "left out" in via.said[0]
-
-
-@pytest.mark.parametrize("word, kind, said", [("0.5s", APPROXIMATED, "500ms"), ("2s", APPROXIMATED, "2000ms"), ("1.5ms", REFUSED, "1ms or 2ms"),
-                                              ("1.5", REFUSED, "1ms or 2ms"), ("70s", REFUSED, "60000 ms"), ("soon", REFUSED, "as 20ms")])
-def test_times(word: str, kind: str, said: str) -> None:
-    one = imported(f"pipe 1 config delay {word}")[0]
-    assert one.kind == kind and said in one.said[0]
-
-
-@pytest.mark.parametrize("word", ["1,5Mbit/s", "1e6", "0x100"])
-def test_rates_that_arent_read(word: str) -> None:
-    assert "interface" not in imported(f"pipe 1 config bw {word}")[0].said[0]
+    deny, via = imported("add 1 deny tcp from any to any 113 in via em0",
+                         "add 2 deny udp from any to any via em0", behind={"em0": "any"})
+    assert (deny.commands == ("add 1 deny tcp from any to any 113",)
+            and via.commands == ("add 2 deny udp from any to any",))
+    assert ("left out" in deny.said[0] and "packets the other way now match too" in deny.said[0]
+            and "left out" in via.said[0])
 
 
 def test_denied_by_chance(alone: Callable[[bytes], bytes]) -> None:
-    """By hand: with one_pass 1 a packet that leaves pipe 1 is delivered (100 bytes at 1 Mbit/s: 0.8 ms, 1 ns for a delay of 0, and 1 ns for
-    `allow`), although rule 300 would deny it. A packet to port 9 goes through the pipe without loss (1 ns), and rule 300 denies it."""
-    lines = ["pipe 1 config bw 1Mbit/s", "add 100 pipe 1 udp from any to any 7", "add 200 prob 0 deny ip from any to any",
+    """By hand: with one_pass 1 a packet that leaves pipe 1 is delivered (100 bytes at 1 Mbit/s: 0.8 ms, 1 ns
+    for a delay of 0, and 1 ns for `allow`), although rule 300 would deny it. A packet to port 9 goes through
+    the pipe without loss (1 ns), and rule 300 denies it."""
+    lines = ["pipe 1 config bw 1Mbit/s", "add 100 pipe 1 udp from any to any 7",
+             "add 200 prob 0 deny ip from any to any",
              "add 300 deny udp from any to any"]
     one = [command for each in imported(*lines) for command in each.commands]
     text = "experiment e seed 1 budget 9\n" + "".join(f"@0 {command}\n" for command in one)
@@ -222,17 +125,22 @@ def test_denied_by_chance(alone: Callable[[bytes], bytes]) -> None:
 
 
 def test_dummynets_own_examples() -> None:
-    """Four of the 29 lines of ipfw(8)'s and dummynet's examples are refused: two that route at random, a rate of an interface, and `call`."""
-    status, said, told = tool("from-ipfw", FOLDER / "dummynet-examples.sh", "--flatten", "--me", "10.9.9.9", "--lenient")
+    """Four of the 29 lines of ipfw(8)'s and dummynet's examples are refused: two that route at random, a rate
+    of an interface, and `call`."""
+    status, said, told = tool("from-ipfw", FOLDER / "dummynet-examples.sh", "--flatten", "--me", "10.9.9.9",
+                              "--lenient")
     assert status == 0 and "29 lines: " in told and " 4 refused" in told
-    assert [line.split(": add ")[-1].split(": pipe ")[-1] for line in told.splitlines() if line.startswith("refused: ")] == [
-        "prob 0.333 pipe 5 ip from any to 10.1.0.0/16", "prob 0.5 pipe 6 ip from any to 10.1.0.0/16", "13 config bw tun0",
+    assert [line.split(": add ")[-1].split(": pipe ")[-1]
+            for line in told.splitlines() if line.startswith("refused: ")] == [
+        "prob 0.333 pipe 5 ip from any to 10.1.0.0/16", "prob 0.5 pipe 6 ip from any to 10.1.0.0/16",
+        "13 config bw tun0",
         "60000 call 100 ip from any to any"]
 
 
 def test_refusals_have_a_way_out() -> None:
     """Each refusal names the word, and what to do instead."""
-    for line, *wanted in (("add 1 allow ip from any to any in via em7", "em7", "--if em7="), ("add 1 allow ip from me to any", "me", "--me"),
+    for line, *wanted in (("add 1 allow ip from any to any in via em7", "em7", "--if em7="),
+                          ("add 1 allow ip from me to any", "me", "--me"),
                           ("pipe 1 config plr 1%", "1%", "0.01"), ("pipe 1 config bw em0", "em0", "10Mbit/s"),
                           ("add 1 prob 0.5 allow ip from any to any", "prob", "addresses and ports")):
         said = imported(line)[-1].said[0]
@@ -240,32 +148,41 @@ def test_refusals_have_a_way_out() -> None:
 
 
 def test_a_direction_left_out() -> None:
-    """Without `out`, a pipe between any addresses also receives incoming packets. A pipe from the host's own address does not."""
+    """Without `out`, a pipe between any addresses also receives incoming packets. A pipe from the host's own
+    address does not."""
     pipe, rule, own = (imported(line)[-1].said for line in (
-        "add 1 pipe 1 ip from any to any out", "add 1 deny ip from any to any in", "add 1 pipe 1 ip from 10.0.0.1 to any out"))
-    assert len(pipe) == 1 and "packets the other way now go through this pipe too" in pipe[0] and "narrow" in pipe[0]
+        "add 1 pipe 1 ip from any to any out", "add 1 deny ip from any to any in",
+        "add 1 pipe 1 ip from 10.0.0.1 to any out"))
+    assert (len(pipe) == 1 and "packets the other way now go through this pipe too" in pipe[0]
+            and "narrow" in pipe[0])
     assert "packets the other way now match too" in rule[0]
     assert len(own) == 1 and "`out` left out" in own[0] and "the other way" not in own[0]
 
 
 def test_numbers_of_rules() -> None:
     """ipfw(8): the default number of a rule is the maximum so far plus 100."""
-    rules = imported("add allow ip from any to any", "add 250 allow ip from any to any", "add allow ip from any to any",
-                     "add 60 allow ip from any to any", "add allow ip from any to any", "add fwd 1.2.3.4 ip from any to any",
+    rules = imported("add allow ip from any to any", "add 250 allow ip from any to any",
+                     "add allow ip from any to any",
+                     "add 60 allow ip from any to any", "add allow ip from any to any",
+                     "add fwd 1.2.3.4 ip from any to any",
                      "add allow ip from any to any")
-    assert [one.commands[0].split()[1] for one in rules if one.kind != REFUSED] == ["100", "250", "350", "60", "450", "650"]
+    assert [one.commands[0].split()[1]
+            for one in rules if one.kind != REFUSED] == ["100", "250", "350", "60", "450", "650"]
 
 
 def test_tables() -> None:
     """The longest prefix comes first, because it determines a table's value."""
-    rules = imported("table 1 add 10.0.0.0/8 1", "table 1 add 10.1.0.0/16 2", "add 5 pipe tablearg ip from table(1) to any",
+    rules = imported("table 1 add 10.0.0.0/8 1", "table 1 add 10.1.0.0/16 2",
+                     "add 5 pipe tablearg ip from table(1) to any",
                      "add 6 allow ip from any to table(9)")
-    assert rules[2].commands == ("add 5 pipe 2 ip from 10.1.0.0/16 to any", "add 5 pipe 1 ip from 10.0.0.0/8 to any")
+    assert rules[2].commands == ("add 5 pipe 2 ip from 10.1.0.0/16 to any",
+                                 "add 5 pipe 1 ip from 10.0.0.0/8 to any")
     assert rules[3].kind == REFUSED
 
 
 def test_flush_behind_rules() -> None:
-    assert [one.kind for one in imported("flush", "add 1 allow ip from any to any", "flush")] == [DROPPED, SAME, REFUSED]
+    assert [one.kind for one in imported("flush", "add 1 allow ip from any to any",
+                                         "flush")] == [DROPPED, SAME, REFUSED]
 
 
 def test_not_goes_around_its_own_rule_alone() -> None:
@@ -275,7 +192,8 @@ def test_not_goes_around_its_own_rule_alone() -> None:
 
 def test_disabled_sets() -> None:
     assert became("add 5 set 3 allow ip from any to any", "set disable 3") == (DROPPED, ())
-    assert became("add 5 set 4 allow ip from any to any", "set disable 3") == (REWRITTEN, ("add 5 allow ip from any to any",))
+    assert became("add 5 set 4 allow ip from any to any",
+                  "set disable 3") == (REWRITTEN, ("add 5 allow ip from any to any",))
 
 
 def test_listings() -> None:
@@ -301,18 +219,17 @@ q131074  30 KB 0 flows (64 buckets) sched 65538 weight 0 lmax 0 pri 0
 
 def test_time_passes_in_a_script() -> None:
     one = Import({})
-    one.take_all(lines_of("#!/bin/sh\nfor rate in 1 2; do /sbin/ipfw pipe 1 config bw ${rate}Mbit/s; sleep 5; done\n", "script"))
+    one.take_all(
+        lines_of("#!/bin/sh\nfor rate in 1 2; do /sbin/ipfw pipe 1 config bw ${rate}Mbit/s; sleep 5; done\n",
+                 "script"))
     assert [(each.moment, each.commands) for each in one.became] == [
         (0, ("pipe 1 config bw 1Mbit/s",)), (5 * 10**9, ("pipe 1 config bw 2Mbit/s",))]
 
 
 def test_wrong_input(tmp_path: Path) -> None:
-    for words, text, wanted in ((["-"], b"", "no line of ipfw"), (["gone.sh"], b"", "gone.sh"), (["-", "--if", "em1"], b"", "--if"),
-                                (["-", "--name", "A"], b"add 1 allow ip from any to any\n", "not be a valid scenario")):
+    for words, text, wanted in ((["-"], b"", "no line of ipfw"), (["gone.sh"], b"", "gone.sh"),
+                                (["-", "--if", "em1"], b"", "--if"),
+                                (["-", "--name", "A"], b"add 1 allow ip from any to any\n",
+                                 "not be a valid scenario")):
         status, said, told = tool("from-ipfw", *words, text=text)
         assert (status, said) == (2, "") and wanted in told, told
-
-
-def test_words_alone() -> None:
-    with pytest.raises(UnsupportedError):
-        rate("11Gbit/s")

@@ -9,14 +9,17 @@ from conftest import ROOT
 # These run dnlab's own commands for ./dnlab, including `--help`, and the command that a link is named after.
 OF_DNLAB = {"tools/gate/checked", "tools/command"}
 TOOLS = sorted(str(path.relative_to(ROOT)) for path in (
-    *ROOT.glob("tools/**/*"), *ROOT.glob("cookbook/*"), *ROOT.glob("stacks/**/*"), ROOT / "examples/check", ROOT / "test")
+    *ROOT.glob("tools/**/*"), *ROOT.glob("cookbook/*"), *ROOT.glob("stacks/**/*"), ROOT / "examples/check",
+    ROOT / "test")
     if path.is_file() and os.access(path, os.X_OK))
 
 
 def help_of(tool: str) -> str:
     """Returns the help of a tool for a terminal of 80 columns."""
-    done = subprocess.run([f"./{tool}", "--help"], cwd=ROOT, capture_output=True, text=True, timeout=120, check=False,
-                          stdin=subprocess.DEVNULL, env={**os.environ, "COLUMNS": "80", "PYTHONDONTWRITEBYTECODE": "1"})
+    done = subprocess.run([f"./{tool}", "--help"], cwd=ROOT, capture_output=True, text=True, timeout=120,
+                          check=False,
+                          stdin=subprocess.DEVNULL,
+                          env={**os.environ, "COLUMNS": "80", "PYTHONDONTWRITEBYTECODE": "1"})
     assert done.returncode == 0 and not done.stderr, done.stderr
     return done.stdout
 
@@ -24,7 +27,8 @@ def help_of(tool: str) -> str:
 def examples_in(text: str) -> list[str]:
     """Returns the commands below `Example:`. A continued line is indented further."""
     _, _, after = text.partition("\nExample:\n")
-    return [line.strip() for line in after.split("\n\n")[0].splitlines() if line[:2] == "  " and line[2:3] != " "]
+    return [line.strip()
+            for line in after.split("\n\n")[0].splitlines() if line[:2] == "  " and line[2:3] != " "]
 
 
 @pytest.mark.parametrize("tool", [tool for tool in TOOLS if tool not in OF_DNLAB])
@@ -44,6 +48,7 @@ def test_what_an_example_is() -> None:
 
 
 def test_all_tools_are_asked() -> None:
-    assert {"tools/summary", "tools/gate/docs", "tools/attack/hostile", "cookbook/check", "stacks/check", "test"} <= set(TOOLS)
+    assert {"tools/summary", "tools/gate/docs", "tools/attack/hostile", "cookbook/check", "stacks/check",
+            "test"} <= set(TOOLS)
     assert all((ROOT / tool).exists() for tool in OF_DNLAB)
     assert not [tool for tool in TOOLS if Path(tool).suffix == ".md"]

@@ -26,11 +26,13 @@ signal.signal(signal.SIGINT, signal.default_int_handler)
 def test_a_run_is_ended_at_any_time(seed: int, kernel: Path, program: str, tmp_path: Path) -> None:
     """No process is left two seconds after SIGINT or SIGTERM, nor after SIGKILL of only the command."""
     drawn = random.Random(seed)
-    (tmp_path / "test.yaml").write_text(one_host("{path: sh, args: \"-c 'while sleep 0.001; do ping -c 1 10.0.0.2; done'\"}", stop="24h")
-                                        + "  two: {ip_addr: 10.0.0.2}\n")
+    (tmp_path / "test.yaml").write_text(
+        one_host("{path: sh, args: \"-c 'while sleep 0.001; do ping -c 1 10.0.0.2; done'\"}", stop="24h")
+        + "  two: {ip_addr: 10.0.0.2}\n")
     number = (signal.SIGINT, signal.SIGTERM, signal.SIGKILL)[seed % 3]
-    with subprocess.Popen([ROOT / "tools/hosts", "test.yaml", "--out", "run"], cwd=tmp_path, stdout=subprocess.PIPE,
-                          stderr=subprocess.PIPE, env={**os.environ, "DNLAB": program}) as process:
+    with subprocess.Popen([ROOT / "tools/hosts", "test.yaml", "--out", "run"], cwd=tmp_path,
+                          stdout=subprocess.PIPE, stderr=subprocess.PIPE,
+                          env={**os.environ, "DNLAB": program}) as process:
         wait_for_handlers(process.pid)
         time.sleep(drawn.uniform(0, 2.5))
         process.send_signal(number)
@@ -46,13 +48,16 @@ def test_a_run_is_ended_at_any_time(seed: int, kernel: Path, program: str, tmp_p
 
 def test_a_guest_that_dies(kernel: Path, program: str, tmp_path: Path) -> None:
     """The status is 3, and there is no summary.json, which would suggest a complete run."""
-    (tmp_path / "test.yaml").write_text(one_host("{path: sh, args: \"-c 'while sleep 0.001; do :; done'\"}", stop="24h"))
-    with subprocess.Popen([ROOT / "tools/hosts", "test.yaml", "--out", "run"], cwd=tmp_path, stderr=subprocess.PIPE,
+    (tmp_path / "test.yaml").write_text(one_host("{path: sh, args: \"-c 'while sleep 0.001; do :; done'\"}",
+                                                 stop="24h"))
+    with subprocess.Popen([ROOT / "tools/hosts", "test.yaml", "--out", "run"], cwd=tmp_path,
+                          stderr=subprocess.PIPE,
                           env={**os.environ, "DNLAB": program}) as process:
         guest = []
         while not guest:
             time.sleep(0.1)
-            guest = [it for it in processes_in(tmp_path / "run") if Path(f"/proc/{it}/exe").resolve().name == "linux"]
+            guest = [it for it in processes_in(tmp_path / "run")
+                     if Path(f"/proc/{it}/exe").resolve().name == "linux"]
         time.sleep(0.3)
         os.kill(min(guest), signal.SIGKILL)
         _, err = process.communicate(timeout=10)
@@ -61,12 +66,14 @@ def test_a_guest_that_dies(kernel: Path, program: str, tmp_path: Path) -> None:
 
 
 def test_the_limit_of_real_time(run: Run) -> None:
-    status, _, err = run(one_host("{path: sh, args: \"-c 'while sleep 0.0001; do :; done'\"}", stop="24h"), "--limit", 3)
+    status, _, err = run(one_host("{path: sh, args: \"-c 'while sleep 0.0001; do :; done'\"}", stop="24h"),
+                         "--limit", 3)
     assert status == 3 and "not over after 3 s of real time" in err and "sh of one" in err
 
 
 def typed(words: list[str], lines: bytes, program: str) -> tuple[int, str]:
-    """Runs a command in its own terminal and types lines. Returns the status and the output of the terminal."""
+    """Runs a command in its own terminal and types lines. Returns the status and the output of the
+    terminal."""
     child, terminal = pty.fork()
     if child == 0:
         os.environ.update(DNLAB=program, SHELL="/bin/sh", PS1="ready> ")
@@ -89,7 +96,9 @@ def test_a_shell_behind_a_link(kernel: Path, program: str) -> None:
     if not os.access("/dev/net/tun", os.R_OK | os.W_OK):
         pytest.skip("/dev/net/tun cannot be opened")
     words = [str(ROOT / "tools/hosts"), "--shell", "bw 10Mbit/s delay 20"]
-    status, shown = typed(words, b"ping -c 2 10.0.1.1; tty; ip netns exec server ip -4 -o addr show eth0; exit 5\n", program)
+    status, shown = typed(words,
+                          b"ping -c 2 10.0.1.1; tty; ip netns exec server ip -4 -o addr show eth0; exit 5\n",
+                          program)
     times = [float(it) for it in re.findall(r"time=([0-9.]+) ms", shown)]
     assert status == 5 and len(times) == 2 and all(40 <= it < 200 for it in times), shown
     assert "/dev/pts/" in shown and "inet 10.0.1.1" in shown
@@ -104,7 +113,8 @@ def test_by_the_wall_clock(run: Run, tmp_path: Path) -> None:
     status, out, err = run(text, "--clock", "wall", "--late-bound", "1s")
     assert status == 0, err
     assert re.search(r"lateness of packets: p50 \d+\.\d{3} ms, p99 \d+\.\d{3} ms, max \d+\.\d{3} ms", out)
-    times = [float(it) for it in re.findall(r"time=([0-9.]+) ms", (tmp_path / "run/hosts/one/ping.0.stdout").read_text())]
+    times = [float(it) for it in re.findall(r"time=([0-9.]+) ms",
+                                            (tmp_path / "run/hosts/one/ping.0.stdout").read_text())]
     assert len(times) == 5 and all(40 <= it < 300 for it in times)
     status, _, err = run(text, "--clock", "wall", "--late-bound", "1ns", "--force")
     assert status == 1 and "above --late-bound" in err

@@ -1,4 +1,5 @@
-"""A hosts file is read as intended, and each of more than 200 wrong files is refused with its line and its cause."""
+"""A hosts file is read as intended, and each of more than 200 wrong files is refused with its line and its
+cause."""
 from pathlib import Path
 
 import pytest
@@ -37,7 +38,8 @@ def test_there_are_200_wrong_files() -> None:
     assert len({(number, replacement) for number, replacement, _, _ in WRONG}) == len(WRONG)
 
 
-@pytest.mark.parametrize("number, replacement, line, cause", WRONG, ids=[f"{it[0]}:{it[1].strip()[:60]!a}" for it in WRONG])
+@pytest.mark.parametrize("number, replacement, line, cause", WRONG,
+                         ids=[f"{it[0]}:{it[1].strip()[:60]!a}" for it in WRONG])
 def test_a_wrong_line_is_refused(number: int, replacement: str, line: int, cause: str) -> None:
     said = refusal_of(changed(number, replacement).encode())
     assert said.startswith(f"hosts.yaml:{line}: ") and cause in said, said
@@ -55,12 +57,14 @@ def test_what_the_file_means() -> None:
     assert [(it.moment, it.command, it.line) for it in made.network] == [
         (0, "pipe 1 config bw 10Mbit/s delay 20", 3), (5, "add 100 pipe 1 ip from any to any", 4)]
     server, client = made.hosts
-    assert (server.name, server.address, server.processes[0].arguments) == ("server", "10.0.1.1", ("-s", "-1"))
+    assert (server.name, server.address,
+            server.processes[0].arguments) == ("server", "10.0.1.1", ("-s", "-1"))
     assert server.processes[0].expected == Ending("exited", 0) and server.processes[0].stop_ns is None
     assert client.sysctl == (("net.ipv4.tcp_congestion_control", "bbr"),)
     assert client.setup == ("tc qdisc replace dev eth0 root fq",)
     curl = client.processes[0]
-    assert (curl.path, curl.program, curl.arguments) == ("/usr/bin/curl", "curl", ("-H", "a b", "http://10.0.1.1/"))
+    assert (curl.path, curl.program, curl.arguments) == ("/usr/bin/curl", "curl",
+                                                         ("-H", "a b", "http://10.0.1.1/"))
     assert (curl.start_ns, curl.stop_ns, curl.stop_signal) == (1_000_000_000, 10_000_000_000, 2)
     assert (curl.environment, curl.expected, curl.user) == ((("LANG", "C"),), Ending("exited", 3), "nobody")
     settings = made.settings
@@ -73,16 +77,19 @@ def test_what_the_file_means() -> None:
 
 
 @pytest.mark.parametrize("text, ns", [
-    ("15", 15 * 10**9), ("15s", 15 * 10**9), ("15 sec", 15 * 10**9), ("2 mins", 120 * 10**9), ("1 h", 3600 * 10**9),
-    ("100ms", 10**8), ("7us", 7000), ("9 nanoseconds", 9), ("0.25 s", 250_000_000)])
+    ("15", 15 * 10**9), ("15s", 15 * 10**9), ("15 sec", 15 * 10**9), ("2 mins", 120 * 10**9),
+    ("1 h", 3600 * 10**9), ("100ms", 10**8), ("7us", 7000), ("9 nanoseconds", 9), ("0.25 s", 250_000_000)])
 def test_times_are_those_of_shadow(text: str, ns: int) -> None:
     assert judged(changed(19, f"      start_time: {text}").replace("stop_time: 15s", "stop_time: 2h")
-                  .replace("shutdown_time: 10s", "shutdown_time: 119 min").encode()).hosts[1].processes[0].start_ns == ns
+                  .replace("shutdown_time: 10s",
+                           "shutdown_time: 119 min").encode()).hosts[1].processes[0].start_ns == ns
 
 
 def test_anchors_and_keys_of_ones_own() -> None:
     text = BASE.replace("general:", "x-server: &server {path: iperf3, args: [-s]}\ngeneral:").replace(
-        "    - path: iperf3\n      args: -s -1\n", "    - *server\n    - <<: *server\n      args: [-s, -p, '5202']\n      expected_final_state: running\n")
+        "    - path: iperf3\n      args: -s -1\n",
+        "    - *server\n    - <<: *server\n      args: [-s, -p, '5202']\n      "
+        "expected_final_state: running\n")
     first, second = judged(text.encode()).hosts[0].processes
     assert first.arguments == ("-s",) and second.arguments == ("-s", "-p", "5202")
     assert second.path == "iperf3" and second.expected == Ending("running")
@@ -97,13 +104,18 @@ def test_jitter_is_drawn_from_the_seed() -> None:
 
 
 def test_what_is_likely_wrong_has_its_line() -> None:
-    said = check_network(experiment_of(changed(4, "  @5 add 100 pipe 2 ip from any to any").encode(), "hosts.yaml", Path(".")))
-    assert len(said) == 1 and said[0].startswith("hosts.yaml:4: network: nopipe: ") and not check_network(judged(BASE.encode()))
+    said = check_network(experiment_of(changed(4, "  @5 add 100 pipe 2 ip from any to any").encode(),
+                                       "hosts.yaml", Path(".")))
+    assert (len(said) == 1 and said[0].startswith("hosts.yaml:4: network: nopipe: ")
+            and not check_network(judged(BASE.encode())))
 
 
-@pytest.mark.parametrize("number, replacement, line, cause", [GENERAL[1], NETWORK[16], HOSTS[14], PROCESSES[46]])
-def test_the_command_refuses_it(number: int, replacement: str, line: int, cause: str, tmp_path: Path, program: str) -> None:
+@pytest.mark.parametrize("number, replacement, line, cause",
+                         [GENERAL[1], NETWORK[16], HOSTS[14], PROCESSES[46]])
+def test_the_command_refuses_it(number: int, replacement: str, line: int, cause: str, tmp_path: Path,
+                                program: str) -> None:
     (tmp_path / "run.yaml").write_text(changed(number, replacement))
     status, out, err = tool("hosts", tmp_path / "run.yaml", "--out", tmp_path / "run", DNLAB=program)
-    assert (status, out) == (2, "") and err.startswith(f"hosts: {tmp_path}/run.yaml:{line}: ") and cause in err
+    assert ((status, out) == (2, "") and err.startswith(f"hosts: {tmp_path}/run.yaml:{line}: ")
+            and cause in err)
     assert err.count("\n") == 1 and not (tmp_path / "run").exists()

@@ -1,4 +1,5 @@
-"""Programs run in the guest's kernel: each run has the same bytes, and captures and tables agree with the report."""
+"""Programs run in the guest's kernel: each run has the same bytes, and captures and tables agree with the
+report."""
 import json
 import os
 import re
@@ -25,29 +26,35 @@ run = guests.run
 EXAMPLES = ROOT / "hosts" / "examples"
 # The programs that each example runs, except for Python and a shell.
 PROGRAMS = {
-    "iperf3": ("iperf3",), "bbr_beside_cubic": ("iperf3", "tc"), "near_and_far": ("iperf3",), "nginx_tls": ("nginx", "curl", "openssl"),
-    "dns_loss": ("dnsmasq", "dig"), "python_service": (), "git_clone": ("git",), "redis": ("redis-server", "redis-benchmark"),
+    "iperf3": ("iperf3",), "bbr_beside_cubic": ("iperf3", "tc"), "near_and_far": ("iperf3",),
+    "nginx_tls": ("nginx", "curl", "openssl"),
+    "dns_loss": ("dnsmasq", "dig"), "python_service": (), "git_clone": ("git",),
+    "redis": ("redis-server", "redis-benchmark"),
     "page_load": ("chromium-headless-shell", "nginx", "openssl"), "postgresql": ("pg_lsclusters",),
 }
 PATH = os.pathsep.join((os.environ["PATH"], "/usr/sbin", "/sbin"))
 
 
 def files_in(folder: Path) -> dict[str, bytes]:
-    """Returns the files of a run that must be the same each time, which excludes the console and the real times."""
+    """Returns the files of a run that must be the same each time, which excludes the console and the real
+    times."""
     kept = {path.relative_to(folder): path for path in folder.rglob("*") if path.is_file()}
     return {str(name): path.read_bytes() for name, path in kept.items()
             if name.parts[0] != "guest" and str(name) != "summary.json"}
 
 
 @pytest.mark.parametrize("name", ["nginx_tls", "dns_loss", "python_service"] if QUICK else sorted(PROGRAMS))
-def test_an_example_twice(name: str, kernel: Path, program: str, alone: Callable[[bytes], bytes], tmp_path: Path) -> None:
-    """Two runs, in folders with names of different lengths and at different times, have the same bytes and alone's report."""
+def test_an_example_twice(name: str, kernel: Path, program: str, alone: Callable[[bytes], bytes],
+                          tmp_path: Path) -> None:
+    """Two runs, in folders with names of different lengths and at different times, have the same bytes and
+    alone's report."""
     missing = [it for it in PROGRAMS[name] if shutil.which(it, path=PATH) is None]
     if missing:
         pytest.skip(f"missing programs: {' '.join(missing)}")
     folders = [tmp_path / "one", tmp_path / "deeper" / "folder-with-a-longer-name"]
     for folder in folders:
-        status, _, err = tool("hosts", EXAMPLES / f"{name}.yaml", "--out", folder, "--no-verify", DNLAB=program)
+        status, _, err = tool("hosts", EXAMPLES / f"{name}.yaml", "--out", folder, "--no-verify",
+                              DNLAB=program)
         assert status == 0, err
         time.sleep(1.1)
     first, second = map(files_in, folders)
@@ -62,7 +69,8 @@ def test_all_examples_are_tried() -> None:
 
 
 def fates_in(folder: Path) -> tuple[list[tuple[int, tuple[str, ...]]], dict[int, int]]:
-    """Returns the packets of a transcript (time, arguments of `inject`), and the times of their deliveries in the report."""
+    """Returns the packets of a transcript (time, arguments of `inject`), and the times of their deliveries in
+    the report."""
     lines = [line.split() for line in (folder / "transcript.txt").read_text().splitlines()]
     sent = [(int(line[0][1:]), tuple(line[2:])) for line in lines if line[1:2] == ["inject"]]
     found = re.findall(r"(?m)^(\d+) deliver (\d+) ", (folder / "report.txt").read_text())
@@ -71,7 +79,8 @@ def fates_in(folder: Path) -> tuple[list[tuple[int, tuple[str, ...]]], dict[int,
 
 @pytest.mark.parametrize("name", ["nginx_tls", "dns_loss"])
 def test_each_capture_is_the_report(name: str, kernel: Path, program: str, tmp_path: Path) -> None:
-    """Each packet sent and each delivery is in the capture of its host, with its exact time, ports and size."""
+    """Each packet sent and each delivery is in the capture of its host, with its exact time, ports and
+    size."""
     status, _, err = tool("hosts", EXAMPLES / f"{name}.yaml", "--out", tmp_path / "run", DNLAB=program)
     assert status == 0, err
     sent, delivered = fates_in(tmp_path / "run")
@@ -92,18 +101,22 @@ def test_each_capture_is_the_report(name: str, kernel: Path, program: str, tmp_p
 def test_a_process_that_fails(run: Run) -> None:
     status, _, err = run(one_host("{path: sh, args: \"-c 'echo first; echo no luck >&2; exit 7'\"}"))
     assert status == 1
-    assert err.splitlines()[-2:] == ["hosts: one: sh (process 0): exited 7; expected exited 0; its last lines:", "    no luck"]
+    assert err.splitlines()[-2:] == [
+        "hosts: one: sh (process 0): exited 7; expected exited 0; its last lines:", "    no luck"]
 
 
 @pytest.mark.parametrize("process, status, said", [
-    ("{path: not-there}", 1, "one: not-there (process 0): exited 127 (not found or not executable); expected exited 0"),
+    ("{path: not-there}", 1,
+     "one: not-there (process 0): exited 127 (not found or not executable); expected exited 0"),
     ("{path: sleep, args: '60'}", 1, "one: sleep (process 0): running; expected exited 0"),
     ("{path: sh, args: \"-c 'kill -9 $$'\"}", 1, "one: sh (process 0): signaled SIGKILL; expected exited 0"),
     ("{path: sh, args: \"-c 'kill -9 $$'\", expected_final_state: {signaled: SIGKILL}}", 0, ""),
     ("{path: sh, args: \"-c 'exit 3'\", expected_final_state: {exited: 3}}", 0, ""),
-    ("{path: sleep, args: '1', expected_final_state: running}", 1, "one: sleep (process 0): exited 0; expected running"),
+    ("{path: sleep, args: '1', expected_final_state: running}", 1,
+     "one: sleep (process 0): exited 0; expected running"),
     ("{path: sleep, args: '60', shutdown_time: 2s, expected_final_state: {signaled: SIGTERM}}", 0, ""),
-    ("{path: sleep, args: '60', shutdown_time: 2s, shutdown_signal: SIGINT, expected_final_state: {signaled: SIGINT}}", 0, ""),
+    ("{path: sleep, args: '60', shutdown_time: 2s, shutdown_signal: SIGINT, expected_final_state: "
+     "{signaled: SIGINT}}", 0, ""),
 ])
 def test_final_states(process: str, status: int, said: str, run: Run) -> None:
     got, _, err = run(one_host(process))
@@ -121,16 +134,20 @@ def test_a_host_that_cannot_be_set_up(more: str, said: str, run: Run) -> None:
 
 
 def test_spent_steps_end_the_run(run: Run) -> None:
-    text = one_host("{path: ping, args: -c 50 -i 0.01 10.0.0.2}").replace("stop_time: 5s", "stop_time: 5s, steps: 20")
+    text = one_host("{path: ping, args: -c 50 -i 0.01 10.0.0.2}").replace(
+        "stop_time: 5s", "stop_time: 5s, steps: 20")
     text += "  two:\n    ip_addr: 10.0.0.2\n"
     status, _, err = run(text)
-    assert status == 3 and re.search(r"the link ended at 0\.\d+ s of simulated time: its 20 steps were spent", err), err
+    assert status == 3 and re.search(r"the link ended at 0\.\d+ s of simulated time: its 20 steps were spent",
+                                     err), err
 
 
 def test_times_and_names_in_the_guest(run: Run, tmp_path: Path) -> None:
-    """The clock starts at start_date (plus 10 s of boot), and a sleep of an hour takes an hour, but no real time."""
+    """The clock starts at start_date (plus 10 s of boot), and a sleep of an hour takes an hour, but no real
+    time."""
     began = time.monotonic()
-    status, _, err = run(one_host("{path: sh, args: \"-c 'date +%s; hostname; cat /etc/hostname; sleep 3600; date +%s'\"}", stop="2h"))
+    status, _, err = run(one_host(
+        "{path: sh, args: \"-c 'date +%s; hostname; cat /etc/hostname; sleep 3600; date +%s'\"}", stop="2h"))
     assert status == 0, err
     first, name, own, last = (tmp_path / "run/hosts/one/sh.0.stdout").read_text().split()
     assert (int(first), name, own, int(last)) == (1798761610, "one", "one", 1798765210)
@@ -140,9 +157,11 @@ def test_times_and_names_in_the_guest(run: Run, tmp_path: Path) -> None:
 def test_the_guest_writes_nothing_outside(run: Run, tmp_path: Path) -> None:
     outside = tmp_path / "outside"
     outside.write_text("as it was")
-    places = [str(outside), "/tmp/dnlab-guest-test", "/etc/dnlab-guest-test", "/dev/shm/dnlab-guest-test", "/root/dnlab-guest-test"]
+    places = [str(outside), "/tmp/dnlab-guest-test", "/etc/dnlab-guest-test", "/dev/shm/dnlab-guest-test",
+              "/root/dnlab-guest-test"]
     lines = "".join(f"    echo changed > {place}; cat {place}\n" for place in places)
-    text = one_host("{path: sh, args: write.sh}") + f"files:\n  write.sh: |\n{lines}    rm -rf {tmp_path}/test.yaml; echo inside > inside\n"
+    text = (one_host("{path: sh, args: write.sh}")
+            + f"files:\n  write.sh: |\n{lines}    rm -rf {tmp_path}/test.yaml; echo inside > inside\n")
     status, _, err = run(text)
     assert status == 0, err
     assert (tmp_path / "run/hosts/one/sh.0.stdout").read_text() == "changed\n" * len(places)
@@ -159,7 +178,8 @@ def test_a_root_of_its_own(run: Run, tmp_path: Path) -> None:
     shutil.copy(str(shutil.which("busybox")), tmp_path / "root/bin/busybox")
     for name in "sh", "ls", "ping":
         (tmp_path / "root/bin" / name).symlink_to("busybox")
-    text = one_host("{path: sh, args: \"-c 'ls /bin; ping -c 1 two'\"}") + "  two: {ip_addr: 10.0.0.2}\nemulation: {rootfs: root}\n"
+    text = (one_host("{path: sh, args: \"-c 'ls /bin; ping -c 1 two'\"}")
+            + "  two: {ip_addr: 10.0.0.2}\nemulation: {rootfs: root}\n")
     status, _, err = run(text)
     assert status == 0, err
     out = (tmp_path / "run/hosts/one/sh.0.stdout").read_text()
@@ -178,13 +198,15 @@ files:
     assert run(text)[0] == 0
     times = re.findall(r"time=([0-9.]+) ms", (tmp_path / "run/hosts/one/sh.0.stdout").read_text())
     assert [round(float(it)) for it in times] == [40, 100]
-    assert re.search(r"(?m)^@\d+ pipe 1 config bw 10Mbit/s delay 50$", (tmp_path / "run/transcript.txt").read_text())
+    assert re.search(r"(?m)^@\d+ pipe 1 config bw 10Mbit/s delay 50$",
+                     (tmp_path / "run/transcript.txt").read_text())
 
 
 def test_goodput_is_that_of_iperf3(kernel: Path, program: str, tmp_path: Path) -> None:
     if shutil.which("iperf3") is None:
         pytest.skip("missing programs: iperf3")
-    status, _, err = tool("hosts", EXAMPLES / "bbr_beside_cubic.yaml", "--out", tmp_path / "run", DNLAB=program)
+    status, _, err = tool("hosts", EXAMPLES / "bbr_beside_cubic.yaml", "--out", tmp_path / "run",
+                          DNLAB=program)
     assert status == 0, err
     status, out, err = tool("hosts", "--table", tmp_path / "run")
     assert status == 0, err
@@ -215,8 +237,10 @@ files:
 
 
 def test_each_byte_counts_once(run: Run, tmp_path: Path) -> None:
-    """A program and the table count 300000 bytes that arrive, although 5 % of the packets are lost and sent again."""
-    text = one_host("{path: /usr/bin/python3, args: client.py, start_time: 1s}", stop="60s").replace("delay 20", "delay 20 plr 0.05")
+    """A program and the table count 300000 bytes that arrive, although 5 % of the packets are lost and sent
+    again."""
+    text = one_host("{path: /usr/bin/python3, args: client.py, start_time: 1s}",
+                    stop="60s").replace("delay 20", "delay 20 plr 0.05")
     status, _, err = run(text + COUNTED)
     assert status == 0, err
     assert (tmp_path / "run/hosts/two/python3.0.stdout").read_text() == "300000\n"
@@ -229,12 +253,15 @@ def test_each_byte_counts_once(run: Run, tmp_path: Path) -> None:
 def test_what_covers_what() -> None:
     """Segments can be out of order, duplicated, partial, and beyond the wrap of sequence numbers."""
     seen = Covered(2**32 - 10)
-    assert [seen.add(2**32 - 10, 10), seen.add(10, 5), seen.add(0, 10), seen.add(2**32 - 5, 25), seen.add(100, 0)] == [10, 5, 10, 5, 0]
+    assert [seen.add(2**32 - 10, 10), seen.add(10, 5), seen.add(0, 10), seen.add(2**32 - 5, 25),
+            seen.add(100, 0)] == [10, 5, 10, 5, 0]
 
 
 @pytest.mark.parametrize("most", [hosts_run.MOST_BYTES, 0], ids=["alone", "live"])
-def test_a_report_that_is_not_repeated(most: int, run: Run, tmp_path: Path, monkeypatch: pytest.MonkeyPatch, program: str) -> None:
-    """A report with a different digit, or a missing line, is not the transcript's, according to `alone` and `live`."""
+def test_a_report_that_is_not_repeated(most: int, run: Run, tmp_path: Path, monkeypatch: pytest.MonkeyPatch,
+                                       program: str) -> None:
+    """A report with a different digit, or a missing line, is not the transcript's, according to `alone` and
+    `live`."""
     monkeypatch.setenv("DNLAB", program)
     monkeypatch.setattr(hosts_run, "MOST_BYTES", most)
     assert run(one_host("{path: ping, args: -c 2 10.0.0.2}") + "  two: {ip_addr: 10.0.0.2}\n")[0] == 0

@@ -1,4 +1,5 @@
-"""Report and scenario joined: times calculated by hand, pairs that don't belong together, random scenarios."""
+"""Report and scenario joined: times calculated by hand, pairs that don't belong together, random
+scenarios."""
 import os
 import random
 
@@ -11,13 +12,15 @@ from dnlab.io.rows import DATA, INSTANCE, RULE, instance_name
 
 # Changes of the scenario or the report of reno_four_segments: which of them, old and new text, and the cause.
 JOINS = [
-    ("report", "100000000 ok 5", "100000001 ok 5", "command 5 at 100000001, where line 7 of the scenario has 100000000"),
+    ("report", "100000000 ok 5", "100000001 ok 5",
+     "command 5 at 100000001, where line 7 of the scenario has 100000000"),
     ("scenario", "smss 1460", "smss 1000", "with 1500 bytes and the header tcp 10.0.0.1"),
     ("scenario", "flow 1 10.0.0.1", "flow 1 10.0.0.3", "the header tcp 10.0.0.1"),
     ("scenario", "segments 4", "segment 4", "line 6: badword: not a line of a scenario"),
     ("scenario", "@0 add 100", "@0 ad 100", "line 4: badword: not a line of a scenario"),
     # A packet that the report doesn't have.
-    ("scenario", "@100000000 end", "@99999999 inject udp 10.0.0.1 1 10.0.1.1 2 100\n@100000000 end", "command 5"),
+    ("scenario", "@100000000 end", "@99999999 inject udp 10.0.0.1 1 10.0.1.1 2 100\n@100000000 end",
+     "command 5"),
     ("scenario", "@100000000 end", "@100000000 show\n@100000000 end", "ends before command 6"),
 ]
 
@@ -36,10 +39,11 @@ def test_pairs_that_dont_belong_together(which: str, old: str, new: str, said: s
 def test_packets_by_hand() -> None:
     table = view_of("reno_four_segments").packets
     made = [(table.names[who], moment, size) for who, moment, size in zip(table.who, table.made, table.size)]
-    # Three segments at once; each delivery creates an acknowledgement; the fourth segment is sent at the first of these.
-    assert made == [("flow 1", 0, 1500), ("flow 1", 0, 1500), ("flow 1", 0, 1500), ("flow 1 acks", 11200000, 40),
-                    ("flow 1 acks", 12400000, 40), ("flow 1 acks", 13600000, 40), ("flow 1", 21200000, 1500),
-                    ("flow 1 acks", 32400000, 40)]
+    # Three segments at once; each delivery creates an acknowledgement; the fourth segment is sent at the
+    # first of these.
+    assert made == [("flow 1", 0, 1500), ("flow 1", 0, 1500), ("flow 1", 0, 1500),
+                    ("flow 1 acks", 11200000, 40), ("flow 1 acks", 12400000, 40),
+                    ("flow 1 acks", 13600000, 40), ("flow 1", 21200000, 1500), ("flow 1 acks", 32400000, 40)]
     timeouts = view_of("reno_timeouts").packets
     assert timeouts.made.tolist() == [0, 0, 0, 10**9, 3 * 10**9]
     # Both timeouts send the first segment again.
@@ -48,7 +52,8 @@ def test_packets_by_hand() -> None:
 
 def visits(view: View, packet: int) -> list[tuple[str, int, int, int]]:
     table = view.visits
-    return [(instance_name(int(table.pipe[k])), int(table.arrival[k]), int(table.finish[k]), int(table.exit[k]))
+    return [(instance_name(int(table.pipe[k])), int(table.arrival[k]), int(table.finish[k]),
+             int(table.exit[k]))
             for k in range(len(table)) if table.packet[k] == packet]
 
 
@@ -99,8 +104,8 @@ def command(chance: random.Random, pipes: int, flows: list[int]) -> str:
 
 
 def random_scenario(seed: int) -> str:
-    """Generates scenarios with pipes of all kinds, flows, trains, loss, later commands, small budgets, and four listings. A third
-    of them are traced from the start, and a third from a later time."""
+    """Generates scenarios with pipes of all kinds, flows, trains, loss, later commands, small budgets, and
+    four listings. A third of them are traced from the start, and a third from a later time."""
     chance = random.Random(seed)
     pipes = chance.randrange(1, 4)
     lines = [f"experiment x seed {seed} budget {chance.choice((5, 20, 100, 1000))}"
@@ -127,7 +132,8 @@ def random_scenario(seed: int) -> str:
 
 
 def listed(view: View, moment: int, pipe: int) -> tuple[int, int]:
-    """Returns the number of packets that wait or are in service, and the number in the delay line, just before a time."""
+    """Returns the number of packets that wait or are in service, and the number in the delay line, just
+    before a time."""
     table = view.visits
     own = table.pipe == pipe
     arrival, finish, left, packet = table.arrival[own], table.finish[own], table.exit[own], table.packet[own]
@@ -161,7 +167,8 @@ TABLES = ("made", "ended", "outcome", "size", "kind", "flow", "number")
 
 @pytest.mark.parametrize("tens", range(int(os.environ.get("DNLAB_JOINS", "20" if QUICK else "100")) // 10))
 def test_random_scenarios(tens: int) -> None:
-    """The queues of the tables are those of the listings, and a traced text has the same tables as the rows."""
+    """The queues of the tables are those of the listings, and a traced text has the same tables as the
+    rows."""
     compared = segments = 0
     for seed in range(10 * tens, 10 * tens + 10):
         text = random_scenario(seed).encode()
@@ -173,10 +180,12 @@ def test_random_scenarios(tens: int) -> None:
             assert (getattr(told.packets, name) == getattr(view.packets, name)).all(), f"seed {seed}: {name}"
         assert visits_all(told) == visits_all(view)
         if not told.alike:
-            assert [told.packets.names[who] for who in told.packets.who] == [view.packets.names[who] for who in view.packets.who]
+            assert [told.packets.names[who]
+                    for who in told.packets.who] == [view.packets.names[who] for who in view.packets.who]
     assert segments and compared
 
 
 def visits_all(view: View) -> list[tuple[int, ...]]:
     table = view.visits
-    return list(zip(*(getattr(table, name).tolist() for name in ("packet", "pipe", "arrival", "finish", "exit"))))
+    return list(zip(*(getattr(table, name).tolist()
+                      for name in ("packet", "pipe", "arrival", "finish", "exit"))))

@@ -1,4 +1,5 @@
-"""The guest's kernel is built once, completely or not at all, and missing packages are named. A script replaces the build."""
+"""The guest's kernel is built once, completely or not at all, and missing packages are named. A script
+replaces the build."""
 import os
 import signal
 import subprocess
@@ -51,13 +52,13 @@ class Caller:
         self.build = folder / "build"
         self.build.write_text(BUILD)
         self.build.chmod(0o755)
-        self.env = {**os.environ, "XDG_CACHE_HOME": str(folder / "cache"), "LOG": str(folder / "log"), "TMPDIR": str(folder),
-                    "PYTHONPATH": str(ROOT / "python"), "PYTHONDONTWRITEBYTECODE": "1"}
+        self.env = {**os.environ, "XDG_CACHE_HOME": str(folder / "cache"), "LOG": str(folder / "log"),
+                    "TMPDIR": str(folder), "PYTHONPATH": str(ROOT / "python"), "PYTHONDONTWRITEBYTECODE": "1"}
         self.env.pop("DNLAB_KERNEL", None)
 
     def begin(self, kind: str = "proved", **names: str) -> "subprocess.Popen[str]":
-        return subprocess.Popen([sys.executable, "-c", CALL, self.build, kind], stdout=subprocess.PIPE, stderr=subprocess.PIPE,
-                                text=True, env={**self.env, **names})
+        return subprocess.Popen([sys.executable, "-c", CALL, self.build, kind], stdout=subprocess.PIPE,
+                                stderr=subprocess.PIPE, text=True, env={**self.env, **names})
 
     def call(self, kind: str = "proved", **names: str) -> tuple[int, str, str]:
         """Returns status, output and errors."""
@@ -96,7 +97,8 @@ def test_old_kernels_are_removed(caller: Caller) -> None:
             (cache / f"old{age}" / name).touch(0o755)
         os.utime(cache / f"old{age}", (10**9 - age, 10**9 - age))
     assert caller.call()[0] == 0
-    assert sorted(path.name for path in cache.iterdir() if path.is_dir()) == ["c0ffee", "old0", "old1", "old2"]
+    assert sorted(path.name
+                  for path in cache.iterdir() if path.is_dir()) == ["c0ffee", "old0", "old1", "old2"]
 
 
 def test_two_calls_build_once(caller: Caller) -> None:
@@ -108,7 +110,8 @@ def test_two_calls_build_once(caller: Caller) -> None:
 
 
 def test_a_line_says_that_it_is_not_proved(caller: Caller) -> None:
-    line = "hosts: libdnlab is the checked build of the sources, not proved: run ./dnlab prove to build the proved one\n"
+    line = ("hosts: libdnlab is the checked build of the sources, not proved: run ./dnlab prove to build "
+            "the proved one\n")
     assert line in caller.call("checked")[2] and caller.call("checked")[2] == line
 
 
@@ -143,7 +146,8 @@ def test_a_cache_that_cannot_be_written(caller: Caller) -> None:
     names: dict[str, Any] = {"XDG_CACHE_HOME": "/proc/none"}
     status, out, err = caller.call(**names)
     assert status == 0 and out == str(caller.folder / f"dnlab-hosts-{os.getuid()}" / "c0ffee")
-    assert err.startswith(f"hosts: /proc/none cannot be written, so the kernel is kept in {caller.folder}/dnlab-hosts-")
+    assert err.startswith(
+        f"hosts: /proc/none cannot be written, so the kernel is kept in {caller.folder}/dnlab-hosts-")
 
 
 def test_a_kernel_that_is_named(caller: Caller, tmp_path: Path) -> None:

@@ -48,6 +48,7 @@ def test_a_module_keeps_to_its_layer(file: Path) -> None:
 
 
 def test_what_stands_below_needs_no_session() -> None:
-    """Imports through the modules of the package's own folder count too, because these modules belong to no layer."""
+    """Imports through the modules of the package's own folder count too, because these modules belong to no
+    layer."""
     for name in "errors", "programs", "rng":
         assert {layer_of(one) for one in imported(PACKAGE / f"{name}.py")} <= {""}, name

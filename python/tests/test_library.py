@@ -1,4 +1,5 @@
-"""The library in this process: the choice of the library, its refusals, and that its runs equal the program's."""
+"""The library in this process: the choice of the library, its refusals, and that its runs equal the
+program's."""
 import os
 import pickle
 import subprocess
@@ -56,12 +57,15 @@ def test_a_run_by_the_library(tmp_path: Path) -> None:
     report = dnlab.run(ONE / "scenario.txt", engine="library", out=tmp_path / "report.txt")
     untraced = (ONE / "expected.txt").read_text()
     # Tracing adds that the packet is made and arrives at pipe 1, which has no mask.
-    added = "0 make 0 plain udp 10.0.0.1 1000 10.0.0.2 2000 1000\n0 identify 1.0 00/00000000/00000000/0000/0000\n0 arrive 0 1.0\n"
+    added = (
+        "0 make 0 plain udp 10.0.0.1 1000 10.0.0.2 2000 1000\n0 identify 1.0 "
+        "00/00000000/00000000/0000/0000\n0 arrive 0 1.0\n")
     assert (tmp_path / "report.txt").read_text() == untraced.replace("0 ok 2\n", f"0 ok 2\n{added}")
     # 1000 bytes at 1 Mbit/s take 8 ms in service, and the delay is 10 ms.
     assert report["a"].packets().delay.tolist() == [18_000_000]
     kept = read_beside(tmp_path / "report.txt")
-    assert kept is not None and kept.command == (os.path.abspath(NAMED), "alone") and kept.version.startswith(f"libdnlab {dnlab.__version__} (")
+    assert (kept is not None and kept.command == (os.path.abspath(NAMED), "alone")
+            and kept.version.startswith(f"libdnlab {dnlab.__version__} ("))
 
 
 @there
@@ -76,7 +80,8 @@ def test_a_fault_is_said_as_by_the_program() -> None:
 
 @there
 def test_a_report_longer_than_the_first_room() -> None:
-    text = "experiment a seed 0 budget 9\n@0 train 1 udp 1.1.1.1 1 1.1.1.2 1 100 count 5000 gap 1\n@1000000 end\n".encode()
+    text = ("experiment a seed 0 budget 9\n@0 train 1 udp 1.1.1.1 1 1.1.1.2 1 100 count 5000 gap "
+            "1\n@1000000 end\n".encode())
     report = library.alone(text)
     # The only rule, the default one, denies each of 5000 packets.
     assert len(report) > 1 << 16 and report.count(b" drop ") == 5000 and report.count(b" denied\n") == 5000
@@ -84,14 +89,16 @@ def test_a_report_longer_than_the_first_room() -> None:
 
 @there
 def test_a_limit_of_steps() -> None:
-    # Two experiments, which may take 7 and 10^6 steps: the second text has no `steps`, so the default applies.
+    # Two experiments, which may take 7 and 10^6 steps: the second text has no `steps`, so the default
+    # applies.
     text = b"experiment a seed 0 budget 1 steps 7\n@0 end\nexperiment b seed 0 budget 1\n@0 end\n"
     assert library.alone(text, max_steps=1_000_007) == library.alone(text)
     for most, number in (1_000_006, 2), (7, 2), (6, 1), (0, 1):
         with pytest.raises(dnlab.ProgramError) as failed:
             library.alone(text, max_steps=most)
         assert failed.value.status == 3
-        assert failed.value.said == f"steps: experiment {number} of the text exceeds max_steps; max_steps=1000007 lets all run"
+        assert (failed.value.said == f"steps: experiment {number} of the text exceeds max_steps; "
+                                     "max_steps=1000007 lets all run")
     with pytest.raises(library.FaultIn):
         library.alone(b"experiment\n", max_steps=0)
 
@@ -109,7 +116,8 @@ def test_more_experiments_than_the_library_takes_at_once() -> None:
 @there
 def test_without_packages_of_others() -> None:
     words = "from dnlab import library; print(library.check(b''))"
-    done = subprocess.run([sys.executable, "-S", "-B", "-c", words], capture_output=True, text=True, check=False, env={**os.environ, "PYTHONPATH": str(ROOT / "python")})
+    done = subprocess.run([sys.executable, "-S", "-B", "-c", words], capture_output=True, text=True,
+                          check=False, env={**os.environ, "PYTHONPATH": str(ROOT / "python")})
     assert (done.stdout, done.returncode) == ("b'ok 0 0\\n'\n", 0), done.stderr
 
 
@@ -120,7 +128,8 @@ def test_lines_of_a_session() -> None:
         assert talk.take(b"experiment a seed 0 budget 9") == b"experiment a\n#< ok\n"
         assert talk.take(b"") == b""
         # The only rule, the default one, denies it.
-        assert talk.take(b"@5 inject udp 1.1.1.1 1 1.1.1.2 2 100") == b"5 ok 0\n5 drop 0 plain denied\n#< packet 0\n"
+        assert (talk.take(
+            b"@5 inject udp 1.1.1.1 1 1.1.1.2 2 100") == b"5 ok 0\n5 drop 0 plain denied\n#< packet 0\n")
         with pytest.raises(library.FaultIn, match="line 5: noend"):
             talk.close()
     assert talk.has_ended
@@ -162,7 +171,8 @@ def test_a_session_here_is_one_there(program: str) -> None:
                 links[1].command("delete 7")
             for link in links:
                 link.end()
-            kept.append((events, str(fault.value), str(refused.value), session.transcript(), session.report()))
+            kept.append((events, str(fault.value), str(refused.value), session.transcript(),
+                         session.report()))
         with pytest.raises(dnlab.ProgramError, match="closed"):
             session.experiment("c")
     assert kept[0] == kept[1] and "10Mbit/s" in kept[0][1]

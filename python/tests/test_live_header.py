@@ -1,4 +1,5 @@
-"""live.h: both compilers accept it without a warning, and a small program in C receives the replies calculated by hand."""
+"""live.h: both compilers accept it without a warning, and a small program in C receives the replies
+calculated by hand."""
 import os
 import shutil
 import subprocess
@@ -8,16 +9,19 @@ from typing import Callable
 import pytest
 from conftest import ROOT
 
-WARNINGS = ["-std=c99", "-O1", "-Wall", "-Wextra", "-Wpedantic", "-Wconversion", "-Werror", f"-I{ROOT}/stacks"]
+WARNINGS = ["-std=c99", "-O1", "-Wall", "-Wextra", "-Wpedantic", "-Wconversion", "-Werror",
+            f"-I{ROOT}/stacks"]
 SANITIZED = ["-g", "-fsanitize=address,undefined", "-fno-sanitize-recover"]
-# 1 Mbit/s and 10 ms: 1000 bytes arrive at 18 ms. Of four packets, one is in service, two wait and the last finds no room.
+# 1 Mbit/s and 10 ms: 1000 bytes arrive at 18 ms. Of four packets, one is in service, two wait and the last
+# finds no room.
 BY_HAND = r"""
 #define _POSIX_C_SOURCE 200809L
 #include "live.h"
 static const char *there = "udp 10.0.0.1 1000 10.0.1.1 80";
 static void tell(live *l) {
   for (size_t i = 0; i < l->count; i++)
-    printf("%llu %s %s\n", (unsigned long long)l->events[i].moment, (char *)l->events[i].payload, l->events[i].cause);
+    printf("%llu %s %s\n", (unsigned long long)l->events[i].moment, (char *)l->events[i].payload,
+           l->events[i].cause);
   live_clear(l);
 }
 static void wrong(live *l, int status) { printf("%d %s\n", status, live_error(l)); }
@@ -28,12 +32,14 @@ int main(int argc, char **argv) {
   if (argc < 4 || !l) return 9;
   l->transcript = fopen(argv[2], "w");
   l->report = fopen(argv[3], "w");
-  if (live_experiment(l, "by-hand", 1, 10, 1000000) || live_command(l, "pipe 1 config bw 1Mbit/s delay 10 queue 2")
+  if (live_experiment(l, "by-hand", 1, 10, 1000000)
+      || live_command(l, "pipe 1 config bw 1Mbit/s delay 10 queue 2")
       || live_command(l, "add 100 pipe 1 ip from any to any")) { wrong(l, -1); return 8; }
   wrong(l, live_command(l, "pipe 2 config bw 10Mbps"));
   wrong(l, live_command(l, "delete 7"));
   wrong(l, live_command(l, "delete 8\n@0 end"));
-  live_send(l, there, 1000, "a"); live_send(l, there, 1000, "b"); live_send(l, there, 1000, "c"); live_send(l, there, 1000, "d");
+  live_send(l, there, 1000, "a"); live_send(l, there, 1000, "b");
+  live_send(l, there, 1000, "c"); live_send(l, there, 1000, "d");
   if (live_until_mine(l, LIVE_LATEST, 1)) return 7;
   printf("now %llu\n", (unsigned long long)l->now); tell(l);
   live_send(l, there, 39, "small");
@@ -79,7 +85,8 @@ int main(int argc, char **argv) {
   if (live_experiment(l, "many", 1, 65535, 10000000) || live_command(l, "add 100 allow ip from any to any")
       || live_command(l, "trace 1")) { fprintf(stderr, "%s\n", live_error(l)); return 1; }
   for (int i = 0; i < 200000; i++)
-    if (live_send(l, "udp 10.0.0.1 1 10.0.0.2 2", 40, l) || (i % 50000 == 49999 && live_until(l, l->now + 10))) return 2;
+    if (live_send(l, "udp 10.0.0.1 1 10.0.0.2 2", 40, l)
+        || (i % 50000 == 49999 && live_until(l, l->now + 10))) return 2;
   printf("%lu\n", (unsigned long)l->count);
   fclose(l->report);
   return live_close(l) == 1 ? 0 : 3;
@@ -106,10 +113,12 @@ def here() -> list[str]:
 
 @pytest.mark.parametrize("engine", ["process", "library"])
 @pytest.mark.parametrize("compiler", ["gcc", "clang"])
-def test_by_hand(compiler: str, engine: str, program: str, alone: Callable[[bytes], bytes], tmp_path: Path) -> None:
+def test_by_hand(compiler: str, engine: str, program: str, alone: Callable[[bytes], bytes],
+                 tmp_path: Path) -> None:
     words = here() if engine == "library" else []
     called = built(tmp_path, BY_HAND, compiler, *words, *(SANITIZED if compiler == "gcc" else []))
-    done = subprocess.run([called, program, tmp_path / "scenario.txt", tmp_path / "report.txt"], capture_output=True,
+    done = subprocess.run([called, program, tmp_path / "scenario.txt", tmp_path / "report.txt"],
+                          capture_output=True,
                           text=True, timeout=60, check=False)
     assert (done.stderr, done.stdout, done.returncode) == ("", TOLD, 0)
     assert alone((tmp_path / "scenario.txt").read_bytes()) == (tmp_path / "report.txt").read_bytes()
@@ -119,12 +128,15 @@ def test_by_hand(compiler: str, engine: str, program: str, alone: Callable[[byte
 def test_more_than_pipes_hold(engine: str, program: str, tmp_path: Path) -> None:
     """14 MB are sent in four exchanges, and 50 MB are received."""
     words = here() if engine == "library" else []
-    done = subprocess.run([built(tmp_path, MANY, "gcc", *words), program], capture_output=True, text=True, timeout=60, check=False)
+    done = subprocess.run([built(tmp_path, MANY, "gcc", *words), program], capture_output=True, text=True,
+                          timeout=60, check=False)
     # With a budget of 65535, none of 50000 packets at the same time is dropped.
     assert (done.stdout, done.returncode) == ("200000\n", 0)
 
 
-@pytest.mark.parametrize("called,how", [("/no/such/program", "there is no such program"), ("/bin/false", "with status 1")])
+@pytest.mark.parametrize("called,how",
+                         [("/no/such/program", "there is no such program"), ("/bin/false", "with status 1")])
 def test_a_program_that_ends_is_said(called: str, how: str, tmp_path: Path) -> None:
-    done = subprocess.run([built(tmp_path, MANY, "gcc"), called], capture_output=True, text=True, timeout=60, check=False)
+    done = subprocess.run([built(tmp_path, MANY, "gcc"), called], capture_output=True, text=True, timeout=60,
+                          check=False)
     assert (done.stderr, done.returncode) == (f"the program has ended: {how}\n", 1)

@@ -21,14 +21,16 @@ def test_the_session_by_hand(program: str) -> None:
     assert shown
     lines = unindented(shown[1]).splitlines()
     typed = [line for line in lines if re.match(r"experiment \S+ seed|@|#>", line)]
-    done = subprocess.run([program, "live"], input="\n".join([*typed, ""]), capture_output=True, text=True, check=True)
+    done = subprocess.run([program, "live"], input="\n".join([*typed, ""]), capture_output=True, text=True,
+                          check=True)
     assert done.stdout.splitlines() == [line for line in lines if line not in typed]
 
 
 @pytest.mark.parametrize("number", range(2))
 def test_programs_in_python(number: int, program: str, tmp_path: Path) -> None:
     text, shown = PROGRAMS[number]
-    done = subprocess.run([sys.executable, "-c", text], cwd=tmp_path, capture_output=True, text=True, timeout=60, check=False,
+    done = subprocess.run([sys.executable, "-c", text], cwd=tmp_path, capture_output=True, text=True,
+                          timeout=60, check=False,
                           env={**os.environ, "PYTHONPATH": str(ROOT / "python"), "DNLAB": program})
     assert (done.stderr, done.stdout) == ("", unindented(shown))
     assert text.count("\n") <= 40

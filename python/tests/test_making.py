@@ -41,10 +41,12 @@ def test_listings_count_by_their_kind() -> None:
     assert most_report(begin + b"@0 pipe   show\n@0 end\n") - none == 4194304 + 256
     assert most_report(begin + b"@0  show\n@0 end\n") - none == 65536 + 256
     assert most_report(begin + b"@0 shows\n@0 end\n") - none == 256
-    # Without `steps` an experiment has 1000000 of them, instead of the 10 above; each writes at most 1024 bytes.
+    # Without `steps` an experiment has 1000000 of them, instead of the 10 above; each writes at most 1024
+    # bytes.
     assert most_report(begin.replace(b" steps 10", b"") + b"@0 end\n") - none == 999990 * 1024
 
 
 def test_a_text_goes_on_behind_empty_pieces(tmp_path: Path) -> None:
-    text = "{% for place in range(5000) %}{{ '' }}{% endfor %}# {{ name }}\n{% for place in range(3) %}{{ place }}{% endfor %}"
+    text = ("{% for place in range(5000) %}{{ '' }}{% endfor %}# {{ name }}\n{% for place in range(3) %}{{ "
+            "place }}{% endfor %}")
     assert Template(text).render("a", 1, {}) == "# a\n012\n"

@@ -1,4 +1,5 @@
-"""Warnings about silent mistakes: each has a realistic scenario with the mistake, and a similar one without it."""
+"""Warnings about silent mistakes: each has a realistic scenario with the mistake, and a similar one without
+it."""
 import json
 from pathlib import Path
 from typing import Callable
@@ -26,10 +27,12 @@ def view(commands: str, end: int = 5 * 10**9, heading: str = "seed 0 budget 1000
 # The commands, the time of the end, and the warnings.
 MARKS = [
     ("a flow and a train, each way a pipe", BOTH + TRAIN + FLOW, 5 * 10**9, ""),
-    ("a rule's number past the last", BOTH + TRAIN + "@0 add 70000 allow ip from any to any\n", 5 * 10**9, "refused"),
+    ("a rule's number past the last", BOTH + TRAIN + "@0 add 70000 allow ip from any to any\n", 5 * 10**9,
+     "refused"),
     ("a train's number twice", BOTH + TRAIN + TRAIN, 5 * 10**9, "refused"),
     ("a flow with a train's number", BOTH + TRAIN + FLOW.replace("flow 1", "flow 9"), 5 * 10**9, "refused"),
-    ("a rule that goes back", BOTH + TRAIN + "@0 add 300 skipto 100 ip from any to any\n", 5 * 10**9, "refused"),
+    ("a rule that goes back", BOTH + TRAIN + "@0 add 300 skipto 100 ip from any to any\n", 5 * 10**9,
+     "refused"),
     ("a rule that isn't there", BOTH + TRAIN + "@9 delete 50\n", 5 * 10**9, "refused"),
     ("a pipe that isn't there", BOTH + TRAIN + "@1000 pipe delete 7\n", 5 * 10**9, "refused"),
     ("a flow that isn't there", BOTH + TRAIN + "@1000 stop 9\n", 5 * 10**9, "refused"),
@@ -42,14 +45,19 @@ MARKS = [
     ("a flow that was stopped", BOTH + FLOW + "@25000000 stop 1\n", 30 * 10**6, ""),
     ("a flow without end", BOTH + FLOW.replace("segments 30", "segments 1000000"), 30 * 10**6, ""),
     ("a train that begins with the end", BOTH + TRAIN.replace("@0", "@5000000000"), 5 * 10**9, "unsent"),
-    ("a queue in a second config", BOTH + TRAIN + "@50000000 pipe 1 config queue 10\n", 5 * 10**9, "reconfigured"),
-    ("a second config that names all", BOTH + TRAIN + "@50000000 pipe 1 config bw 5Mbit/s delay 20 queue 50\n", 5 * 10**9, ""),
+    ("a queue in a second config", BOTH + TRAIN + "@50000000 pipe 1 config queue 10\n", 5 * 10**9,
+     "reconfigured"),
+    ("a second config that names all",
+     BOTH + TRAIN + "@50000000 pipe 1 config bw 5Mbit/s delay 20 queue 50\n", 5 * 10**9, ""),
     ("a delay alone", BOTH + TRAIN + "@50000000 pipe 1 config delay 40\n", 5 * 10**9, "reconfigured"),
-    ("at one moment, one behind the other", LINK + "@0 pipe 1 config queue 10\n" + BACK + THERE + TRAIN, 5 * 10**9, "reconfigured"),
+    ("at one moment, one behind the other", LINK + "@0 pipe 1 config queue 10\n" + BACK + THERE + TRAIN,
+     5 * 10**9, "reconfigured"),
     ("an outage by plr, and its end", BOTH + TRAIN + "@50000000 pipe 1 config bw 10Mbit/s delay 20 plr 1\n"
      "@60000000 pipe 1 config bw 10Mbit/s delay 20\n", 5 * 10**9, ""),
-    ("a pipe that is deleted between", BOTH + TRAIN + "@300000000 pipe delete 1\n@300000000 pipe 1 config queue 10\n", 5 * 10**9, ""),
-    ("bw 0 for an outage", BOTH + TRAIN + "@50000000 pipe 1 config bw 0 delay 20\n@60000000 pipe 1 config bw 10Mbit/s delay 20\n",
+    ("a pipe that is deleted between",
+     BOTH + TRAIN + "@300000000 pipe delete 1\n@300000000 pipe 1 config queue 10\n", 5 * 10**9, ""),
+    ("bw 0 for an outage",
+     BOTH + TRAIN + "@50000000 pipe 1 config bw 0 delay 20\n@60000000 pipe 1 config bw 10Mbit/s delay 20\n",
      5 * 10**9, "outage"),
     # 100 bytes take 0.8 s at 1 kbit/s, which holds for 0.1 s.
     ("a rate of nearly nothing for an outage", BOTH + TRAIN + "@50000000 pipe 1 config bw 1Kbit/s delay 20\n"
@@ -59,29 +67,38 @@ MARKS = [
     ("a pipe that never had a rate", BOTH.replace("bw 10Mbit/s", "bw 0") + TRAIN, 5 * 10**9, ""),
     ("any to any", ANY + FLOW, 5 * 10**9, "half-duplex"),
     ("any to any, without a rate", ANY.replace("bw 10Mbit/s ", "") + FLOW, 5 * 10**9, ""),
-    ("any to any, an instance for each sender", ANY.replace("queue 50", "queue 50 mask src-ip 0xffffffff") + FLOW, 5 * 10**9, ""),
+    ("any to any, an instance for each sender",
+     ANY.replace("queue 50", "queue 50 mask src-ip 0xffffffff") + FLOW, 5 * 10**9, ""),
     ("any to any, trains alone", ANY + TRAIN, 5 * 10**9, ""),
     # A round trip of 40 ms at 100 Mbit/s has 500000 bytes in flight, and the window allows 65535.
     ("a long fat link", BOTH.replace("10Mbit/s", "100Mbit/s").replace("queue 50", "queue 1000")
      + FLOW.replace("segments 30", "segments 1000000"), 5 * 10**9, "window-limited"),
-    ("a window of two segments", BOTH + FLOW.replace("segments 30", "segments 30 window 2920"), 5 * 10**9, "window-limited"),
+    ("a window of two segments", BOTH + FLOW.replace("segments 30", "segments 30 window 2920"), 5 * 10**9,
+     "window-limited"),
     # In recovery each duplicate adds a segment to cwnd, which is then above the window of 44.
-    ("a short queue", BOTH.replace("queue 50", "queue 10") + FLOW.replace("segments 30", "segments 1000000"), 5 * 10**9, "window-limited"),
+    ("a short queue", BOTH.replace("queue 50", "queue 10") + FLOW.replace("segments 30", "segments 1000000"),
+     5 * 10**9, "window-limited"),
     ("a window that never holds back", BOTH + FLOW, 5 * 10**9, ""),
     ("an earlier rule takes all", "@0 add 10 allow ip from any to any\n" + BOTH + TRAIN, 5 * 10**9, "unused"),
-    ("addresses of nobody", BOTH + "@0 add 300 deny ip from 10.7.0.0/16 to any\n" + TRAIN, 5 * 10**9, "unused"),
+    ("addresses of nobody", BOTH + "@0 add 300 deny ip from 10.7.0.0/16 to any\n" + TRAIN, 5 * 10**9,
+     "unused"),
     ("a pipe without a rule", BOTH + "@0 pipe 9 config delay 5\n" + TRAIN, 5 * 10**9, "unused"),
-    ("a pipe behind another", "@0 one_pass 0\n" + BOTH + "@0 pipe 9 config delay 5\n@0 add 300 pipe 9 ip from any to any\n@0 add 400 allow ip"
-     " from any to any\n" + TRAIN, 5 * 10**9, ""),
-    ("a rule of later", BOTH + TRAIN + "@50000000 delete 100\n@50000000 add 50 pipe 1 ip from any to any\n", 5 * 10**9, ""),
+    ("a pipe behind another",
+     "@0 one_pass 0\n" + BOTH
+     + "@0 pipe 9 config delay 5\n@0 add 300 pipe 9 ip from any to any\n@0 add 400 allow ip from any to any\n"
+     + TRAIN, 5 * 10**9, ""),
+    ("a rule of later", BOTH + TRAIN + "@50000000 delete 100\n@50000000 add 50 pipe 1 ip from any to any\n",
+     5 * 10**9, ""),
     ("a gap in milliseconds", BOTH + TRAIN.replace("gap 20000000", "gap 20"), 5 * 10**9, "units"),
     ("all at once", BOTH + TRAIN.replace("gap 20000000", "gap 0"), 5 * 10**9, ""),
     ("a moment in milliseconds", BOTH + TRAIN.replace("@0", "@100"), 5 * 10**9, "units"),
     ("a nanosecond behind the others", BOTH + TRAIN.replace("@0", "@1"), 5 * 10**9, ""),
     ("an end in milliseconds", BOTH + TRAIN, 100, "unsent units"),
     ("a rate without its unit", BOTH.replace("10Mbit/s", "10") + TRAIN, 5 * 10**9, "units"),
-    ("no way back", LINK + "@0 add 100 pipe 1 ip from 10.0.0.0/24 to any\n" + FLOW, 10**9, "no-way-back unsent"),
-    ("a rule to a pipe that nobody configures", LINK + "@0 add 100 pipe 7 ip from any to any\n" + TRAIN, 5 * 10**9, "nopipe unused"),
+    ("no way back", LINK + "@0 add 100 pipe 1 ip from 10.0.0.0/24 to any\n" + FLOW, 10**9,
+     "no-way-back unsent"),
+    ("a rule to a pipe that nobody configures", LINK + "@0 add 100 pipe 7 ip from any to any\n" + TRAIN,
+     5 * 10**9, "nopipe unused"),
     ("denied", LINK + "@0 add 100 pipe 1 ip from 10.0.7.0/24 to any\n" + TRAIN, 5 * 10**9, "denied unused"),
 ]
 
@@ -97,7 +114,8 @@ def test_spent_and_budget() -> None:
 
 
 def test_a_pipe_that_is_deleted() -> None:
-    """By hand: the train's packets arrive at 0, 20, .. 180 ms. The pipe is deleted at 90 ms, so the last five find no pipe."""
+    """By hand: the train's packets arrive at 0, 20, .. 180 ms. The pipe is deleted at 90 ms, so the last five
+    find no pipe."""
     made = view(BOTH + TRAIN + "@90000000 pipe delete 1\n")
     notes = [note for note in made.notes if note.mark == "nopipe"]
     assert [note.of for note in notes] == ["train 9"] and "train 9: 5 of 10 packets" in notes[0].text
@@ -111,12 +129,14 @@ def test_whose_rows() -> None:
 
 def test_what_refusals_say() -> None:
     made = view(BOTH + TRAIN + TRAIN + "@0 add 70000 allow ip from any to any\n@5 delete 50\n@6 delete 51\n")
-    assert [(one.line, one.code, one.moment) for one in made.refused] == [(7, 22, 0), (8, 10, 0), (9, 13, 5), (10, 13, 6)]
+    assert [(one.line, one.code, one.moment)
+            for one in made.refused] == [(7, 22, 0), (8, 10, 0), (9, 13, 5), (10, 13, 6)]
     assert made.refused[0].told() == (
         f"line 7: `{TRAIN.strip()[3:]}` (22: a flow or a train has this number already)")
     assert codes_of(made.refused) == "10:1 13:2 22:1"
     note = made.notes[0]
-    assert note.mark == "refused" and note.text.startswith("4 of 10 commands were refused") and "; and 1 more" in note.text
+    assert (note.mark == "refused" and note.text.startswith("4 of 10 commands were refused")
+            and "; and 1 more" in note.text)
     # Without the scenario, the warning has the time and the command's number.
     alone_told = View(made.records).refused[0].told()
     assert alone_told == "command 5 at 0 ns (22: a flow or a train has this number already)"
@@ -131,7 +151,8 @@ def test_too_many_of_each() -> None:
     assert codes_of(view(rules + "@0 inject udp 10.0.0.1 1 10.0.0.2 2 100\n").refused) == "12:3"
     pipes = "".join(f"@0 pipe {number} config delay 1\n" for number in range(1, 67))
     assert codes_of(view(pipes).refused) == "24:2"
-    mask = LINK + "@0 add 100 pipe 1 ip from any to any\n" + TRAIN + "@1000000 pipe 1 config bw 10Mbit/s delay 20 queue 50 mask all\n"
+    mask = (LINK + "@0 add 100 pipe 1 ip from any to any\n" + TRAIN
+            + "@1000000 pipe 1 config bw 10Mbit/s delay 20 queue 50 mask all\n")
     assert codes_of(view(mask).refused) == "21:1"
 
 
@@ -143,7 +164,8 @@ def test_columns_of_the_summary(traced: Alone, tmp_path: Path) -> None:
     (tmp_path / "r").write_bytes(traced((good + bad).encode()))
     status, out, err = tool("summary", tmp_path / "r", tmp_path / "s", "--json")
     rows = {(row["experiment"], row["sender"]): row for row in json.loads(out)}
-    assert status == 0 and [(rows[name, "train 9"]["refused"], rows[name, "train 9"]["codes"], rows[name, "train 9"]["warnings"])
+    assert status == 0 and [(rows[name, "train 9"]["refused"], rows[name, "train 9"]["codes"],
+                             rows[name, "train 9"]["warnings"])
                             for name in "ab"] == [(0, "", ""), (1, "22:1", "refused")]
     assert "experiment b: 1 of 7 commands was refused and did nothing: line 14: `train 9" in err
     status, out, _ = tool("summary", tmp_path / "r", tmp_path / "s")

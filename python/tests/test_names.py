@@ -24,20 +24,23 @@ def opened(of: Run, folder: Path) -> dnlab.Report:
 
 
 def test_the_names_in_use(run: dnlab.Report, tmp_path: Path) -> None:
-    """None of them is a name that pandas uses, except `min` and `max`, which need brackets. There are no warnings."""
+    """None of them is a name that pandas uses, except `min` and `max`, which need brackets. There are no
+    warnings."""
     with warnings.catch_warnings():
         warnings.simplefilter("error")
         one = run["train"]
         packets, summary = one.packets(), run.summary()
         assert packets.bytes.tolist() == [1000] * 5 and packets.queue.iloc[0] == "1.0"
-        assert packets[packets.sender == "train 1"].outcome.tolist() == ["delivered", "delivered", "held", "full"]
+        assert packets[packets.sender == "train 1"].outcome.tolist() == [
+            "delivered", "delivered", "held", "full"]
         row = summary[summary.sender == "train 1"].iloc[0]
         assert (row["min"], row.p50, row["max"], row.in_flight) == (11_000_000, 11_000_000, 12_000_000, 1)
         assert {"fct", "retransmissions", "params", "warnings", "p99"} <= set(summary.columns)
         assert "in_flight" in one.queues() and "queue" in one.visits() and "sender" in one.drops()
         assert one.params == "pipe 1 bw 8Mbit/s delay 10 queue 2" and one.warnings == ""
         assert dnlab.intervals(summary, "sender", "p50").columns.tolist() == ["n", "mean", "ci95"]
-    assert not {"of", "size", "pipe", "fate", "held", "median", "again", "completion", "settings", "marks"} & {
+    assert not {"of", "size", "pipe", "fate", "held", "median", "again", "completion", "settings",
+                "marks"} & {
         *packets.columns, *summary.columns}
 
 
@@ -56,7 +59,8 @@ def test_sweeps_have_them(program: str) -> None:
     assert {"sender", "size", "min", "max", "warnings"} <= set(table.columns)
     assert table[table["size"] == 2].set_index("stat")["mean"].to_dict() == {
         "delay.max": 12e6, "in_flight": 1, "delay.p50": 11e6, "fct": pytest.approx(float("nan"), nan_ok=True)}
-    assert made.long().columns.tolist() == ["size", "seed", "experiment", "sender", "stat", "unit", "value", "warnings"]
+    assert made.long().columns.tolist() == ["size", "seed", "experiment", "sender", "stat", "unit", "value",
+                                            "warnings"]
 
 
 @pytest.mark.parametrize("word", ["delay.median", "completion", "again", "held", "delay.least"])

@@ -1,4 +1,5 @@
-"""Names for the sources of injected packets: they have their own rows, with delays calculated by hand, and wrong names are refused."""
+"""Names for the sources of injected packets: they have their own rows, with delays calculated by hand, and
+wrong names are refused."""
 import json
 import pickle
 from pathlib import Path
@@ -13,8 +14,9 @@ from dnlab.testing import expecting
 
 MS = 10**6
 Alone = Callable[[bytes], bytes]
-# At 8 Mbit/s 1000 bytes take 1 ms and 500 take 0.5 ms, and then 10 ms of delay. One packet is in service and two wait, so the
-# fourth packet at time 0, in line 7, finds no room. Those at 30 ms and at 60 ms need not wait.
+# At 8 Mbit/s 1000 bytes take 1 ms and 500 take 0.5 ms, and then 10 ms of delay. One packet is in service and
+# two wait, so the fourth packet at time 0, in line 7, finds no room. Those at 30 ms and at 60 ms need not
+# wait.
 LINK = """@0 pipe 1 config bw 8Mbit/s delay 10 queue 2
 @0 add 100 pipe 1 ip from any to any
 @0 inject udp 10.0.0.1 1000 10.0.1.1 2000 1000
@@ -43,7 +45,8 @@ def row_of(rows: object, sender: str) -> list[int]:
     """Returns packets, delivered, drops, bytes, minimum and maximum delay, and rate of a sender."""
     found = rows[rows.sender == sender]
     assert len(found) == 1, sender
-    return [int(found[name].iloc[0]) for name in ("packets", "delivered", "full", "bytes", "min", "max", "rate")]
+    return [int(found[name].iloc[0])
+            for name in ("packets", "delivered", "full", "bytes", "min", "max", "rate")]
 
 
 def test_rows_of_a_name(files: tuple[Path, Path]) -> None:
@@ -74,14 +77,16 @@ def test_an_address_names_all_its_ports(files: tuple[Path, Path]) -> None:
     rows = report.summary(names={"10.0.0.1": "host", "10.0.0.2:53": "host"})
     assert list(rows.sender) == ["host", "train 1", "pipe 1.0", "all"]
     assert row_of(rows, "host")[:4] == [5, 4, 1, 3500]
-    # The original report keeps its own names. A report that is read with names keeps these in another process.
+    # The original report keeps its own names. A report that is read with names keeps these in another
+    # process.
     assert list(report.summary().sender)[0] == "injected"
     named = pickle.loads(pickle.dumps(dnlab.read(*files, names=MINE)))
     assert list(named.summary(of="mine").sender) == ["mine"]
 
 
 def test_beside_a_flow(program: str) -> None:
-    """The injected packet is served first, until 1 ms, and the flow's segment until 2 ms; its acknowledgement takes 1 ns."""
+    """The injected packet is served first, until 1 ms, and the flow's segment until 2 ms; its acknowledgement
+    takes 1 ns."""
     text = """experiment both seed 1 budget 20
 @0 pipe 1 config bw 8Mbit/s delay 10
 @0 add 100 pipe 1 ip from any to 10.0.0.2
@@ -93,11 +98,13 @@ def test_beside_a_flow(program: str) -> None:
 """
     rows = dnlab.run(text, dnlab=program, names=MINE).summary()
     delays = dict(zip(rows.sender, rows["max"]))
-    assert [delays[one] for one in ("mine", "injected", "flow 65535", "flow 65535 acks")] == [11 * MS, 11 * MS, 12 * MS, 1]
+    assert [delays[one] for one in ("mine", "injected", "flow 65535",
+                                    "flow 65535 acks")] == [11 * MS, 11 * MS, 12 * MS, 1]
 
 
 def test_a_session(program: str, tmp_path: Path) -> None:
-    """1000 bytes take 8 ms at 1 Mbit/s, the reply's 40 bytes 0.32 ms, and each direction has a delay of 10 ms."""
+    """1000 bytes take 8 ms at 1 Mbit/s, the reply's 40 bytes 0.32 ms, and each direction has a delay of 10
+    ms."""
     with dnlab.live(program) as session:
         link = session.experiment("asked", seed=1, budget=10)
         link.command("pipe 1 config bw 1Mbit/s delay 10")
@@ -128,7 +135,8 @@ def test_the_tools(files: tuple[Path, Path], tmp_path: Path) -> None:
     status, out, _ = tool("summary", *files, *name, "--of", "mine", "--json")
     found = [(row["sender"], row["packets"], row["full"], row["max"]) for row in json.loads(out)]
     assert (status, found) == (0, [("mine", 3, 1, 12_500_000)])
-    status, out, said = tool("expect", *name, *files, "mine: delay.max <= 12.5ms", "mine: drops.full == 1", *name)
+    status, out, said = tool("expect", *name, *files, "mine: delay.max <= 12.5ms", "mine: drops.full == 1",
+                             *name)
     assert (status, out.count("holds  "), said) == (0, 2, "")
     assert tool("expect", *files, *name, "mine: delay.max < 12.5ms")[0] == 1
     picture = tmp_path / "plot.svg"
@@ -146,7 +154,8 @@ def test_the_tools(files: tuple[Path, Path], tmp_path: Path) -> None:
     (["10.0.0.1=flow 1"], "'flow 1' can't be a name"), (["10.0.0.1=train 2"], "'train 2' can't be a name"),
     (["10.0.0.1=injected"], "'injected' can't be a name"), (["10.0.0.1=all"], "'all' can't be a name"),
     (["10.0.0.1=m*"], "'m*' can't be a name"), (["10.0.0.1="], "'' can't be a name"),
-    (["10.0.0.1"], "name '10.0.0.1': it must be SOURCE=NAME"), (["=mine"], "name '=mine': it must be SOURCE=NAME")])
+    (["10.0.0.1"], "name '10.0.0.1': it must be SOURCE=NAME"),
+    (["=mine"], "name '=mine': it must be SOURCE=NAME")])
 def test_what_is_refused(files: tuple[Path, Path], words: list[str], said: str) -> None:
     given = [part for word in words for part in ("--name", word)]
     status, out, found = tool("summary", *files, *given)
@@ -163,7 +172,8 @@ def test_the_others_refuse_it_too(files: tuple[Path, Path], name: str, more: lis
 
 
 def test_of_several_experiments(tmp_path: Path, traced: Alone) -> None:
-    """In the second experiment port 1000 of 10.0.0.1 is port 3000. A name must match a packet of the requested experiments."""
+    """In the second experiment port 1000 of 10.0.0.1 is port 3000. A name must match a packet of the
+    requested experiments."""
     text = SCENARIO + f"experiment two seed 1 budget 20\n{LINK}".replace("10.0.0.1 1000", "10.0.0.1 3000")
     report, scenario = tmp_path / "report.txt", tmp_path / "scenario.txt"
     scenario.write_text(text)
@@ -178,7 +188,8 @@ def test_of_several_experiments(tmp_path: Path, traced: Alone) -> None:
 
 
 def test_no_packet_is_injected(tmp_path: Path, program: str) -> None:
-    text = "experiment none seed 1 budget 20\n@0 train 1 udp 10.0.0.1 1 10.0.0.2 1 100 count 1 gap 0\n@1 end\n"
+    text = ("experiment none seed 1 budget 20\n@0 train 1 udp 10.0.0.1 1 10.0.0.2 1 100 count 1 "
+            "gap 0\n@1 end\n")
     with pytest.raises(dnlab.InputError, match="the scenario injects none"):
         dnlab.run(text, dnlab=program, names={"10.0.0.1": "mine"}, out=tmp_path / "report.txt")
     # It was refused before the run.

@@ -34,7 +34,8 @@ def test_what_is_kept(stored: tuple[Path, Path, Path], program: str) -> None:
     report, *_ = stored
     told = json.loads((report.parent / "r.txt.json").read_text())
     assert told["report"] == file_checksum(report) and told["program"] == file_checksum(program)
-    assert told["scenario"] == scenario_checksum(read(TEXT.encode())) != scenario_checksum(read(OTHER.encode()))
+    assert told["scenario"] == scenario_checksum(read(TEXT.encode())) != scenario_checksum(
+        read(OTHER.encode()))
     assert told["command"] == [program, "alone", "--trace"] and told["version"].startswith("dnlab ")
     assert sorted(path.name for path in report.parent.iterdir()) == ["o.txt", "r.txt", "r.txt.json", "s.txt"]
     opened = dnlab.read(report)
@@ -45,8 +46,9 @@ def test_what_is_kept(stored: tuple[Path, Path, Path], program: str) -> None:
 
 def test_another_scenario_is_refused(stored: tuple[Path, Path, Path], tmp_path: Path) -> None:
     report, plan, other = stored
-    for name, words in (("summary", []), ("expect", ["all: drops == 0"]), ("plot", ["--out", tmp_path / "p.svg"]),
-                        ("view", ["--out", tmp_path / "p.html"]), ("pcap", ["--experiment", "a"])):
+    for name, words in (("summary", []), ("expect", ["all: drops == 0"]),
+                        ("plot", ["--out", tmp_path / "p.svg"]), ("view", ["--out", tmp_path / "p.html"]),
+                        ("pcap", ["--experiment", "a"])):
         status, out, err = tool(name, report, other, *words)
         assert status == 2 and not out and len(err.splitlines()) == 1, (name, err)
         assert "is not the scenario of" in err and "r.txt.json" in err, name

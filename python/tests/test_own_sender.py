@@ -1,15 +1,17 @@
-"""CUBIC's window (`dnlab.senders.windows`), compared with numbers calculated by hand from the formulas of RFC 9438."""
+"""CUBIC's window (`dnlab.senders.windows`), compared with numbers calculated by hand from the formulas of RFC
+9438."""
 import pytest
 
 from dnlab.senders.windows import CubicCurve, curve, plateau_time
 
 
 def test_the_curve() -> None:
-    """W_max = 100 and a window of 70: K is the cube root of 30 / 0.4 = 75, which is between 4.217163^3 = 74.999983
-    and 4.217164^3 = 75.000036."""
+    """W_max = 100 and a window of 70: K is the cube root of 30 / 0.4 = 75, which is between 4.217163^3 =
+    74.999983 and 4.217164^3 = 75.000036."""
     plateau = plateau_time(100, 70)
     assert 4.217163 < plateau < 4.217164
-    # 0.4 (t - K)^3 + 100 at 0: 0.4 * -75; at 2: 0.4 * -10.899161 (2.217163^3); at 6: 0.4 * 5.666758 (1.782837^3).
+    # 0.4 (t - K)^3 + 100 at 0: 0.4 * -75; at 2: 0.4 * -10.899161 (2.217163^3); at 6: 0.4 * 5.666758
+    # (1.782837^3).
     assert curve(0, 100, plateau) == pytest.approx(70)
     assert curve(2, 100, plateau) == pytest.approx(95.640336, abs=1e-6)
     assert curve(plateau, 100, plateau) == 100
@@ -25,36 +27,41 @@ def test_slow_start_and_a_loss() -> None:
     assert window.cwnd == 100
     window.lost(100)
     assert (window.cwnd, window.ssthresh, window.top, window.prior) == (70, 70, 100, 100)
-    # The first acknowledgement, at 5 s, starts the epoch. At 0 s the curve is at 70, which is below W_est = 70 + 0.529412 / 70,
-    # so the window is W_est (Reno-friendly). 9/17 is 3 (1 - 0.7) / (1 + 0.7).
+    # The first acknowledgement, at 5 s, starts the epoch. At 0 s the curve is at 70, which is below W_est =
+    # 70 + 0.529412 / 70, so the window is W_est (Reno-friendly). 9/17 is 3 (1 - 0.7) / (1 + 0.7).
     window.acknowledged(5.0, 0.1)
     assert window.cwnd == pytest.approx(70 + 9 / 17 / 70)
 
 
 def test_concave_growth() -> None:
-    """2 s after the epoch and with 0.1 s of RTT the target is the curve at 2.1 s: 0.4 * (2.1 - 4.217163)^3 + 100 =
-    0.4 * -9.489932 + 100 = 96.204027; the window 80 grows by 16.204027 / 80 = 0.202550."""
-    window = CubicCurve(80.0, 70.0, top=100.0, plateau=plateau_time(100, 70), epoch=10.0, friendly=70.0, prior=100.0)
+    """2 s after the epoch and with 0.1 s of RTT the target is the curve at 2.1 s: 0.4 * (2.1 - 4.217163)^3 +
+    100 = 0.4 * -9.489932 + 100 = 96.204027; the window 80 grows by 16.204027 / 80 = 0.202550."""
+    window = CubicCurve(80.0, 70.0, top=100.0, plateau=plateau_time(100, 70), epoch=10.0, friendly=70.0,
+                        prior=100.0)
     window.acknowledged(12.0, 0.1)
     assert window.cwnd == pytest.approx(80.202550, abs=1e-6)
 
 
 def test_the_target_is_at_most_half_more() -> None:
-    """20 s after the epoch the curve is far above the limit of 1.5 * 80 = 120, so the window grows by 40 / 80."""
-    window = CubicCurve(80.0, 70.0, top=100.0, plateau=plateau_time(100, 70), epoch=10.0, friendly=70.0, prior=100.0)
+    """20 s after the epoch the curve is far above the limit of 1.5 * 80 = 120, so the window grows by 40 /
+    80."""
+    window = CubicCurve(80.0, 70.0, top=100.0, plateau=plateau_time(100, 70), epoch=10.0, friendly=70.0,
+                        prior=100.0)
     window.acknowledged(30.0, 0.1)
     assert window.cwnd == 80.5
 
 
 def test_the_target_isn_t_below_the_window() -> None:
     """At 2 s the curve is at 95.64, below the window of 97, which does not change."""
-    window = CubicCurve(97.0, 70.0, top=100.0, plateau=plateau_time(100, 70), epoch=10.0, friendly=70.0, prior=100.0)
+    window = CubicCurve(97.0, 70.0, top=100.0, plateau=plateau_time(100, 70), epoch=10.0, friendly=70.0,
+                        prior=100.0)
     window.acknowledged(12.0, 0.01)
     assert window.cwnd == 97
 
 
 def test_fast_convergence() -> None:
-    """A loss at a window of 90, below W_max = 100: W_max becomes 90 * 1.7 / 2 = 76.5, and 60 in flight leave a window of 42."""
+    """A loss at a window of 90, below W_max = 100: W_max becomes 90 * 1.7 / 2 = 76.5, and 60 in flight leave
+    a window of 42."""
     window = CubicCurve(90.0, 70.0, top=100.0)
     window.lost(60)
     assert (window.top, window.ssthresh, window.cwnd) == pytest.approx((76.5, 42, 42))
@@ -63,7 +70,8 @@ def test_fast_convergence() -> None:
 
 
 def test_a_timeout() -> None:
-    """The window is one segment, then slow start up to 70 % of the segments that were in flight. Then the curve starts at its plateau, 28."""
+    """The window is one segment, then slow start up to 70 % of the segments that were in flight. Then the
+    curve starts at its plateau, 28."""
     window = CubicCurve(50.0, 30.0, top=60.0)
     window.timed_out(40)
     assert (window.cwnd, window.ssthresh) == (1, pytest.approx(28))

@@ -39,7 +39,8 @@ def test_a_cut_gzip_is_said(tmp_path: Path) -> None:
     for name, words in ("summary", [report, packed]), ("spread", [packed]):
         status, out, err = tool(name, *words)
         assert (status, out) == (2, "")
-        assert err.startswith(f"{name}: {packed}: line 1: its gzip is cut or damaged (") and err.count("\n") == 1
+        assert (err.startswith(f"{name}: {packed}: line 1: its gzip is cut or damaged (")
+                and err.count("\n") == 1)
 
 
 def test_spread_says_what_made_its_report(tmp_path: Path, program: str) -> None:
@@ -69,7 +70,8 @@ def test_spread_keeps_the_scenario_that_run_keeps(tmp_path: Path, program: str) 
 
 @pytest.mark.parametrize("is_file", [True, False])
 def test_a_bomb(tmp_path: Path, is_file: bool) -> None:
-    """4 GB of zeros in 4 MB, without a line feed, are refused after the first blocks, and as a scenario after its maximum length."""
+    """4 GB of zeros in 4 MB, without a line feed, are refused after the first blocks, and as a scenario after
+    its maximum length."""
     bomb = tmp_path / "bomb.gz"
     packer = zlib.compressobj(9, zlib.DEFLATED, 31)
     with open(bomb, "wb") as file:
@@ -78,7 +80,8 @@ def test_a_bomb(tmp_path: Path, is_file: bool) -> None:
             file.write(packer.compress(bytes(1 << 22)))
         file.write(packer.flush())
     begin = time.monotonic()
-    status, out, told = tool("summary", *(([bomb]) if is_file else ["-"]), text=b"" if is_file else bomb.read_bytes())
+    status, out, told = tool("summary", *(([bomb]) if is_file else ["-"]),
+                             text=b"" if is_file else bomb.read_bytes())
     assert status == 2 and "line 2: a line of more than" in told and not out
     assert time.monotonic() - begin < 20
     status, _, told = tool("spread", bomb)

@@ -1,4 +1,5 @@
-"""The axes of figures, compared with values calculated by hand from the reports (times in ms). Long series are thinned."""
+"""The axes of figures, compared with values calculated by hand from the reports (times in ms). Long series
+are thinned."""
 import numpy as np
 import pytest
 from conftest import records_in, text_of, view_of
@@ -13,19 +14,21 @@ from dnlab.plot import pictures
 
 def lines_on(axes) -> dict[str, list[tuple[float, float]]]:
     """Returns the values of each line on the axes by its label."""
-    return {line.get_label(): [(float(x), float(y)) for x, y in line.get_xydata()] for line in axes.get_lines()}
+    return {line.get_label(): [(float(x), float(y)) for x, y in line.get_xydata()]
+            for line in axes.get_lines()}
 
 
 def near(got, want) -> bool:
-    return len(got) == len(want) and all(abs(a - c) < 1e-9 and abs(b - d) < 1e-9 for (a, b), (c, d) in zip(got, want))
+    return (len(got) == len(want)
+            and all(abs(a - c) < 1e-9 and abs(b - d) < 1e-9 for (a, b), (c, d) in zip(got, want)))
 
 
 PANELS = ["window", "queue", "sojourn", "delivered", "drops"]
 
 
 def test_four_segments() -> None:
-    """Windows are in segments of 1460 bytes. Of the three packets at 0, one is in service and two wait; a single packet never
-    waits. Acknowledgements of 40 bytes, and their pipe, are drawn on request."""
+    """Windows are in segments of 1460 bytes. Of the three packets at 0, one is in service and two wait; a
+    single packet never waits. Acknowledgements of 40 bytes, and their pipe, are drawn on request."""
     figure = pictures.figure_of([view_of("reno_four_segments")], PANELS)
     window, queue, sojourn, delivered, drops = figure.axes
     want = {
@@ -38,12 +41,15 @@ def test_four_segments() -> None:
     for (axes, label), values in want.items():
         assert near(lines_on(axes).get(label, []), values), label
     # ssthresh stays at 65535 bytes, above the axis.
-    assert [list(lines_on(axes)) for axes in figure.axes] == [["cwnd 1"], ["pipe 1"], ["flow 1"], ["flow 1", "through pipe 1"], []]
+    assert [list(lines_on(axes)) for axes in figure.axes] == [["cwnd 1"], ["pipe 1"], ["flow 1"],
+                                                              ["flow 1", "through pipe 1"], []]
     assert [text.get_text() for text in drops.texts] == ["no packet was dropped"] and not window.texts
     assert [axes.get_ylabel() for axes in figure.axes] + [drops.get_xlabel()] == [
-        "Congestion window (segments)", "Queue length (packets)", "One-way delay (ms)", "Delivered data (kB)", "Drops (packets)", "Time (ms)"]
+        "Congestion window (segments)", "Queue length (packets)", "One-way delay (ms)", "Delivered data (kB)",
+        "Drops (packets)", "Time (ms)"]
     assert [axes.get_title("left") for axes in figure.axes] == [
-        "Congestion window", "Queue length (limit of pipe 1 is 50 packets)", "One-way delay", "Delivered data, cumulative",
+        "Congestion window", "Queue length (limit of pipe 1 is 50 packets)", "One-way delay",
+        "Delivered data, cumulative",
         "Drops by cause, cumulative"]
     # The last line of the report is at 42.4 ms, and so is the end of the axes.
     assert {axes.get_xlim() for axes in figure.axes} == {(0, 42.4)}
@@ -56,26 +62,31 @@ def test_acknowledgements_on_request() -> None:
     assert near(lines_on(delivered)["through pipe 2"],
                 [(0, 0), (11.2, .04), (12.4, .08), (13.6, .12), (32.4, .16), (42.4, .16)])
     assert list(lines_on(queue)) == ["pipe 1", "pipe 2"]
-    assert near(lines_on(flight)["in flight"], list(zip((0, 11.2, 12.4, 13.6, 21.2, 22.4, 23.6, 32.4, 42.4), (3, 3, 3, 3, 3, 2, 1, 1, 0))))
+    assert near(lines_on(flight)["in flight"],
+                list(zip((0, 11.2, 12.4, 13.6, 21.2, 22.4, 23.6, 32.4, 42.4), (3, 3, 3, 3, 3, 2, 1, 1, 0))))
 
 
 def test_two_columns() -> None:
-    """The names are above the columns, which have the same ranges of time and values. ssthresh is drawn once it is on the axis."""
+    """The names are above the columns, which have the same ranges of time and values. ssthresh is drawn once
+    it is on the axis."""
     figure = pictures.figure_of([view_of("codel_one_drop"), view_of("reno_timeouts")], ["window", "drops"])
     first, second, one, five = figure.axes
     assert near(lines_on(one)["codel"], [(0.0, 0.0), (0.112, 1.0), (0.232000001, 1.0)])
     assert lines_on(five) == {"lost": [(0.0, 3.0), (1.0, 4.0), (3.0, 5.0)]}
     assert {label: lines_on(second).get(label) for label in ("loss 1", "timeout 1")} == {
         "loss 1": [(0, 3)] * 3 + [(1, 1), (3, 1)], "timeout 1": [(1, 1), (3, 1)]}
-    assert lines_on(first) == {} and [axes.get_title("left") for axes in (first, second)] == ["codel-one-drop", "reno-timeouts"]
+    assert (lines_on(first) == {}
+            and [axes.get_title("left") for axes in (first, second)] == ["codel-one-drop", "reno-timeouts"])
     # The first window is 3 segments, and the axis ends a tenth above it; ssthresh falls to 2920 bytes at 1 s.
-    assert second.get_ylim() == pytest.approx((0, 3.3)) and lines_on(second)["ssthresh 1"][1:] == [(1, 2), (3, 2)]
+    assert (second.get_ylim() == pytest.approx((0, 3.3))
+            and lines_on(second)["ssthresh 1"][1:] == [(1, 2), (3, 2)])
     assert np.isnan(lines_on(second)["ssthresh 1"][0][1]) and not second.texts
     assert one.get_ylim() == five.get_ylim() and figure._suptitle.get_text() == "Congestion window, drops"
 
 
 def test_untraced() -> None:
-    bare = pictures.figure_of([View(records_in(text_of("reno_four_segments", "expected.txt"))[0])], ["sojourn", "delivered"]).axes
+    bare = pictures.figure_of([View(records_in(text_of("reno_four_segments", "expected.txt"))[0])],
+                              ["sojourn", "delivered"]).axes
     assert not bare[0].get_lines() and "--trace" in bare[0].texts[0].get_text()
     assert bare[1].get_ylabel() == "Delivered (packets)"
     assert near(lines_on(bare[1])["flow 1"], [(0, 0), (11.2, 1), (12.4, 2), (13.6, 3), (32.4, 4), (42.4, 4)])
@@ -103,4 +114,5 @@ def test_thinned(values: list[int], stretches: int, chance) -> None:
     kept = (few.moments - moments[0]) * stretches // (moments[-1] - moments[0] + 1)
     for stretch in set(at.tolist()):
         before, after = one.values[at == stretch], few.values[kept == stretch]
-        assert (before.min(), before.max(), before[0], before[-1]) == (after.min(), after.max(), after[0], after[-1])
+        assert (before.min(), before.max(), before[0],
+                before[-1]) == (after.min(), after.max(), after[0], after[-1])

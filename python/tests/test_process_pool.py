@@ -67,14 +67,16 @@ def test_results_have_their_tokens(pool: ProcessPool[Any]) -> None:
     for number in range(20):
         pool.submit(number, doubled, number)
     assert len(pool) == 20
-    assert sorted((it.token, it.get()) for it in (pool.next_result() for _ in range(20))) == [(it, 2 * it) for it in range(20)]
+    assert sorted((it.token, it.get())
+                  for it in (pool.next_result() for _ in range(20))) == [(it, 2 * it) for it in range(20)]
     assert len(pool) == 0
     with pytest.raises(TimeoutError):
         pool.next_result(0.01)
 
 
 def test_a_worker_outlives_its_garbage(tmp_path: Path) -> None:
-    """A worker that watches a descriptor by an object would end when the object is collected and its number is used again."""
+    """A worker that watches a descriptor by an object would end when the object is collected and its number
+    is used again."""
     with ProcessPool[int](1) as pool:
         found = set()
         for number in range(3):
@@ -158,9 +160,12 @@ def test_nothing_is_left_of_a_parent(number: signal.Signals, tmp_path: Path) -> 
     """Semaphores are files in /dev/shm, and jobs are files in the folder for temporary files."""
     (tmp_path / "script.py").write_text(SCRIPT.format(tests=str(ROOT / "python/tests")))
     (tmp_path / "tmp").mkdir()
-    with subprocess.Popen([sys.executable, "script.py"], cwd=tmp_path, stdout=subprocess.PIPE, stderr=subprocess.PIPE, text=True,
-                          start_new_session=True, preexec_fn=lambda: [signal.signal(it, signal.SIG_DFL) for it in (1, 2, 15)],
-                          env={**os.environ, "PYTHONPATH": str(ROOT / "python"), "TMPDIR": str(tmp_path / "tmp")}) as process:
+    with subprocess.Popen([sys.executable, "script.py"], cwd=tmp_path, stdout=subprocess.PIPE,
+                          stderr=subprocess.PIPE, text=True,
+                          start_new_session=True,
+                          preexec_fn=lambda: [signal.signal(it, signal.SIG_DFL) for it in (1, 2, 15)],
+                          env={**os.environ, "PYTHONPATH": str(ROOT / "python"),
+                               "TMPDIR": str(tmp_path / "tmp")}) as process:
         assert process.stdout and process.stdout.readline() == "42\n"
         time.sleep(0.5)
         semaphores = set(re.findall(r"/dev/shm/\S+", Path(f"/proc/{process.pid}/maps").read_text()))

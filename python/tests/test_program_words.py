@@ -1,4 +1,5 @@
-"""The arguments that the package adds to those of the program `dnlab`: a file's name, `check --json`, and their help."""
+"""The arguments that the package adds to those of the program `dnlab`: a file's name, `check --json`, and
+their help."""
 import json
 import os
 import re
@@ -22,13 +23,16 @@ REPORT = (EXAMPLES / "one_packet" / "expected.txt").read_bytes()
 FAULTY = "experiment a seed 0 budget 10\n@0 pipe 1 config bw 10Mbps\n@5 shw\n@9 end\n"
 
 
-def dnlab(program: str, *words: object, text: bytes = b"", script: Path = ROOT / "dnlab") -> tuple[int, bytes, str]:
+def dnlab(program: str, *words: object, text: bytes = b"",
+          script: Path = ROOT / "dnlab") -> tuple[int, bytes, str]:
     """Runs the script ./dnlab, which starts a program. Returns status, standard output and standard error."""
-    done = subprocess.run([script, *map(str, words)], input=text, capture_output=True, timeout=60, check=False, env={**os.environ, "DNLAB": program})
+    done = subprocess.run([script, *map(str, words)], input=text, capture_output=True, timeout=60,
+                          check=False, env={**os.environ, "DNLAB": program})
     return done.returncode, done.stdout, done.stderr.decode()
 
 
-@pytest.mark.parametrize("words", [["alone"], ["run", "--workers", "2"], ["alone", "--max-steps", "1000000", "--strict"]])
+@pytest.mark.parametrize("words", [["alone"], ["run", "--workers", "2"],
+                                   ["alone", "--max-steps", "1000000", "--strict"]])
 def test_a_file_is_read(words: list[str], program: str) -> None:
     assert dnlab(program, *words, PACKET) == (0, REPORT, "")
     assert dnlab(program, words[0], PACKET, *words[1:]) == (0, REPORT, "")
@@ -54,17 +58,20 @@ def test_a_file_that_may_not_be_read(program: str) -> None:
     place = Path("/tmp") / f"dnlab-test-{os.getpid()}.txt"
     place.write_bytes(PACKET.read_bytes())
     place.chmod(0)
-    code = "import os, sys; os.setgid(65534); os.setuid(65534); os.environ['PYTHONDONTWRITEBYTECODE'] = '1'; sys.path.insert(0, sys.argv[1]); " \
-           "from dnlab.cli.program import open_as_input; open_as_input(sys.argv[2])"
+    code = ("import os, sys; os.setgid(65534); os.setuid(65534); os.environ['PYTHONDONTWRITEBYTECODE'] = "
+            "'1'; sys.path.insert(0, sys.argv[1]); from dnlab.cli.program import open_as_input; "
+            "open_as_input(sys.argv[2])")
     try:
-        done = subprocess.run([sys.executable, "-B", "-c", code, str(ROOT / "python"), str(place)], capture_output=True, text=True, check=False)
+        done = subprocess.run([sys.executable, "-B", "-c", code, str(ROOT / "python"), str(place)],
+                              capture_output=True, text=True, check=False)
     finally:
         place.unlink()
     assert f"Permission denied: '{place}'" in done.stderr
 
 
 def test_which_words_are_files() -> None:
-    assert call_of(["run", "--workers", "4", "a.txt", "--moves", "0"]) == (["run", "--workers", "4", "--moves", "0"], "a.txt", False)
+    assert call_of(["run", "--workers", "4", "a.txt", "--moves",
+                    "0"]) == (["run", "--workers", "4", "--moves", "0"], "a.txt", False)
     assert call_of(["check", "--json", "--strict", "4"]) == (["check", "--strict"], "4", True)
     assert call_of(["live", "a.txt"]) == (["live", "a.txt"], None, False)
     assert call_of([]) == ([], None, False)
@@ -84,16 +91,21 @@ def found(program: str, text: bytes, *words: str) -> tuple[int, list[dict[str, A
 def test_what_json_has(program: str, tmp_path: Path) -> None:
     status, (first, second) = found(program, FAULTY.encode())
     assert status == 1
-    assert (first["line"], first["column"], first["width"], first["kind"], first["cause"]) == (2, 21, 6, "fault", "badword")
-    assert first["text"] == "@0 pipe 1 config bw 10Mbps" and first["expected"].startswith("a rate") and first["example"].endswith(" bw 10Mbit/s")
+    assert (first["line"], first["column"], first["width"], first["kind"],
+            first["cause"]) == (2, 21, 6, "fault", "badword")
+    assert (first["text"] == "@0 pipe 1 config bw 10Mbps" and first["expected"].startswith("a rate")
+            and first["example"].endswith(" bw 10Mbit/s"))
     assert "10Mbps is 10Mbit/s" in first["hint"] and first["means"] is None and first["experiment"] is None
-    assert (second["line"], second["column"], second["width"], second["hint"]) == (3, 4, 3, "did you mean `show`?")
+    assert (second["line"], second["column"], second["width"],
+            second["hint"]) == (3, 4, 3, "did you mean `show`?")
     assert found(program, PACKET.read_bytes(), "--strict") == (0, [])
     refused = b"experiment a seed 0 budget 1\n@0 delete 7\n@9 end\n"
-    assert [(one["line"], one["kind"], one["cause"], one["experiment"]) for one in found(program, refused)[1]] == [(2, "refused", "refused 13", "a")]
+    assert [(one["line"], one["kind"], one["cause"], one["experiment"])
+            for one in found(program, refused)[1]] == [(2, "refused", "refused 13", "a")]
     assert found(program, refused)[0] == 0 and found(program, refused, "--strict")[0] == 5
     doubtful = b"experiment a seed 0 budget 1\n@0 pipe 1 config plr 1\n@9 end\n"
-    assert [(one["line"], one["kind"], one["cause"], one["column"]) for one in found(program, doubtful)[1]] == [(2, "warning", "plr", None)]
+    assert [(one["line"], one["kind"], one["cause"], one["column"])
+            for one in found(program, doubtful)[1]] == [(2, "warning", "plr", None)]
     file = tmp_path / "faulty.txt"
     file.write_text(FAULTY)
     assert json.loads(dnlab(program, "check", file, "--json")[1]) == [first, second]
@@ -104,16 +116,21 @@ CASES = [case for case in explained_cases.cases() if case.words == ["check", "--
 
 
 def test_each_worked_case_has_its_objects(program: str) -> None:
-    """There are as many objects as the cases of tools/gate/explained have, with the column of their marks, and each row is in one."""
+    """There are as many objects as the cases of tools/gate/explained have, with the column of their marks,
+    and each row is in one."""
     assert len(CASES) > 100
     for case in CASES[::20]:
         status, objects = found(program, case.text)
         lines = re.findall(r"(?m)^line (\d+): (.*)", case.said)
-        assert (status, [(str(one["line"]), one["cause"]) for one in objects]) == (case.status, lines), case.name
-        marks = [(len(row) - len(row.lstrip()) - 1, row.count("^")) for row in case.said.splitlines() if re.fullmatch(r" +\^+", row)]
+        assert (status,
+                [(str(one["line"]), one["cause"]) for one in objects]) == (case.status, lines), case.name
+        marks = [(len(row) - len(row.lstrip()) - 1, row.count("^"))
+                 for row in case.said.splitlines() if re.fullmatch(r" +\^+", row)]
         assert [(one["column"], one["width"]) for one in objects if one["column"]] == marks, case.name
-        values = {value for one in objects for value in (*one.values(), *one["also"]) if isinstance(value, str)}
-        for row in re.findall(r"(?m)^  (?:experiment|means|expected|example|hint|before|also): (.*)", case.said):
+        values = {value for one in objects
+                  for value in (*one.values(), *one["also"]) if isinstance(value, str)}
+        for row in re.findall(r"(?m)^  (?:experiment|means|expected|example|hint|before|also): (.*)",
+                              case.said):
             assert row in values or f"experiment: {row}" in values, case.name
 
 
@@ -132,21 +149,25 @@ def test_help_has_what_the_package_adds(program: str) -> None:
 @pytest.mark.parametrize("output", [">/dev/full", ">&-"])
 def test_what_can_not_be_written(words: str, output: str, program: str) -> None:
     shell = ["sh", "-c", f'exec "$0" {words} {output}', ROOT / "dnlab"]
-    done = subprocess.run(shell, input=PACKET.read_bytes(), capture_output=True, timeout=60, check=False, env={**os.environ, "DNLAB": program})
+    done = subprocess.run(shell, input=PACKET.read_bytes(), capture_output=True, timeout=60, check=False,
+                          env={**os.environ, "DNLAB": program})
     assert (done.returncode, done.stdout, done.stderr) == (3, b"", b"write\n")
 
 
 def test_where_it_is_installed(tmp_path: Path, program: str) -> None:
-    """It works as installed by tools/install: the script in bin, the program in libexec, the package in share."""
+    """It works as installed by tools/install: the script in bin, the program in libexec, the package in
+    share."""
     (tmp_path / "bin").mkdir()
     script = Path(shutil.copy(ROOT / "dnlab", tmp_path / "bin"))
     (tmp_path / "libexec/dnlab").mkdir(parents=True)
     (tmp_path / "libexec/dnlab/dnlab").symlink_to(program)
-    shutil.copytree(ROOT / "python/dnlab", tmp_path / "share/dnlab/python/dnlab", ignore=shutil.ignore_patterns("__pycache__"))
+    shutil.copytree(ROOT / "python/dnlab", tmp_path / "share/dnlab/python/dnlab",
+                    ignore=shutil.ignore_patterns("__pycache__"))
     assert dnlab("/none", "alone", PACKET, script=script) == (0, REPORT, "")
     assert dnlab("/none", "alone", text=PACKET.read_bytes(), script=script) == (0, REPORT, "")
     assert dnlab("/none", "program", script=script)[1].decode() == f"{tmp_path}/libexec/dnlab/dnlab\n"
     out = dnlab("/none", "--help", script=script)[1]
     assert b" FILE" in out and b"\n  prove " not in out
-    assert json.loads(dnlab("/none", "check", "--json", text=FAULTY.encode(), script=script)[1])[0]["column"] == 21
+    assert json.loads(dnlab("/none", "check", "--json", text=FAULTY.encode(),
+                            script=script)[1])[0]["column"] == 21
     assert script.stat().st_mode & stat.S_IXUSR

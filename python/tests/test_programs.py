@@ -34,24 +34,29 @@ def copied(to: Path) -> Path:
     return to
 
 
-def asked(place: Path, module: str, name: str, *words: str, **names: str) -> "subprocess.CompletedProcess[str]":
+def asked(place: Path, module: str, name: str, *words: str,
+          **names: str) -> "subprocess.CompletedProcess[str]":
     code = ALONE.format(place=str(place), module=module, name=name)
     environment = {**{one: word for one, word in os.environ.items() if one != "DNLAB"}, **names}
-    return subprocess.run([sys.executable, "-B", "-c", code, *words], capture_output=True, text=True, env=environment, check=False)
+    return subprocess.run([sys.executable, "-B", "-c", code, *words], capture_output=True, text=True,
+                          env=environment, check=False)
 
 
 @pytest.mark.parametrize("name", COMMANDS)
 def test_help_needs_no_package(name: str) -> None:
-    """With -S Python has none of Debian's packages. Everything else that a tool does reports the missing package."""
+    """With -S Python has none of Debian's packages. Everything else that a tool does reports the missing
+    package."""
     bare = [sys.executable, "-S", ROOT / "tools" / name]
     help_there, help_bare, version, other = (
         subprocess.run(words, capture_output=True, text=True, check=False)
-        for words in ([sys.executable, *bare[2:], "--help"], [*bare, "--help"], [*bare, "--version"], [*bare, "none.txt"]))
+        for words in ([sys.executable, *bare[2:], "--help"], [*bare, "--help"], [*bare, "--version"],
+                      [*bare, "none.txt"]))
     assert help_there.returncode == 0 and help_there.stdout.startswith(f"usage: tools/{name} ")
     assert (help_bare.returncode, help_bare.stdout, help_bare.stderr) == (0, help_there.stdout, "")
     assert (version.returncode, version.stdout) == (0, f"dnlab-{name} {dnlab.__version__}\n")
     if NEEDS[name]:
-        assert other.returncode == 3 and other.stderr.startswith(f"{name}: {NEEDS[name][0]} is missing in ") and not other.stdout
+        assert (other.returncode == 3 and other.stderr.startswith(f"{name}: {NEEDS[name][0]} is missing in ")
+                and not other.stdout)
 
 
 def test_a_named_program_comes_first(tmp_path: Path, monkeypatch: pytest.MonkeyPatch) -> None:
@@ -67,7 +72,8 @@ def test_a_named_program_comes_first(tmp_path: Path, monkeypatch: pytest.MonkeyP
 
 def test_the_repository_asks_its_script(tmp_path: Path, monkeypatch: pytest.MonkeyPatch) -> None:
     monkeypatch.delenv("DNLAB", raising=False)
-    monkeypatch.setattr(programs, "SCRIPT", script(tmp_path / "dnlab", 'echo "$* ${DNLAB-unset}" >&2; echo /some/program'))
+    monkeypatch.setattr(programs, "SCRIPT",
+                        script(tmp_path / "dnlab", 'echo "$* ${DNLAB-unset}" >&2; echo /some/program'))
     monkeypatch.setattr(programs, "ROOT", tmp_path)
     (tmp_path / "crates").mkdir()
     assert programs.program() == "/some/program"
@@ -84,7 +90,8 @@ def test_an_installed_package_has_its_own(tmp_path: Path) -> None:
     lacking = asked(place, "programs", "program", PATH="/nowhere")
     assert lacking.returncode == 1 and "there is no program dnlab" in lacking.stderr
     on_path = script(tmp_path / "path" / "dnlab", "echo path")
-    assert asked(place, "programs", "program", PATH=f"{on_path.parent}:{os.environ['PATH']}").stdout == f"{on_path}\n"
+    assert asked(place, "programs", "program",
+                 PATH=f"{on_path.parent}:{os.environ['PATH']}").stdout == f"{on_path}\n"
     carried = script(place / "dnlab" / "bin" / "dnlab", 'echo "carried $0: $*"; cat; exit 4')
     assert asked(place, "programs", "program", PATH=str(on_path.parent)).stdout == f"{carried}\n"
     started = asked(place, "cli.program", "start", "run", "--x")
@@ -95,7 +102,8 @@ def test_a_package_by_tools_install_has_the_program_of_its_prefix(tmp_path: Path
     place = copied(tmp_path / "prefix" / "share" / "dnlab" / "python")
     beside = script(tmp_path / "prefix" / "libexec" / "dnlab" / "dnlab", "echo beside")
     on_path = script(tmp_path / "path" / "dnlab", "echo path")
-    assert asked(place, "programs", "program", PATH=f"{on_path.parent}:{os.environ['PATH']}").stdout == f"{beside}\n"
+    assert asked(place, "programs", "program",
+                 PATH=f"{on_path.parent}:{os.environ['PATH']}").stdout == f"{beside}\n"
 
 
 def copied_version(path: Path, pattern: str) -> str:
@@ -106,63 +114,82 @@ def copied_version(path: Path, pattern: str) -> str:
 
 def test_all_say_the_same_version() -> None:
     number = dnlab.__version__
-    assert tomllib.loads((ROOT / "python" / "pyproject.toml").read_text(encoding="utf-8"))["project"]["version"] == number
-    assert copied_version(ROOT / "crates" / "dnlab" / "src" / "version.rt", r'VERSION: &str = "(\S+) \(commit ') == number
+    assert tomllib.loads((ROOT / "python" / "pyproject.toml").read_text(encoding="utf-8"))["project"][
+        "version"] == number
+    assert copied_version(ROOT / "crates" / "dnlab" / "src" / "version.rt",
+                          r'VERSION: &str = "(\S+) \(commit ') == number
     assert copied_version(ROOT / "CHANGELOG.md", r"(?m)^## (\S+)$") == number
     for page in sorted((ROOT / "docs" / "man").glob("*.1")):
         assert copied_version(page, r'"dnlab ([0-9.]+)') == number, page
     for command in COMMANDS:
-        done = subprocess.run([ROOT / "tools" / command, "--version"], capture_output=True, text=True, check=False)
+        done = subprocess.run([ROOT / "tools" / command, "--version"], capture_output=True, text=True,
+                              check=False)
         assert (done.stdout, done.stderr, done.returncode) == (f"dnlab-{command} {number}\n", "", 0)
 
 
 def test_a_missing_module_is_said_in_one_line(tmp_path: Path) -> None:
     # A Python without third-party packages.
-    done = subprocess.run([sys.executable, "-S", "-B", str(ROOT / "tools" / "summary"), "report.txt"], capture_output=True, text=True, check=False)
+    done = subprocess.run([sys.executable, "-S", "-B", str(ROOT / "tools" / "summary"), "report.txt"],
+                          capture_output=True, text=True, check=False)
     assert done.returncode == 3 and done.stdout == ""
-    assert done.stderr.startswith(f"summary: numpy is missing in {sys.executable} (pip install numpy; Debian, for /usr/bin/python3: "
-                                  "apt-get install python3-numpy")
+    assert done.stderr.startswith(
+        f"summary: numpy is missing in {sys.executable} (pip install numpy; Debian, for /usr/bin/python3: "
+        "apt-get install python3-numpy")
     assert done.stderr.count("\n") == 1
 
 
 def test_another_python_is_told_how_to_take_debians(monkeypatch: pytest.MonkeyPatch) -> None:
     monkeypatch.setattr(sys, "executable", "/opt/python/bin/python3")
-    assert said_of("summary", "numpy").endswith("apt-get install python3-numpy, then PATH=/usr/bin:$PATH tools/summary ..)")
+    assert said_of("summary",
+                   "numpy").endswith(
+                       "apt-get install python3-numpy, then PATH=/usr/bin:$PATH tools/summary ..)")
     monkeypatch.setattr(sys, "executable", "/usr/bin/python3")
     assert said_of("summary", "numpy").endswith("apt-get install python3-numpy)")
 
 
 def test_help_names_the_installed_commands(tmp_path: Path) -> None:
     text = "usage: tools/plot [-h] REPORT\n\nExample: ./dnlab alone < s.txt | tools/plot - s.txt"
-    assert renamed(text) == "usage: dnlab-plot [-h] REPORT\n\nExample: dnlab alone < s.txt | dnlab-plot - s.txt"
+    assert (renamed(
+        text) == "usage: dnlab-plot [-h] REPORT\n\nExample: dnlab alone < s.txt | dnlab-plot - s.txt")
     place = copied(tmp_path / "lib")
     for command in COMMANDS:
-        code = f"import sys; sys.path.insert(0, {str(place)!r}); from dnlab.__main__ import main; main([{command!r}, '--help'])"
-        said = subprocess.run([sys.executable, "-B", "-c", code], capture_output=True, text=True, check=False).stdout
+        code = (f"import sys; sys.path.insert(0, {str(place)!r}); from dnlab.__main__ import main; "
+                f"main([{command!r}, '--help'])")
+        said = subprocess.run([sys.executable, "-B", "-c", code], capture_output=True, text=True,
+                              check=False).stdout
         assert f"dnlab-{command}" in said and "tools/" not in said and "./dnlab" not in said, command
 
 
 def test_pip_install_of_the_sources(tmp_path: Path) -> None:
-    """The sources have no program. They are only installed if there is one, and use the one on the PATH, never the script itself."""
-    shutil.copytree(ROOT / "python", tmp_path / "python", ignore=shutil.ignore_patterns("__pycache__", "tests", "bin"))
-    subprocess.run([sys.executable, "-m", "venv", "--without-pip", "--system-site-packages", tmp_path / "v"], check=True, timeout=60)
-    pip = [sys.executable, "-m", "pip", "--python", tmp_path / "v/bin/python3", "install", "-q", "--no-index", "--no-deps", "--no-build-isolation"]
+    """The sources have no program. They are only installed if there is one, and use the one on the PATH,
+    never the script itself."""
+    shutil.copytree(ROOT / "python", tmp_path / "python",
+                    ignore=shutil.ignore_patterns("__pycache__", "tests", "bin"))
+    subprocess.run([sys.executable, "-m", "venv", "--without-pip", "--system-site-packages", tmp_path / "v"],
+                   check=True, timeout=60)
+    pip = [sys.executable, "-m", "pip", "--python", tmp_path / "v/bin/python3", "install", "-q", "--no-index",
+           "--no-deps", "--no-build-isolation"]
     if not all(map(find_spec, ("pip", "setuptools", "wheel"))):
         pytest.skip("python3-pip and python3-wheel aren't there")
     there = script(tmp_path / "there" / "dnlab", "echo the program: $*")
     bare_path = {"PATH": "/usr/bin:/bin", "HOME": str(tmp_path)}
-    refused = subprocess.run([*pip, tmp_path / "python"], timeout=120, capture_output=True, text=True, check=False, env=bare_path)
-    assert refused.returncode == 1 and "have no program `dnlab`" in refused.stderr and "pip install dnlab-*" in refused.stderr
+    refused = subprocess.run([*pip, tmp_path / "python"], timeout=120, capture_output=True, text=True,
+                             check=False, env=bare_path)
+    assert (refused.returncode == 1 and "have no program `dnlab`" in refused.stderr
+            and "pip install dnlab-*" in refused.stderr)
     assert not list((tmp_path / "v/bin").glob("dnlab*"))
-    subprocess.run([*pip, tmp_path / "python"], check=True, timeout=120, capture_output=True, env={**bare_path, "DNLAB": str(there)})
+    subprocess.run([*pip, tmp_path / "python"], check=True, timeout=120, capture_output=True,
+                   env={**bare_path, "DNLAB": str(there)})
     own = tmp_path / "v/bin/dnlab"
     bare = {"PATH": f"{own.parent}:/usr/bin:/bin", "HOME": str(tmp_path)}
 
     def called(**names: str) -> "subprocess.CompletedProcess[str]":
-        return subprocess.run([own, "--version"], capture_output=True, text=True, env={**bare, **names}, timeout=20, check=False)
+        return subprocess.run([own, "--version"], capture_output=True, text=True, env={**bare, **names},
+                              timeout=20, check=False)
 
     lacking = called()
-    assert (lacking.returncode, lacking.stdout) == (3, "") and "tools/install" in lacking.stderr and lacking.stderr.count("\n") == 1
+    assert ((lacking.returncode, lacking.stdout) == (3, "") and "tools/install" in lacking.stderr
+            and lacking.stderr.count("\n") == 1)
     assert called(DNLAB=str(own)).returncode == 2
     assert called(PATH=f"{own.parent}:{there.parent}:/usr/bin:/bin").stdout == "the program: --version\n"
     assert called(DNLAB=str(there)).stdout == "the program: --version\n"

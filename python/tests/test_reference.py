@@ -7,7 +7,8 @@ import pytest
 from conftest import ROOT
 
 TOOL = ROOT / "tools" / "gate" / "python_api"
-# For each row of the table, a line that contains one of its numbers: the name of the row, and the line with {} for the number.
+# For each row of the table, a line that contains one of its numbers: the name of the row, and the line with
+# {} for the number.
 LINES = {
     "number of a pipe": "@0 pipe {} config",
     "size of a packet, with headers": "@0 inject udp 10.0.0.1 1 10.0.0.2 1 {}",
@@ -42,7 +43,8 @@ def rows() -> dict[str, tuple[int, int]]:
 
 def judged(program: str, line: str) -> str:
     text = f"experiment limits seed 0 budget 1\n{line}\n@1000000000000000 end\n"
-    return subprocess.run([program, "check"], input=text, capture_output=True, text=True, check=False).stderr.strip()
+    return subprocess.run([program, "check"], input=text, capture_output=True, text=True,
+                          check=False).stderr.strip()
 
 
 @pytest.mark.parametrize("name", LINES)
@@ -54,7 +56,8 @@ def test_a_limit(name: str, program: str) -> None:
         assert judged(program, LINES[name].format(outside)) == "line 2: outofrange"
 
 
-@pytest.mark.parametrize("budget, steps, cause", [(1, 1, ""), (65535, 10**7, ""), (65536, 1, "outofrange"), (0, 1, "outofrange"),
+@pytest.mark.parametrize("budget, steps, cause",
+                         [(1, 1, ""), (65535, 10**7, ""), (65536, 1, "outofrange"), (0, 1, "outofrange"),
                                                   (1, 10**7 + 1, "outofrange"), (1, 0, "outofrange")])
 def test_budgets(budget: int, steps: int, cause: str, program: str) -> None:
     text = f"experiment limits seed 0 budget {budget} steps {steps}\n@0 end\n"
@@ -66,4 +69,5 @@ def test_the_python_page() -> None:
     done = subprocess.run([sys.executable, TOOL, "--check"], capture_output=True, text=True, check=False)
     assert (done.returncode, done.stderr, done.stdout) == (0, "", "1 passed, 0 failed\n")
     page = (ROOT / "docs/reference/python.md").read_text()
-    assert "## dnlab.run\n" in page and "- `workers`: the number of threads that run its experiments, 1 to 16\n" in page
+    assert ("## dnlab.run\n" in page
+            and "- `workers`: the number of threads that run its experiments, 1 to 16\n" in page)

@@ -1,4 +1,5 @@
-"""The reader of reports: lines counted by hand, faulty reports with the line that the message must name, and changed bytes."""
+"""The reader of reports: lines counted by hand, faulty reports with the line that the message must name, and
+changed bytes."""
 import io
 import re
 
@@ -69,7 +70,8 @@ FAULTS = [
     ("9 deliver 0 plain", "99999999999999999 deliver 0 plain", 6, "not a line of a report"),
     ("0 0 0\n", "0 0 0\nmore\n", 9, "experiment NAME"),
     ("9 deliver 0 plain\n", "9 deliver 0 plain\n9 make 0 plain udp 1.2.3.4 5 6.7.8.9 10 40\n", 7, "before"),
-    ("8 finish 0 1.0\n", "8 finish 0 1.0\n8 make 0 plain udp 1.2.3.4 5 6.7.8.9 10 40\n", 6, "is created after another line that names it"),
+    ("8 finish 0 1.0\n", "8 finish 0 1.0\n8 make 0 plain udp 1.2.3.4 5 6.7.8.9 10 40\n", 6,
+     "is created after another line that names it"),
 ]
 
 
@@ -110,7 +112,8 @@ ALL = sorted([*EXAMPLES.glob("*/expected.txt"), *(ROOT / "cookbook").glob("*/rep
 
 @pytest.mark.parametrize("path", ALL, ids=lambda path: path.parent.name)
 def test_all_examples(path) -> None:
-    """Each report is read and joined. Outputs that are not reports (of faults and `check`) are read as empty or refused."""
+    """Each report is read and joined. Outputs that are not reports (of faults and `check`) are read as empty
+    or refused."""
     folder, data = path.parent, path.read_bytes()
     if (folder / "args.txt").exists() and (folder / "args.txt").read_text().split() == ["check"]:
         assert refused(data)[0] == 1
@@ -126,15 +129,18 @@ def test_all_examples(path) -> None:
 N = r"(?:0|[1-9][0-9]{0,15})"
 LOAD = rf"(?:plain|(?:data|ack) {N} {N})"
 LINE = re.compile("|".join([
-    rf"{N} ok {N}", rf"{N} refused {N} (?:{'|'.join(map(str, CODES))})", rf"{N} (?:arrive|finish|pass) {N} {N}\.{N}",
-    rf"{N} deliver {N} {LOAD}", rf"{N} drop {N} {LOAD} (?:{'|'.join(DROP_CAUSES)})", rf"{N} (?:ack|expire) {N} {N} {N}",
+    rf"{N} ok {N}", rf"{N} refused {N} (?:{'|'.join(map(str, CODES))})",
+    rf"{N} (?:arrive|finish|pass) {N} {N}\.{N}",
+    rf"{N} deliver {N} {LOAD}", rf"{N} drop {N} {LOAD} (?:{'|'.join(DROP_CAUSES)})",
+    rf"{N} (?:ack|expire) {N} {N} {N}",
     rf"{N} spent", rf"{N} make {N} {LOAD} (?:tcp|udp) {N}\.{N}\.{N}\.{N} {N} {N}\.{N}\.{N}\.{N} {N} {N}",
     rf"{N} identify {N}\.{N} [0-9a-f]{{2}}/[0-9a-f]{{8}}/[0-9a-f]{{8}}/[0-9a-f]{{4}}/[0-9a-f]{{4}}",
     *(re.sub(r"\?P<\w+>", "", pattern.pattern) for _, pattern in LISTINGS.values())]))
 
 
 def is_line(text: bytes) -> bool:
-    """Returns true if a line is a line of a report, by a simple pattern, and its numbers are in their ranges."""
+    """Returns true if a line is a line of a report, by a simple pattern, and its numbers are in their
+    ranges."""
     if not text.isascii() or not LINE.fullmatch(text.decode()):
         return False
     words = text.decode().split(" ")
@@ -144,7 +150,8 @@ def is_line(text: bytes) -> bool:
         address = [int(part) for word in (words[-5], words[-3]) for part in word.split(".")]
         if max(address) > 255 or max(int(words[-4]), int(words[-2]), int(words[-1])) > 65535:
             return False
-    pipe = words[3] if words[1] in ("arrive", "finish", "pass") else words[2] if words[1] == "identify" else "1.0"
+    pipe = (words[3] if words[1] in ("arrive", "finish", "pass") else words[2]
+            if words[1] == "identify" else "1.0")
     if [int(part) > most for part, most in zip(pipe.split("."), (65535, 255))] != [False, False]:
         return False
     has_packet = words[1] in ("make", "arrive", "finish", "pass", "deliver", "drop")
@@ -162,7 +169,8 @@ LINES = sorted({line for path in ALL for line in path.read_bytes().split(b"\n")
 @given(some.lists(some.sampled_from(LINES), min_size=1, max_size=30), some.data())
 @settings(max_examples=400, deadline=None)
 def test_changed_lines(lines: list[bytes], data) -> None:
-    """The reader in columns finds the first line that a simple pattern refuses, wherever a byte is changed."""
+    """The reader in columns finds the first line that a simple pattern refuses, wherever a byte is
+    changed."""
     lines = list(lines)
     for _ in range(data.draw(some.integers(0, 3))):
         place = data.draw(some.integers(0, len(lines) - 1))
@@ -185,7 +193,8 @@ def test_changed_lines(lines: list[bytes], data) -> None:
         if LOAD_OF[kind] >= 0:
             assert KINDS[LOAD_OF[kind]] == words[3]
         if words[1] in ("ack", "expire"):
-            assert [row["source"], row["number"], row["more"]] == [min(int(word), 2**32 - 1) for word in words[2:]]
+            assert [row["source"], row["number"],
+                    row["more"]] == [min(int(word), 2**32 - 1) for word in words[2:]]
         if words[1] in ("arrive", "finish", "pass"):
             assert f"{row['pipe']}.{row['instance']}" == words[3]
 

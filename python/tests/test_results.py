@@ -62,7 +62,8 @@ def test_other_tables() -> None:
     assert one.records().loc[1].word == "ok" and one.records().word.value_counts()["make"] == 8
     assert (one.counters.made, one.counters.delivered, one.ended) == (8, 8, ("end", 100000000, 100000000))
     drops = experiment("codel_one_drop").drops()
-    assert drops[["moment", "sender", "cause", "queue", "bytes"]].values.tolist() == [[112000000, "train 1", "codel", "1.0", 1000]]
+    assert drops[["moment", "sender", "cause", "queue",
+                  "bytes"]].values.tolist() == [[112000000, "train 1", "codel", "1.0", 1000]]
 
 
 def test_nothing_is_rounded() -> None:
@@ -74,7 +75,8 @@ def test_nothing_is_rounded() -> None:
 
 def test_read() -> None:
     report = dnlab.read(FOUR / "expected.txt", FOUR / "scenario.txt")
-    names = [line.split()[1] for line in (FOUR / "expected.txt").read_text().split("\n") if line.startswith("experiment")]
+    names = [line.split()[1]
+             for line in (FOUR / "expected.txt").read_text().split("\n") if line.startswith("experiment")]
     assert list(report) == names and len(report) == 4 and names[1] in report
     with pytest.raises(KeyError):
         report["none"]
@@ -114,22 +116,27 @@ def test_run_more_than_the_program_takes(program: str, monkeypatch: pytest.Monke
     report = dnlab.run(text)
     assert len(report) == 600 and report["e599"].counters.made == 0 and list(report)[300] == "e300"
     with pytest.raises(dnlab.ProgramError, match="line 2003: badword"):
-        dnlab.run(text.replace("experiment e500 seed 0 budget 10\n@0 show", "experiment e500 seed 0 budget 10\n@0 sho"))
+        dnlab.run(text.replace("experiment e500 seed 0 budget 10\n@0 show",
+                               "experiment e500 seed 0 budget 10\n@0 sho"))
 
 
 def test_intervals() -> None:
-    rows = pd.DataFrame({"varied": ["a", "a", "b", "b"], "p95": pd.array([1, 3, 5, None], "Int64"), "rate": [1, 1, 1, 3]})
+    rows = pd.DataFrame({"varied": ["a", "a", "b", "b"], "p95": pd.array([1, 3, 5, None], "Int64"),
+                         "rate": [1, 1, 1, 3]})
     found = dnlab.intervals(rows, "varied", "p95")
-    assert found.loc["a", "mean"] == 2 and found.loc["b", "n"] == 1 and np.isclose(found.loc["a", "ci95"], 12.7062)
+    assert (found.loc["a", "mean"] == 2 and found.loc["b", "n"] == 1
+            and np.isclose(found.loc["a", "ci95"], 12.7062))
     both = dnlab.intervals(rows, ["varied"], ["p95", "rate"])
     assert both.loc["b", ("rate", "mean")] == 2
 
 
 def test_without_numpy() -> None:
     """Missing packages are named, and functions that need none work. With -S Python has no packages."""
-    words = ("import dnlab, dnlab.io.scenario, dnlab.io.scenario_text\ntry:\n    dnlab.read\nexcept ModuleNotFoundError as fault:\n"
-             "    print(fault)")
-    done = subprocess.run([sys.executable, "-B", "-S", "-c", words], capture_output=True, text=True, check=False,
+    words = (
+        "import dnlab, dnlab.io.scenario, dnlab.io.scenario_text\ntry:\n    dnlab.read\nexcept "
+        "ModuleNotFoundError as fault:\n    print(fault)")
+    done = subprocess.run([sys.executable, "-B", "-S", "-c", words], capture_output=True, text=True,
+                          check=False,
                           env={**os.environ, "PYTHONPATH": str(ROOT / "python")})
     assert done.stdout == "numpy is missing (Debian: apt-get install python3-numpy)\n" and not done.stderr
 

@@ -1,4 +1,5 @@
-"""Rows of `dnlab alone --format npy`: tables calculated by hand, files that were cut or belong to another scenario, and the tools on them."""
+"""Rows of `dnlab alone --format npy`: tables calculated by hand, files that were cut or belong to another
+scenario, and the tools on them."""
 import gzip
 import io
 from pathlib import Path
@@ -30,7 +31,8 @@ def test_packets_by_hand() -> None:
     assert [table.names[who] for who in table.who] == ["train 1"] * 4 + ["injected"]
     assert table.made.tolist() == [0, 0, 0, 0, 5_000_000] and table.size.tolist() == [1000] * 5
     # Two are delivered, the fourth finds no room, and two are in flight at the end.
-    assert table.outcome.tolist() == [1, 1, 0, 6, 0] and table.ended.tolist() == [11_000_000, 12_000_000, -1, 0, -1]
+    assert (table.outcome.tolist() == [1, 1, 0, 6, 0]
+            and table.ended.tolist() == [11_000_000, 12_000_000, -1, 0, -1])
     assert view.visits.arrival.tolist() == [0, 0, 0, 0, 5_000_000]
     assert view.visits.finish.tolist() == [1_000_000, 2_000_000, 3_000_000, -1, 6_000_000]
     assert view.visits.exit.tolist() == [11_000_000, 12_000_000, -1, 0, -1]
@@ -41,12 +43,14 @@ def test_flows_by_hand() -> None:
     table = view.packets
     assert [table.names[who] for who in table.who] == [
         "flow 1", "flow 1", "flow 2", "flow 1 acks", "flow 1 acks", "flow 2", "flow 2 acks"]
-    assert table.number.tolist() == [0, 960, 0, 960, 1920, 0, 960] and table.retransmission.tolist() == [False] * 5 + [True, False]
+    assert (table.number.tolist() == [0, 960, 0, 960, 1920, 0, 960]
+            and table.retransmission.tolist() == [False] * 5 + [True, False])
 
 
 def test_two_trains_with_one_header() -> None:
     """Rows say which of them sent a packet; a text doesn't, and its note says so."""
-    text = (b"experiment a seed 1 budget 9\n@0 add 1 allow ip from any to any\n@0 train 1 udp 10.0.0.1 1 10.0.0.2 2 100 count 2 gap 5\n"
+    text = (b"experiment a seed 1 budget 9\n@0 add 1 allow ip from any to any\n@0 train 1 udp 10.0.0.1 1 "
+            b"10.0.0.2 2 100 count 2 gap 5\n"
             b"@3 train 2 udp 10.0.0.1 1 10.0.0.2 2 200 count 1 gap 0\n@99 end\n")
     view, = views_of(text)
     assert [view.packets.names[who] for who in view.packets.who] == ["train 1", "train 2", "train 1"]
@@ -62,7 +66,8 @@ def test_a_file_that_was_cut(data: bytes) -> None:
     for end in range(len(data)):
         with pytest.raises(RowError) as refused:
             opened(data[:end])
-        assert refused.value.line == max(0, (end - HEADER) // ROW.itemsize) and "cut" in refused.value.cause, end
+        assert refused.value.line == max(0,
+                                         (end - HEADER) // ROW.itemsize) and "cut" in refused.value.cause, end
     with pytest.raises(RowError, match=r"rows\[24\]: .* more bytes follow"):
         opened(data + b"\0")
 
@@ -70,9 +75,11 @@ def test_a_file_that_was_cut(data: bytes) -> None:
 def test_a_cut_file_is_named_by_the_tools(data: bytes, tmp_path: Path) -> None:
     (tmp_path / "r.npy").write_bytes(data[:-45])
     (tmp_path / "s.txt").write_bytes(TRAIN.scenario)
-    for name, more in (("summary", []), ("plot", ["--out", tmp_path / "p.svg"]), ("expect", ["all: drops = 0"])):
+    for name, more in (("summary", []), ("plot", ["--out", tmp_path / "p.svg"]),
+                       ("expect", ["all: drops = 0"])):
         status, out, err = tool(name, tmp_path / "r.npy", tmp_path / "s.txt", *more)
-        assert (status, out) == (2, "") and "r.npy: rows[22]: the file ends here, in the row" in err and len(err.splitlines()) == 1
+        assert ((status, out) == (2, "") and "r.npy: rows[22]: the file ends here, in the row" in err
+                and len(err.splitlines()) == 1)
 
 
 @pytest.mark.parametrize("change, said", [
@@ -92,12 +99,16 @@ def changed(data: bytes, row: int, column: str, value: int) -> bytes:
 
 
 @pytest.mark.parametrize("row, column, value, said", [
-    (-1, "kind", 21, r"rows\[23\]: the last row is not that of counters"), (5, "kind", 99, r"rows\[5\]: this kind of row is unknown"),
-    (-1, "packet", 6, r"rows\[23\]: the counters have 6 created packets"), (-1, "number", 3, r"rows\[23\]: the counters have 3 delivered"),
-    (3, "packet", 1, "not in order"), (22, "moment", 7, r"rows\[22\]: command 4 at 7, where line 6 of the scenario has 12500000"),
+    (-1, "kind", 21, r"rows\[23\]: the last row is not that of counters"),
+    (5, "kind", 99, r"rows\[5\]: this kind of row is unknown"),
+    (-1, "packet", 6, r"rows\[23\]: the counters have 6 created packets"),
+    (-1, "number", 3, r"rows\[23\]: the counters have 3 delivered"),
+    (3, "packet", 1, "not in order"),
+    (22, "moment", 7, r"rows\[22\]: command 4 at 7, where line 6 of the scenario has 12500000"),
     (3, "size", 999, r"rows\[3\]: the first of 4 packets of train 1 is created at 0 with 999 bytes"),
     (3, "source", 2, r"rows\[0\]: .* train 2, which the scenario doesn't start")])
-def test_rows_that_contradict(data: bytes, row: int, column: str, value: int, said: str, tmp_path: Path) -> None:
+def test_rows_that_contradict(data: bytes, row: int, column: str, value: int, said: str,
+                              tmp_path: Path) -> None:
     (tmp_path / "r.npy").write_bytes(changed(data, row, column, value))
     (tmp_path / "s.txt").write_bytes(TRAIN.scenario)
     with pytest.raises(dnlab.InputError, match=said):
@@ -107,7 +118,8 @@ def test_rows_that_contradict(data: bytes, row: int, column: str, value: int, sa
 def test_another_number_of_experiments(data: bytes, tmp_path: Path) -> None:
     (tmp_path / "r.npy").write_bytes(data)
     (tmp_path / "s.txt").write_bytes(TRAIN.scenario + FLOWS.scenario)
-    with pytest.raises(dnlab.InputError, match=r"rows\[24\]: the rows end after 1 experiments, but the scenario has 2"):
+    with pytest.raises(dnlab.InputError,
+                       match=r"rows\[24\]: the rows end after 1 experiments, but the scenario has 2"):
         dnlab.read(tmp_path / "r.npy", tmp_path / "s.txt")
 
 
@@ -135,17 +147,22 @@ def test_spread_joins_rows(tmp_path: Path) -> None:
 
 def test_a_run_in_parts(tmp_path: Path) -> None:
     """600 experiments are more than one call of the program takes; each has its own packet."""
-    text = "".join(f"experiment e{number} seed 0 budget 10\n@0 add 1 allow ip from any to any\n@{number} inject udp 10.0.0.1 1 10.0.0.2 2 100\n"
-                   "@999 end\n" for number in range(600))
+    text = "".join(
+        f"experiment e{number} seed 0 budget 10\n@0 add 1 allow ip from any to any\n@{number} inject udp "
+        "10.0.0.1 1 10.0.0.2 2 100\n@999 end\n" for number in range(600))
     report = dnlab.run(text, out=tmp_path / "r.npy")
-    assert [report[name].packets().made.tolist() for name in ("e0", "e255", "e256", "e599")] == [[0], [255], [256], [599]]
+    assert [report[name].packets().made.tolist()
+            for name in ("e0", "e255", "e256", "e599")] == [[0], [255], [256], [599]]
 
 
 def test_a_program_that_writes_a_text(tmp_path: Path, program: str) -> None:
     """A program that ignores --format is no answer without values."""
-    (tmp_path / "old").write_text(f'#!/bin/sh\nif [ "$1" = alone ]; then exec {program} alone; fi\nexec {program} "$@"\n')
+    (tmp_path / "old").write_text(
+        f'#!/bin/sh\nif [ "$1" = alone ]; then exec {program} alone; fi\nexec {program} "$@"\n')
     (tmp_path / "old").chmod(0o755)
-    (tmp_path / "t").write_text("experiment {{ name }} seed {{ seed }} budget 9\n@0 train 1 udp 10.0.0.1 1 10.0.0.2 2 100 count 1 gap 0\n@9 end\n")
+    (tmp_path / "t").write_text(
+        "experiment {{ name }} seed {{ seed }} budget 9\n@0 train 1 udp 10.0.0.1 1 10.0.0.2 2 100 count 1 "
+        "gap 0\n@9 end\n")
     status, out, err = tool("sweep", tmp_path / "t", "--seeds", "1", DNLAB=str(tmp_path / "old"))
     assert (status, out) == (3, "") and "must know --format npy" in err
 

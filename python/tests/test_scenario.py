@@ -29,7 +29,8 @@ def test_what_commands_tell() -> None:
     assert (plan.seed, plan.budget, plan.steps, plan.end()) == (2**64 - 1, 7, 10**6, 9)
     assert plan.settings() == "pipe 1 bw 1Mbit/s queue 5"
     assert [(one.line, one.moment, one.word) for one in plan.commands] == [
-        (3, 0, "pipe"), (4, 0, "add"), (5, 1, "flow"), (6, 2, "train"), (7, 3, "inject"), (8, 4, "stop"), (9, 9, "end")]
+        (3, 0, "pipe"), (4, 0, "add"), (5, 1, "flow"), (6, 2, "train"), (7, 3, "inject"), (8, 4, "stop"),
+        (9, 9, "end")]
     flow, train, injected = (one.sends for one in plan.commands[2:5])
     assert flow == Sends("flow", 3, 576, 9, 0, 536, 4000, 65535, "10.0.0.1", "10.0.0.2")
     assert train == Sends("train", 4, 100, 5, 6, source="10.0.0.1", target="10.0.0.3")
@@ -37,9 +38,10 @@ def test_what_commands_tell() -> None:
     assert plan.commands[5].stops == 3 and plan.commands[0].text == "pipe 1 config bw 1Mbit/s queue 5"
 
 
-FAULTS = [(b"@9 end\n", b"", 9, "noend"), (b"budget 7", b"budget 0", 1, "outofrange"), (b"@3", b"@1", 7, "backwards"),
-          (b"queue 5", b"queue 5 queue 6", 3, "badword"), (b"@9 end\n", b"@9 end", 9, "cut"),
-          (b"80-90", b"90-80", 4, "outofrange"), (b"udp", b"ip", 6, "badword"), (b"a comment", b"a\tcomment", 2, "badbyte")]
+FAULTS = [(b"@9 end\n", b"", 9, "noend"), (b"budget 7", b"budget 0", 1, "outofrange"),
+          (b"@3", b"@1", 7, "backwards"), (b"queue 5", b"queue 5 queue 6", 3, "badword"),
+          (b"@9 end\n", b"@9 end", 9, "cut"), (b"80-90", b"90-80", 4, "outofrange"),
+          (b"udp", b"ip", 6, "badword"), (b"a comment", b"a\tcomment", 2, "badbyte")]
 
 
 @pytest.mark.parametrize("old,new,line,cause", FAULTS, ids=[fault[3] + str(fault[2]) for fault in FAULTS])
@@ -61,7 +63,8 @@ def test_all_examples(program: str) -> None:
     for path in sorted(EXAMPLES.glob("*/scenario.txt")):
         fault = Judged(path.read_bytes()).fault
         stderr = path.parent / "stderr.txt"
-        assert (fault and f"line {fault[0]}: {fault[1]}\n") == (stderr.read_text() if stderr.exists() else None), path
+        assert (fault and f"line {fault[0]}: {fault[1]}\n") == (stderr.read_text() if stderr.exists()
+                                                                else None), path
 
 
 @pytest.mark.parametrize("name", [name for _, name, _ in pkgutil.walk_packages(dnlab.__path__, "dnlab.")

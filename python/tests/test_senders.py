@@ -1,5 +1,6 @@
-"""Closed-loop senders in a session, compared with the link's own Reno flow, which is proved, and with values calculated by hand
-from the RFCs. A session reacts to a packet 1 ns after its arrival, so a round trip takes 2 ns more than for the link's own flow."""
+"""Closed-loop senders in a session, compared with the link's own Reno flow, which is proved, and with values
+calculated by hand from the RFCs. A session reacts to a packet 1 ns after its arrival, so a round trip takes 2
+ns more than for the link's own flow."""
 from pathlib import Path
 from typing import Any, Callable, Optional
 
@@ -12,10 +13,12 @@ from dnlab.senders.flows import Ack, Flow, Segment
 
 MS, S = 10**6, 10**9
 COMMANDS = ("pipe 1 config bw {bw} delay 20 queue {queue} plr {plr}", "pipe 2 config delay 20",
-            "add 100 pipe 1 ip from 10.0.0.0/24 to 10.0.1.0/24", "add 200 pipe 2 ip from 10.0.1.0/24 to 10.0.0.0/24")
+            "add 100 pipe 1 ip from 10.0.0.0/24 to 10.0.1.0/24",
+            "add 200 pipe 2 ip from 10.0.1.0/24 to 10.0.0.0/24")
 
 
-def on_link(program: str, play: Callable[[Network], Any], seed: int = 1, steps: int = 10**6, **settings: Any) -> tuple[Network, Any]:
+def on_link(program: str, play: Callable[[Network], Any], seed: int = 1, steps: int = 10**6,
+            **settings: Any) -> tuple[Network, Any]:
     """Plays senders on their own link, until they end."""
     with dnlab.live(program) as session:
         link = session.experiment("x", seed=seed, budget=5000, steps=steps)
@@ -30,15 +33,19 @@ def on_link(program: str, play: Callable[[Network], Any], seed: int = 1, steps: 
 
 # ---- compared with the link's own flow
 
-@pytest.mark.parametrize("seed, queue, plr", [(1, 50, "0.01"), (2, 20, "0.05"), (3, 20, "0.05"), (1, 30, "0.2"), (6, 50, "0")])
+@pytest.mark.parametrize("seed, queue, plr",
+                         [(1, 50, "0.01"), (2, 20, "0.05"), (3, 20, "0.05"), (1, 30, "0.2"), (6, 50, "0")])
 def test_reno_is_the_link_s_own_flow(program: str, seed: int, queue: int, plr: str) -> None:
-    """The losses are the same, because they depend on the seed, and so are all windows, retransmissions, timeouts and the
-    completion. After 85 timeouts and 500 s the two differ by 300 ns, 2 ns for each round trip."""
-    _, flow = on_link(program, lambda network: network.flow(300 * 1460, Reno, ("10.0.0.1", 1000), limit=65535, record=True),
+    """The losses are the same, because they depend on the seed, and so are all windows, retransmissions,
+    timeouts and the completion. After 85 timeouts and 500 s the two differ by 300 ns, 2 ns for each round
+    trip."""
+    _, flow = on_link(program, lambda network: network.flow(300 * 1460, Reno, ("10.0.0.1", 1000), limit=65535,
+                                                            record=True),
                       seed, queue=queue, plr=plr)
     commands = "".join(f"@0 {command.format(bw='10Mbit/s', queue=queue, plr=plr)}\n" for command in COMMANDS)
-    own = dnlab.run(f"experiment x seed {seed} budget 5000\n{commands}@0 flow 1 10.0.0.1 1000 10.0.1.1 80 smss 1460 segments 300"
-                    f" rto adaptive ssthresh 1000000000\n@{1000 * S} end\n", dnlab=program)["x"]
+    own = dnlab.run(
+        f"experiment x seed {seed} budget 5000\n{commands}@0 flow 1 10.0.0.1 1000 10.0.1.1 80 smss 1460 "
+        f"segments 300 rto adaptive ssthresh 1000000000\n@{1000 * S} end\n", dnlab=program)["x"]
     rows, windows = own.summary(), own.windows()
     row = rows[rows.sender == "flow 1"].iloc[0]
     assert 0 <= flow.arrived - row.fct < 400
@@ -90,20 +97,24 @@ def ack(fake: Fake, flow: Flow, upto: int, times: int = 1) -> list[int]:
 
 
 def test_slow_start_and_fast_retransmit() -> None:
-    """RFC 5681: 4 segments at first, two for each acknowledgement. The third duplicate sends the missing segment again, and the
-    window is half of the 8 in flight plus 3; each further duplicate adds one."""
+    """RFC 5681: 4 segments at first, two for each acknowledgement. The third duplicate sends the missing
+    segment again, and the window is half of the 8 in flight plus 3; each further duplicate adds one."""
     fake, flow = begun(Reno)
     assert fake.sent() == [0, 1, 2, 3] and ack(fake, flow, 1) == [4, 5] and ack(fake, flow, 2) == [6, 7]
     assert ack(fake, flow, 3) == [8, 9] and ack(fake, flow, 4) == [10, 11]
-    assert ack(fake, flow, 4, 2) == [] and ack(fake, flow, 4) == [4] and (flow.window.cwnd, flow.window.ssthresh) == (4000, 4000)
-    # 8 segments are in flight and the window is 4 + 3: the next duplicates make it 8 and 9, and a ninth segment is sent.
+    assert (ack(fake, flow, 4, 2) == [] and ack(fake, flow, 4) == [4]
+            and (flow.window.cwnd, flow.window.ssthresh) == (4000, 4000))
+    # 8 segments are in flight and the window is 4 + 3: the next duplicates make it 8 and 9, and a ninth
+    # segment is sent.
     assert ack(fake, flow, 4) == [] and ack(fake, flow, 4) == [12]
-    # The missing segment has arrived: recovery ends with a window of 4, and 3 segments after 10 are in flight.
+    # The missing segment has arrived: recovery ends with a window of 4, and 3 segments after 10 are in
+    # flight.
     assert ack(fake, flow, 10) == [13] and flow.retransmissions == 1
 
 
 def test_reno_waits_where_newreno_sends() -> None:
-    """After two losses in a window, a partial acknowledgement ends Reno's recovery. With RFC 6582 it sends the next hole at once."""
+    """After two losses in a window, a partial acknowledgement ends Reno's recovery. With RFC 6582 it sends
+    the next hole at once."""
     fake, flow = begun(Reno)
     fake.sent()
     for upto in (1, 2, 3, 4):
@@ -111,15 +122,18 @@ def test_reno_waits_where_newreno_sends() -> None:
     assert ack(fake, flow, 4, 3) == [4] and ack(fake, flow, 6) == []
     fake, flow = begun(Cubic)
     assert fake.sent() == list(range(10)) and ack(fake, flow, 0, 3) == [0] and flow.window.cwnd == 7000
-    # 10 in flight, 7 + 3 allowed. The first 4 arrive: 4 less and 1 more, so 7 are allowed; 6 in flight, and the hole is sent again.
+    # 10 in flight, 7 + 3 allowed. The first 4 arrive: 4 less and 1 more, so 7 are allowed; 6 in flight, and
+    # the hole is sent again.
     assert ack(fake, flow, 4) == [4, 10] and flow.retransmissions == 2
-    # Everything sent before the loss has arrived: recovery ends with a window of 7, and one segment is in flight.
+    # Everything sent before the loss has arrived: recovery ends with a window of 7, and one segment is in
+    # flight.
     assert ack(fake, flow, 10) == [11, 12, 13, 14, 15, 16]
 
 
 def test_the_timer() -> None:
-    """RFC 6298: the timeout is a second at first, and remains so after a round trip of 1 ms; it doubles when it expires, and a
-    segment that was sent twice is not a sample. RFC 5681: then the window is one segment, and the threshold half of the flight."""
+    """RFC 6298: the timeout is a second at first, and remains so after a round trip of 1 ms; it doubles when
+    it expires, and a segment that was sent twice is not a sample. RFC 5681: then the window is one segment,
+    and the threshold half of the flight."""
     fake, flow = begun(Reno)
     assert fake.called == [(S, flow)]
     ack(fake, flow, 1)
@@ -127,7 +141,9 @@ def test_the_timer() -> None:
     fake.sent()
     fake.now = S + MS
     flow.woken()
-    assert fake.sent() == [1] and (flow.window.cwnd, flow.window.ssthresh, flow.timeouts, flow.timeout.value) == (1000, 2500, 1, 2 * S)
+    assert (fake.sent() == [1]
+            and (flow.window.cwnd, flow.window.ssthresh, flow.timeouts,
+                 flow.timeout.value) == (1000, 2500, 1, 2 * S))
     assert ack(fake, flow, 2) == [2, 3] and flow.timeout.value == 2 * S
     fake.now = 4 * S
     flow.woken()
@@ -138,7 +154,8 @@ def test_the_timer() -> None:
 
 
 def test_a_shorter_timer_isn_t_missed() -> None:
-    """After a timeout the timer is 2 s. A sample sets it back to 1 s, which is before the call that was requested."""
+    """After a timeout the timer is 2 s. A sample sets it back to 1 s, which is before the call that was
+    requested."""
     fake, flow = begun(Reno)
     fake.now = S
     flow.woken()
@@ -159,7 +176,8 @@ def test_the_receiver_keeps_what_came_early() -> None:
 
 
 def test_the_limit_and_the_last_bytes() -> None:
-    """The receiver's window of 2500 bytes allows two segments of 1000. The last segment has the remaining bytes."""
+    """The receiver's window of 2500 bytes allows two segments of 1000. The last segment has the remaining
+    bytes."""
     fake, flow = begun(Reno, limit=2500)
     assert fake.sent() == [0, 1]
     fake = Fake()
@@ -173,8 +191,8 @@ def test_the_limit_and_the_last_bytes() -> None:
 # ---- patterns
 
 def test_a_chain(program: str) -> None:
-    """The next transfer starts when the sender knows that the last one is done: 1000 bytes at 10 Mbit/s take 0.832 ms with
-    headers, 20 ms there and 20 back, each with a reaction 1 ns later; then 7 ms pass."""
+    """The next transfer starts when the sender knows that the last one is done: 1000 bytes at 10 Mbit/s take
+    0.832 ms with headers, 20 ms there and 20 back, each with a reaction 1 ns later; then 7 ms pass."""
     network, chain = on_link(program, lambda network: Chain(network, [1000, 1000, 3000], gap=7 * MS))
     one, two, three = chain.flows
     assert (one.begun, one.arrived, one.done) == (0, 20_832_001, 40_832_002)
@@ -190,17 +208,21 @@ def test_then_is_called_at_once_if_it_is_done(program: str) -> None:
 
 
 def test_requests(program: str) -> None:
-    """300 bytes there: 340 bytes at 10 Mbit/s take 0.272 ms, and 20 ms; 5 ms of work; 1000 bytes back through a pipe without a
-    rate, 20 ms. Each step takes 1 ns more. Then 2 ms of think time."""
-    network, asked = on_link(program, lambda network: Requests(network, 3, 300, 1000, work=5 * MS, think=2 * MS, begin=MS))
+    """300 bytes there: 340 bytes at 10 Mbit/s take 0.272 ms, and 20 ms; 5 ms of work; 1000 bytes back through
+    a pipe without a rate, 20 ms. Each step takes 1 ns more. Then 2 ms of think time."""
+    network, asked = on_link(program,
+                             lambda network: Requests(network, 3, 300, 1000, work=5 * MS, think=2 * MS,
+                                                      begin=MS))
     assert asked.times == [45_272_002] * 3 and len(network.flows) == 6
     assert network.flows[2].begun == MS + 45_272_002 + 2 * MS
 
 
 def test_users_of_a_web(program: str) -> None:
-    """Each user has an independent random stream: another window changes the times of the pages, and not the requests."""
+    """Each user has an independent random stream: another window changes the times of the pages, and not the
+    requests."""
     def play(window: Any) -> Callable[[Network], Web]:
-        return lambda network: Web(network, 5, lambda chance: chance.pareto(1.3, 3000), 200 * MS, 2 * S, seed=7, window=window)
+        return lambda network: Web(network, 5, lambda chance: chance.pareto(1.3, 3000), 200 * MS, 2 * S,
+                                   seed=7, window=window)
 
     one, web = on_link(program, play(Reno), queue=10)
     other, _ = on_link(program, play(Cubic), queue=10)
@@ -220,8 +242,10 @@ def test_users_of_a_web(program: str) -> None:
 
 
 def test_arrivals_are_a_poisson_process(program: str) -> None:
-    """Times and sizes alternate in one random stream, and the windows alternate too. A table has a row for each."""
-    network, made = on_link(program, lambda network: Arrivals(network, 300, 5 * MS, lambda chance: chance.whole(100, 9000),
+    """Times and sizes alternate in one random stream, and the windows alternate too. A table has a row for
+    each."""
+    network, made = on_link(program, lambda network: Arrivals(network, 300, 5 * MS,
+                                                              lambda chance: chance.whole(100, 9000),
                                                               seed=3, window=[Reno, Cubic]), bw="100Mbit/s")
     chance, moment, wanted = Chance(3), 0, []
     gap = chance.exponential(5 * MS)
@@ -230,9 +254,11 @@ def test_arrivals_are_a_poisson_process(program: str) -> None:
         gap = chance.exponential(5 * MS) if number < 299 else 0
         wanted.append(chance.whole(100, 9000))
     table = network.table()
-    assert table["bytes"].tolist() == wanted and table["window"].value_counts().to_dict() == {"Reno": 150, "Cubic": 150}
+    assert (table["bytes"].tolist() == wanted
+            and table["window"].value_counts().to_dict() == {"Reno": 150, "Cubic": 150})
     # The last one starts at the sum of the gaps, plus 1 ns for each time at which there is another packet.
-    assert abs(made.flows[-1].begun - moment) < 1000 and (table.fct > 20 * MS).all() and table.retransmissions.sum() == 0
+    assert (abs(made.flows[-1].begun - moment) < 1000 and (table.fct > 20 * MS).all()
+            and table.retransmissions.sum() == 0)
     goodput = table["bytes"].astype(float) * 8e9 / table.fct.astype(float)
     assert (abs(goodput - table.goodput.astype(float)) <= 1).all()
 
@@ -254,13 +280,15 @@ def test_a_window_of_one_s_own(program: str) -> None:
 
     network, flow = on_link(program, lambda network: network.flow(30 * 1460, Fixed))
     # Ten round trips of three segments each: 1.2 ms per segment, 20 ms there and back.
-    assert network.rows()[0]["window"] == "Fixed" and 10 * 41_200_000 - 21 * MS < flow.arrived < 10 * 41_200_000 + 4 * MS
+    assert (network.rows()[0]["window"] == "Fixed"
+            and 10 * 41_200_000 - 21 * MS < flow.arrived < 10 * 41_200_000 + 4 * MS)
 
 
 # ---- lost retransmissions
 
 def lost_twice(program: str, window: Any, **more: Any) -> tuple[Flow, int]:
-    """Runs a flow that loses a segment and its first retransmission. Returns the flow and the maximum number of bytes in flight."""
+    """Runs a flow that loses a segment and its first retransmission. Returns the flow and the maximum number
+    of bytes in flight."""
     flights: list[int] = []
     lost = [0]
 
@@ -284,16 +312,18 @@ def lost_twice(program: str, window: Any, **more: Any) -> tuple[Flow, int]:
 
 
 def test_a_lost_retransmission(program: str) -> None:
-    """By the letter of RFC 5681, each duplicate sends another segment until the timer expires after a second or more, in which 10 Mbit/s
-    carry 1.2 MB. The default limit prevents that."""
+    """By the letter of RFC 5681, each duplicate sends another segment until the timer expires after a second
+    or more, in which 10 Mbit/s carry 1.2 MB. The default limit prevents that."""
     _, without = lost_twice(program, Reno, limit=None)
     _, usual = lost_twice(program, Reno)
     assert usual <= 262144 < 10**6 < without
 
 
 def test_new_reno_needs_fewer_timeouts(program: str) -> None:
-    """If several segments of a window are lost, RFC 6582 sends them again one by one, and RFC 5681 waits for the timer."""
-    timeouts = {window: sum(on_link(program, lambda network: network.flow(600_000, window), seed, plr="0.03")[1].timeouts for seed in range(1, 6))
+    """If several segments of a window are lost, RFC 6582 sends them again one by one, and RFC 5681 waits for
+    the timer."""
+    timeouts = {window: sum(on_link(program, lambda network: network.flow(600_000, window), seed,
+                                    plr="0.03")[1].timeouts for seed in range(1, 6))
                 for window in (Reno, NewReno)}
     assert timeouts[NewReno] < timeouts[Reno]
 

@@ -46,7 +46,8 @@ def test_a_packet_comes_when_it_should(link: dnlab.Link, alone: Alone) -> None:
     assert link.end(200 * MS) == []
     assert link.counters == (2, 2, 0, 0, 0, 0, 0, 0, 0, 0, 0)
     assert link.transcript().splitlines()[-3:] == [
-        "@0 inject udp 10.0.0.1 1000 10.0.1.1 80 1000", f"@{18 * MS + 1} inject udp 10.0.1.1 80 10.0.0.1 1000 40",
+        "@0 inject udp 10.0.0.1 1000 10.0.1.1 80 1000",
+        f"@{18 * MS + 1} inject udp 10.0.1.1 80 10.0.0.1 1000 40",
         f"@{200 * MS} end"]
     assert alone(link.transcript().encode()) == link.report()
 
@@ -71,7 +72,8 @@ def test_drops_at_once_are_told_with_their_packets(link: dnlab.Link) -> None:
     packets = [link.send(CLIENT, SERVER, 1000, payload=number) for number in range(4)]
     events = link.until(100 * MS)
     # One packet is in service and two wait; the fourth finds no room.
-    assert [(it.packet, it.cause) for it in events] == [(packets[3], "full"), (packets[0], ""), (packets[1], ""), (packets[2], "")]
+    assert [(it.packet, it.cause) for it in events] == [(packets[3], "full"), (packets[0], ""),
+                                                        (packets[1], ""), (packets[2], "")]
     assert [it.moment for it in events] == [0, 18 * MS, 26 * MS, 34 * MS]
 
 
@@ -128,9 +130,11 @@ def test_faults_have_their_cause_and_line(session: dnlab.Session, link: dnlab.Li
     with pytest.raises(dnlab.LineRejectedError, match="badword"):
         session.experiment("By hand")
     link.until(5)
-    for call in (lambda: link.until(4), lambda: link.send(CLIENT, SERVER, 40, at=4), lambda: link.until(10**15 + 1),
+    for call in (lambda: link.until(4), lambda: link.send(CLIENT, SERVER, 40, at=4),
+                 lambda: link.until(10**15 + 1),
                  lambda: link.send(CLIENT, SERVER, 39), lambda: link.send(CLIENT, SERVER, 1501),
-                 lambda: link.send(("10.0.0.256", 1), SERVER, 40), lambda: link.send(CLIENT, ("10.0.0.1", 65536), 40),
+                 lambda: link.send(("10.0.0.256", 1), SERVER, 40),
+                 lambda: link.send(CLIENT, ("10.0.0.1", 65536), 40),
                  lambda: link.send(CLIENT, SERVER, 40, protocol="icmp")):
         with pytest.raises(ValueError):
             call()
@@ -269,7 +273,8 @@ def test_no_program_and_one_that_dies(program: str, tmp_path: Path) -> None:
     old = tmp_path / "old"
     old.write_text("#!/bin/sh\necho 'dnlab: no such command' >&2\nexit 2\n")
     old.chmod(0o755)
-    with pytest.raises(dnlab.ProgramError, match="no such command") as failed, dnlab.live(str(old)) as session:
+    with pytest.raises(dnlab.ProgramError,
+                       match="no such command") as failed, dnlab.live(str(old)) as session:
         session.experiment("a")
     assert failed.value.status == 2
 
@@ -312,7 +317,8 @@ with dnlab.live() as session:
 
 @pytest.mark.parametrize("number", [signal.SIGINT, signal.SIGTERM, signal.SIGKILL])
 def test_a_session_ends_with_its_caller(program: str, number: signal.Signals) -> None:
-    going = subprocess.Popen([sys.executable, "-c", LONG], stdout=subprocess.PIPE, stderr=subprocess.PIPE, text=True,
+    going = subprocess.Popen([sys.executable, "-c", LONG], stdout=subprocess.PIPE, stderr=subprocess.PIPE,
+                             text=True,
                              env={**os.environ, "PYTHONPATH": str(ROOT / "python"), "DNLAB": program})
     assert going.stdout is not None
     pid = int(going.stdout.readline())

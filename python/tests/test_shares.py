@@ -1,7 +1,7 @@
 """Panels of throughput, CDFs and boxes, spans of time and overlays, compared with values calculated by hand.
 
-Of `reno_four_segments` the four segments of 1500 bytes are delivered at 11.2, 12.4, 13.6 and 32.4 ms, so long after they
-were made: 11.2, 12.4, 13.6 and 11.2 ms; the acknowledgements of 40 bytes take 10 ms each.
+Of `reno_four_segments` the four segments of 1500 bytes are delivered at 11.2, 12.4, 13.6 and 32.4 ms, so long
+after they were made: 11.2, 12.4, 13.6 and 11.2 ms; the acknowledgements of 40 bytes take 10 ms each.
 """
 from pathlib import Path
 
@@ -33,7 +33,8 @@ def test_throughput() -> None:
     # Acknowledgements at 21.2, 22.4, 23.6 and 42.4 ms.
     assert lines["flow 1 acks"] == [(0, 0), (10, 0), (20, 0.096), (30, 0), (40, 0.032), (50, 0.032)]
     # The last line is at 42.4 ms. For only four packets there are at least 10 intervals, of 2 ms.
-    assert panel_of(view_of("reno_four_segments"), "throughput").title.startswith("Throughput in intervals of 2 ms")
+    assert panel_of(view_of("reno_four_segments"),
+                    "throughput").title.startswith("Throughput in intervals of 2 ms")
 
 
 def test_shares() -> None:
@@ -46,7 +47,8 @@ def test_shares() -> None:
 
 
 def test_boxes() -> None:
-    """By the nearest rank of four, the 5th and 25th percentiles are the first, the 50th the second, and the 75th the third."""
+    """By the nearest rank of four, the 5th and 25th percentiles are the first, the 50th the second, and the
+    75th the third."""
     marks = [x for x, _ in drawn("box:sojourn")["flow 1"]]
     assert marks == [11.2, 11.2, 11.2, 11.2, 12.4, 13.6, 13.6]
     assert [x for x, _ in drawn("box:throughput", every=10 * MS)["flow 1"]] == [0, 0, 0, 0, 1.2, 3.6, 3.6]
@@ -55,13 +57,16 @@ def test_boxes() -> None:
 def test_a_span_of_time() -> None:
     assert drawn("sojourn", Span(12 * MS, 33 * MS))["flow 1"] == [(12.4, 12.4), (13.6, 13.6), (32.4, 11.2)]
     # The window is 4380 bytes at 12 ms, and 8760 bytes from 23.6 ms to 33 ms.
-    assert drawn("window", Span(12 * MS, 33 * MS))["cwnd 1"] == [(12, 4380), (21.2, 5840), (22.4, 7300), (23.6, 8760), (33, 8760)]
-    assert drawn("delivered", Span(12 * MS, 14 * MS))["flow 1"] == [(12, 1500), (12.4, 3000), (13.6, 4500), (14, 4500)]
+    assert drawn("window", Span(12 * MS, 33 * MS))["cwnd 1"] == [(12, 4380), (21.2, 5840), (22.4, 7300),
+                                                                 (23.6, 8760), (33, 8760)]
+    assert drawn("delivered",
+                 Span(12 * MS, 14 * MS))["flow 1"] == [(12, 1500), (12.4, 3000), (13.6, 4500), (14, 4500)]
     panel = panel_of(view_of("reno_four_segments"), "sojourn", Span(50 * MS))
     assert not panel.series and panel.words == "no events in this time range"
 
 
-@given(some.lists(some.tuples(some.integers(0, 5), some.integers(0, 9)), min_size=1, max_size=12), some.integers(0, 40),
+@given(some.lists(some.tuples(some.integers(0, 5), some.integers(0, 9)), min_size=1, max_size=12),
+       some.integers(0, 40),
        some.integers(1, 40))
 def test_steps_hold_what_they_held(steps: list[tuple[int, int]], begin: int, length: int) -> None:
     """Within the span the value at each time is that of the whole series."""
@@ -91,8 +96,10 @@ def line(label: str, count: int, form: str = "steps") -> Series:
 
 
 def test_acknowledgements_are_left_out_first() -> None:
-    """Two of ten lines are left out: those of acknowledgements, although the data's lines have fewer changes."""
-    lines = [line(f"flow {number}{more}", count) for number in range(5) for more, count in (("", 3 + number), (" acks", 90))]
+    """Two of ten lines are left out: those of acknowledgements, although the data's lines have fewer
+    changes."""
+    lines = [line(f"flow {number}{more}", count) for number in range(5)
+             for more, count in (("", 3 + number), (" acks", 90))]
     assert [one.label for one in fewest(lines)] == [
         "flow 0", "flow 0 acks", "flow 1", "flow 1 acks", "flow 2", "flow 2 acks", "flow 3", "flow 4"]
     assert [one.label for one in fewest([line(f"flow {number}", number) for number in range(1, 11)])] == [
@@ -103,7 +110,8 @@ def test_overlaid() -> None:
     panels = [[Panel("T", "ms", [line("flow 1", 3), line("loss", 2, "marks")], top=5.0)],
               [Panel("T", "ms", [line("flow 1", 4)], top=7.0)]]
     made, notes = overlaid(["a", "b"], panels)
-    assert [one.label for one in made[0].series] == ["a: flow 1", "b: flow 1", "a: loss"] and made[0].top == 7 and not notes
+    assert ([one.label for one in made[0].series] == ["a: flow 1", "b: flow 1", "a: loss"]
+            and made[0].top == 7 and not notes)
     made, notes = overlaid(list("abcdefghij"), [[Panel("T", "ms", [line("flow 1", 3)])]] * 10)
     assert len(made[0].series) == 8 and "10 lines" in notes[0][1].text
     boxes = [[Panel("T", "ms", [line("flow 1", 7, "box")])]]
@@ -115,14 +123,17 @@ def test_overlaid() -> None:
 def test_axes() -> None:
     from dnlab.plot import pictures
     view, span = view_of("reno_four_segments"), Span(10 * MS, 30 * MS)
-    panels = [panel_of(view, what, span, 10 * MS, acks=True) for what in ("cdf:sojourn", "box:sojourn", "throughput", "window")]
+    panels = [panel_of(view, what, span, 10 * MS, acks=True)
+              for what in ("cdf:sojourn", "box:sojourn", "throughput", "window")]
     shares, boxes, throughput, window = pictures.figure_of_panels(["x"], [panels], span).axes
-    assert (shares.get_xlabel(), shares.get_ylabel(), shares.get_ylim()) == ("One-way delay (ms)", "Fraction of packets", (0, 1))
+    assert (shares.get_xlabel(), shares.get_ylabel(),
+            shares.get_ylim()) == ("One-way delay (ms)", "Fraction of packets", (0, 1))
     assert [text.get_text() for text in boxes.get_xticklabels()] == ["flow 1", "flow 1 acks"]
     assert boxes.get_ylabel() == "One-way delay (ms)"
     # Delivered in this span: 11.2, 12.4, 13.6 ms. The box is from the first to the third.
     assert sorted({float(y) for y in boxes.get_lines()[0].get_ydata()}) == [11.2, 13.6]
-    assert throughput.get_ylabel() == "Throughput (Mbit/s)" and throughput.get_xlim() == window.get_xlim() == (10, 30)
+    assert (throughput.get_ylabel() == "Throughput (Mbit/s)"
+            and throughput.get_xlim() == window.get_xlim() == (10, 30))
     assert window.get_xlabel() == "Time (ms)"
 
 
@@ -138,7 +149,8 @@ def test_senders_are_chosen(tmp_path: Path) -> None:
 
 
 def report_of(count: int) -> bytes:
-    return b"".join(b"experiment e%d\n0 ok 0\ncounters 0 0 0 0 0 0 0 0 0 0 0\n" % number for number in range(count))
+    return b"".join(b"experiment e%d\n0 ok 0\ncounters 0 0 0 0 0 0 0 0 0 0 0\n" % number
+                    for number in range(count))
 
 
 def test_too_many_side_by_side(tmp_path: Path) -> None:
@@ -159,8 +171,10 @@ def test_too_many_side_by_side(tmp_path: Path) -> None:
     assert tool("plot", tmp_path / "report", "--overlay", *words)[0] == 0
 
 
-@pytest.mark.parametrize("words", [["--from", "2s", "--to", "1s"], ["--from", "5"], ["--to", "0"], ["--bin", "1ms"],
-                                   ["--what", "cdf"], ["--what", "box:window"], ["--bin", "0s", "--what", "throughput"]],
+@pytest.mark.parametrize("words",
+                         [["--from", "2s", "--to", "1s"], ["--from", "5"], ["--to", "0"], ["--bin", "1ms"],
+                                   ["--what", "cdf"], ["--what", "box:window"],
+                          ["--bin", "0s", "--what", "throughput"]],
                          ids=" ".join)
 def test_wrong_words(words: list[str], tmp_path: Path) -> None:
     (tmp_path / "report").write_bytes(report_of(1))

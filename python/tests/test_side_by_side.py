@@ -30,14 +30,16 @@ def piece(name: str, script: str, needs: str = "", after: tuple[str, ...] = ()) 
 
 def begun(*some: tuple[Any, ...]) -> "subprocess.Popen[str]":
     call = CALL.format(gate=str(GATE), common=str(ROOT / "tools" / "common"), some=some)
-    return subprocess.Popen([sys.executable, "-B", "-c", call], stdin=subprocess.DEVNULL, stdout=subprocess.PIPE, stderr=subprocess.STDOUT, text=True)
+    return subprocess.Popen([sys.executable, "-B", "-c", call], stdin=subprocess.DEVNULL,
+                            stdout=subprocess.PIPE, stderr=subprocess.STDOUT, text=True)
 
 
 def ran(*some: tuple[Any, ...]) -> tuple[int, list[str]]:
     """Returns the status and the output, with S for each number of seconds."""
     process = begun(*some)
     said = process.communicate(timeout=60)[0]
-    return process.returncode, [re.sub(r", \d+ s \(\d+ s of the processor\)$", ", S s", line) for line in said.splitlines()]
+    return process.returncode, [re.sub(r", \d+ s \(\d+ s of the processor\)$", ", S s", line)
+                                for line in said.splitlines()]
 
 
 @pytest.mark.parametrize("script, how, passed", [
@@ -56,10 +58,13 @@ def test_none_that_ran_is_no_success() -> None:
     assert status == 1 and said[-1] == "0 passed, 0 failed, 1 skipped"
 
 
-@pytest.mark.parametrize("made, status, last", [("echo /made/it", 0, "1 passed, 0 failed"), ("exit 3", 1, "0 passed, 1 failed, 1 skipped")])
+@pytest.mark.parametrize("made, status, last", [("echo /made/it", 0, "1 passed, 0 failed"),
+                                                ("exit 3", 1, "0 passed, 1 failed, 1 skipped")])
 def test_what_waits_for_a_program(made: str, status: int, last: str) -> None:
-    """The piece has the program in $DNLAB. If the program can't be built, the piece doesn't run, which is not a success."""
-    got, said = ran(piece("user", '[ "$DNLAB" = /made/it ] && echo 1 passed, 0 failed', after=("the checked build",)), piece("the checked build", made))
+    """The piece has the program in $DNLAB. If the program can't be built, the piece doesn't run, which is not
+    a success."""
+    got, said = ran(piece("user", '[ "$DNLAB" = /made/it ] && echo 1 passed, 0 failed',
+                          after=("the checked build",)), piece("the checked build", made))
     assert (got, said[-1]) == (status, last)
 
 
@@ -78,7 +83,8 @@ def test_ctrl_c_ends_what_runs(tmp_path: Path) -> None:
 def test_each_piece_is_there() -> None:
     """Each name in a list can be called, and no name occurs twice."""
     for words in (["seen"], ["quick"], ["whole", "/bin/true"]):
-        said = subprocess.run([GATE / "side_by_side", *words, "--list"], capture_output=True, text=True, check=True).stdout.splitlines()
+        said = subprocess.run([GATE / "side_by_side", *words, "--list"], capture_output=True, text=True,
+                              check=True).stdout.splitlines()
         names = [line.partition(": ")[0] for line in said]
         assert len(set(names)) == len(names) > 5
         assert all((ROOT / name).is_file() for name in names if not name.startswith("the "))

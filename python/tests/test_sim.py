@@ -1,5 +1,5 @@
-"""asyncio in simulated time: times calculated by hand, operations that an operating system refuses, and third-party programs
-with loss, which have the same transcript twice."""
+"""asyncio in simulated time: times calculated by hand, operations that an operating system refuses, and
+third-party programs with loss, which have the same transcript twice."""
 import asyncio
 import errno
 import random
@@ -17,7 +17,8 @@ Alone = Callable[[bytes], bytes]
 
 @pytest.fixture
 def link(program: str) -> Iterator[dnlab.Link]:
-    """Returns a link of 1 Mbit/s and 10 ms for all packets: 97 bytes with headers of 28 bytes take 1 ms and 10 ms."""
+    """Returns a link of 1 Mbit/s and 10 ms for all packets: 97 bytes with headers of 28 bytes take 1 ms and
+    10 ms."""
     with dnlab.live(program) as session:
         opened = session.experiment("loop", seed=1)
         opened.command("pipe 1 config bw 1Mbit/s delay 10")
@@ -49,7 +50,8 @@ class Told(asyncio.DatagramProtocol):
 
 async def endpoint(link: dnlab.Link, local: Any = None, remote: Any = None, answers: bool = False) -> Told:
     loop = asyncio.get_running_loop()
-    _, protocol = await loop.create_datagram_endpoint(lambda: Told(link, answers), local_addr=local, remote_addr=remote)
+    _, protocol = await loop.create_datagram_endpoint(lambda: Told(link, answers), local_addr=local,
+                                                      remote_addr=remote)
     return protocol
 
 
@@ -149,7 +151,9 @@ def test_deadlocks_are_said(link: dnlab.Link) -> None:
     async def waits() -> None:
         await asyncio.get_running_loop().create_future()
 
-    with pytest.raises(sim.DeadlockError, match=r"nothing is due at 0 ns.*waits in test_deadlocks_are_said.<locals>.waits \(.*test_sim.py:\d+\)"):
+    with pytest.raises(sim.DeadlockError,
+                       match=r"nothing is due at 0 ns.*waits in test_deadlocks_are_said.<locals>.waits "
+                             r"\(.*test_sim.py:\d+\)"):
         sim.run(waits(), link=link)
 
     async def spins() -> None:
@@ -171,7 +175,8 @@ def test_spent_steps_are_said(program: str) -> None:
         link.end()
 
 
-def twice(program: str, alone: Alone, main: Callable[[dnlab.Link], Awaitable[Any]], plr: str) -> tuple[str, Any]:
+def twice(program: str, alone: Alone, main: Callable[[dnlab.Link], Awaitable[Any]],
+          plr: str) -> tuple[str, Any]:
     """Runs a program twice over a link with loss. Returns the transcript and the result."""
     runs = []
     for _ in range(2):
@@ -190,7 +195,8 @@ def twice(program: str, alone: Alone, main: Callable[[dnlab.Link], Awaitable[Any
 
 
 def test_queries_of_dnspython(program: str, alone: Alone) -> None:
-    """Thirty queries, each repeated after 2 s, as dns.asyncresolver does, to a server that gives every query the same answer."""
+    """Thirty queries, each repeated after 2 s, as dns.asyncresolver does, to a server that gives every query
+    the same answer."""
     pytest.importorskip("dns.asyncresolver", reason="dnspython is missing (Debian: python3-dnspython)")
     import dns.asyncresolver
     import dns.message
@@ -222,7 +228,8 @@ def test_queries_of_dnspython(program: str, alone: Alone) -> None:
 
     transcript, answers = twice(program, alone, main, "0.2")
     assert {address for address, _ in answers} == {"192.0.2.7"}
-    # n0.example. is a query of 28 bytes and an answer of 44: with 28 each 0.448 and 0.576 ms, and 10 ms each way.
+    # n0.example. is a query of 28 bytes and an answer of 44: with 28 each 0.448 and 0.576 ms, and 10 ms each
+    # way.
     shortest = 448_000 + 576_000 + 20_000_000 + 2
     assert min(took for _, took in answers) == shortest
     # A query that was lost waited for 2 s.

@@ -11,19 +11,22 @@ TOOL = ROOT / "tools" / "beside" / "speed"
 
 
 def speed(*words: str) -> "subprocess.CompletedProcess[str]":
-    return subprocess.run([str(TOOL), *words, "--small", "--times", "2"], capture_output=True, text=True, timeout=300, check=False)
+    return subprocess.run([str(TOOL), *words, "--small", "--times", "2"], capture_output=True, text=True,
+                          timeout=300, check=False)
 
 
 def stub(folder: Path, version: str, body: str) -> str:
     """Returns a program that prints this version, and otherwise runs a shell command."""
     path = folder / "stub"
-    path.write_text(f"#!/bin/sh\nif [ \"$1\" = --version ]; then echo '{version}'; exit; fi\ncat > /dev/null\n{body}\n")
+    path.write_text(
+        f"#!/bin/sh\nif [ \"$1\" = --version ]; then echo '{version}'; exit; fi\ncat > /dev/null\n{body}\n")
     path.chmod(0o755)
     return str(path)
 
 
 def rows(text: str) -> list[list[str]]:
-    return [[cell.strip() for cell in line.strip("|").split("|")] for line in text.splitlines() if line.startswith("| ")]
+    return [[cell.strip() for cell in line.strip("|").split("|")]
+            for line in text.splitlines() if line.startswith("| ")]
 
 
 def test_both_tables(program: str) -> None:
@@ -36,13 +39,15 @@ def test_both_tables(program: str) -> None:
 
 
 # The checksums of the texts with which the numbers in docs/reports/BENCH.md were measured.
-SUMS = {"b1": "a0010c75c54d0e0e", "b2": "9de9063e63d6ccaa", "b3": "bc0208fec29a48e0", "b4": "517a1dfa16c415dd",
-        "b5": "ac7f89a63cc45adc", "b6": "9466bb30ee6d5934", "b7": "b9fdc999b5cc7153"}
+SUMS = {"b1": "a0010c75c54d0e0e", "b2": "9de9063e63d6ccaa", "b3": "bc0208fec29a48e0",
+        "b4": "517a1dfa16c415dd", "b5": "ac7f89a63cc45adc", "b6": "9466bb30ee6d5934",
+        "b7": "b9fdc999b5cc7153"}
 
 
 def test_texts(tmp_path: Path) -> None:
     subprocess.run([str(TOOL), "--texts", str(tmp_path)], check=True, timeout=300)
-    assert {file.stem: hashlib.sha256(file.read_bytes()).hexdigest()[:16] for file in tmp_path.glob("b*.txt")} == SUMS
+    assert {file.stem: hashlib.sha256(file.read_bytes()).hexdigest()[:16]
+            for file in tmp_path.glob("b*.txt")} == SUMS
 
 
 def test_a_program_that_is_not_proved(tmp_path: Path) -> None:
@@ -63,7 +68,8 @@ def test_a_run_that_fails(tmp_path: Path) -> None:
 def test_its_end_by_sigint(tmp_path: Path) -> None:
     # A run that would continue: the tool ends it, and itself, within two seconds.
     words = ["/bin/sh", "-c", "trap - INT; exec \"$0\" \"$@\"", str(TOOL),
-             stub(tmp_path, "dnlab 9 (commit abc, proved by kit)", f"touch {tmp_path}/begun; exec sleep 60"), "--small"]
+             stub(tmp_path, "dnlab 9 (commit abc, proved by kit)", f"touch {tmp_path}/begun; exec sleep 60"),
+             "--small"]
     child = subprocess.Popen(words, stdout=subprocess.DEVNULL, stderr=subprocess.PIPE, text=True,
                              preexec_fn=lambda: signal.signal(signal.SIGINT, signal.default_int_handler))
     until = time.monotonic() + 20

@@ -1,4 +1,5 @@
-"""Standard streams that are closed or full, full disks, and names with control characters: status 3 and the file's name."""
+"""Standard streams that are closed or full, full disks, and names with control characters: status 3 and the
+file's name."""
 import os
 import pty
 import resource
@@ -14,31 +15,37 @@ TABLE = "seconds,size\n0,100\n0.1,100\n"
 
 
 @pytest.fixture
-def report(tmp_path: Path, alone: Callable[[bytes], bytes], program: str, monkeypatch: pytest.MonkeyPatch) -> list[str]:
+def report(tmp_path: Path, alone: Callable[[bytes], bytes], program: str,
+           monkeypatch: pytest.MonkeyPatch) -> list[str]:
     """Returns the arguments for a report and its scenario."""
     monkeypatch.setenv("DNLAB", program)
     scenario = tmp_path / "scenario.txt"
     text = (ROOT / "cookbook/bufferbloat/scenario.txt").read_text()
-    scenario.write_text("".join(f"{line}@0 trace 1\n" if line.startswith("experiment") else line for line in text.splitlines(True)))
+    scenario.write_text("".join(f"{line}@0 trace 1\n" if line.startswith("experiment") else line
+                                for line in text.splitlines(True)))
     (tmp_path / "report.txt").write_bytes(alone(scenario.read_bytes()))
     return [str(tmp_path / "report.txt"), str(scenario)]
 
 
 def through(shell: str, name: str, *words: str) -> "subprocess.CompletedProcess[str]":
     """Runs a tool from a shell that closes or redirects its streams."""
-    return subprocess.run(["sh", "-c", f'exec "$@" {shell}', "", str(ROOT / "tools" / name), *words], capture_output=True, text=True, timeout=120,
-                          stdin=subprocess.DEVNULL, check=False)
+    return subprocess.run(["sh", "-c", f'exec "$@" {shell}', "", str(ROOT / "tools" / name), *words],
+                          capture_output=True, text=True, timeout=120, stdin=subprocess.DEVNULL, check=False)
 
 
 @pytest.mark.parametrize("shell", [">&-", ">/dev/full"])
 def test_standard_output_that_takes_nothing(shell: str, report: list[str], tmp_path: Path) -> None:
     table = tmp_path / "t.csv"
     table.write_text(TABLE)
-    for name, words in (("summary", report), ("summary", [*report, "--csv"]), ("compare", [report[0], report[0], report[1]]),
-                        ("expect", [*report, "codel/train 2: loss < 1%"]), ("pcap", [*report, "--experiment", "codel", "--out", "-"]),
-                        ("to-ipfw", [report[1], "--experiment", "codel", "--host"]), ("replay", [str(table), *LINK, "--out", "-"])):
+    for name, words in (("summary", report), ("summary", [*report, "--csv"]),
+                        ("compare", [report[0], report[0], report[1]]),
+                        ("expect", [*report, "codel/train 2: loss < 1%"]),
+                        ("pcap", [*report, "--experiment", "codel", "--out", "-"]),
+                        ("to-ipfw", [report[1], "--experiment", "codel", "--host"]),
+                        ("replay", [str(table), *LINK, "--out", "-"])):
         done = through(shell, name, *words)
-        assert done.returncode == 3 and "Traceback" not in done.stderr and done.stderr.count("\n") <= 1, (name, done)
+        assert done.returncode == 3 and "Traceback" not in done.stderr and done.stderr.count("\n") <= 1, (
+            name, done)
         assert "standard output: " in done.stderr, (name, done)
 
 
@@ -58,13 +65,16 @@ def test_a_disk_without_room(report: list[str], tmp_path: Path) -> None:
     table, out = tmp_path / "t.csv", tmp_path / "out"
     table.write_text(TABLE)
     words = {"plot": [*report, "--out", f"{out}.svg"], "view": [*report, "--out", f"{out}.html"],
-             "pcap": [*report, "--experiment", "codel", "--out", f"{out}.pcap"], "replay": [str(table), *LINK, "--out", f"{out}.csv"],
+             "pcap": [*report, "--experiment", "codel", "--out", f"{out}.pcap"],
+             "replay": [str(table), *LINK, "--out", f"{out}.csv"],
              "spread": [report[1], "--parts", "1", "--out", f"{out}.txt", "--work", str(tmp_path / "w")],
              "to-ipfw": [report[1], "--experiment", "codel", "--host", "--out", f"{out}.sh"]}
     for name, given in words.items():
-        done = subprocess.run([ROOT / "tools" / name, *given], capture_output=True, text=True, timeout=120, check=False,
+        done = subprocess.run([ROOT / "tools" / name, *given], capture_output=True, text=True, timeout=120,
+                              check=False,
                               preexec_fn=lambda: resource.setrlimit(resource.RLIMIT_FSIZE, (10, 10)))
-        assert done.returncode == 3 and "Traceback" not in done.stderr and f": {tmp_path.parts[0]}" in done.stderr, (name, done)
+        assert done.returncode == 3 and "Traceback" not in done.stderr, (name, done)
+        assert f": {tmp_path.parts[0]}" in done.stderr, (name, done)
     assert not [one for one in tmp_path.iterdir() if one.name.startswith("out")]
 
 
@@ -78,23 +88,30 @@ def test_a_kept_file_without_room(tmp_path: Path, program: str) -> None:
     try:
         (disk / "filled").write_bytes(b"x" * 4096)
         template = tmp_path / "t.tmpl"
-        template.write_text("experiment {{ name }} seed {{ seed }} budget 9\n@0 add 1 allow ip from any to any\n"
-                            "@0 train 2 udp 10.0.0.1 1 10.0.0.2 2 100 count 1 gap 1\n@9 end\n")
-        status, _, told = tool("sweep", template, "--of", "train 2", "--stat", "delay.p50", "--kept", disk / "k", DNLAB=program)
+        template.write_text(
+            "experiment {{ name }} seed {{ seed }} budget 9\n@0 add 1 allow ip from any to any\n@0 train 2 "
+            "udp 10.0.0.1 1 10.0.0.2 2 100 count 1 gap 1\n@9 end\n")
+        status, _, told = tool("sweep", template, "--of", "train 2", "--stat", "delay.p50", "--kept",
+                               disk / "k", DNLAB=program)
         assert status == 3 and f"{disk}/k" in told and "Traceback" not in told
     finally:
         subprocess.run(["umount", disk], check=True)
 
 
 @pytest.mark.parametrize("text, link, line", [
-    ("moment,size\nInfinity,100\n", None, "line 2"), ("moment,size\n1,100\n1e999999999,100\n", None, "line 3"),
-    ("moment,size\n1e999999,100\n", None, "line 2"), ("moment,size\nNaN,100\n", None, "line 2"), ("moment,size\n" + "1" * 200000 + ",100\n", None, "line"),
-    (TABLE, "bw 1Mbit/s\n@0 add 1 deny ip from any to any", "--link"), (TABLE, "bw 1Mbit/s\x1b[2J", "--link")], ids=range(7))
+    ("moment,size\nInfinity,100\n", None, "line 2"),
+    ("moment,size\n1,100\n1e999999999,100\n", None, "line 3"),
+    ("moment,size\n1e999999,100\n", None, "line 2"), ("moment,size\nNaN,100\n", None, "line 2"),
+    ("moment,size\n" + "1" * 200000 + ",100\n", None, "line"),
+    (TABLE, "bw 1Mbit/s\n@0 add 1 deny ip from any to any", "--link"),
+    (TABLE, "bw 1Mbit/s\x1b[2J", "--link")], ids=range(7))
 def test_what_replay_refuses(text: str, link: "str | None", line: str, tmp_path: Path, program: str) -> None:
     table = tmp_path / "t.csv"
     table.write_text(text)
-    status, out, told = tool("replay", table, "--link", link or LINK[1], "--out", tmp_path / "o.csv", DNLAB=program)
-    assert (status, out) == (2, "") and line in told and told.count("\n") == 1 and "\x1b" not in told and len(told) < 1000
+    status, out, told = tool("replay", table, "--link", link or LINK[1], "--out", tmp_path / "o.csv",
+                             DNLAB=program)
+    assert ((status, out) == (2, "") and line in told and told.count("\n") == 1 and "\x1b" not in told
+            and len(told) < 1000)
 
 
 def test_names_that_steer_a_terminal(tmp_path: Path, report: list[str]) -> None:
@@ -106,7 +123,8 @@ def test_names_that_steer_a_terminal(tmp_path: Path, report: list[str]) -> None:
         assert "a\\x1b]0;title" in told and not set(out + told) & set("\x1b\x07\x9b\u202e\r"), one
     shown, end = pty.openpty()
     picture = tmp_path / "p\x1b[2J.svg"
-    subprocess.run([ROOT / "tools/plot", *report, "--what", "drops", "--out", picture], stdout=end, stderr=end, check=True, timeout=120)
+    subprocess.run([ROOT / "tools/plot", *report, "--what", "drops", "--out", picture], stdout=end,
+                   stderr=end, check=True, timeout=120)
     os.close(end)
     assert b"\x1b" not in os.read(shown, 4096)
 

@@ -25,15 +25,17 @@ def rows_of(view: View, percentiles=(50, 99)):
 
 def test_codel_one_drop() -> None:
     rows = rows_of(view_of("codel_one_drop"), (50, 95, 99))
-    # The k-th packet that is served ends at 8 ms * k + 1 ns, k from 1 to 29: the 15th is the median, the 28th the
-    # minimum that 95 % don't exceed (27.55 of 29).
+    # The k-th packet that is served ends at 8 ms * k + 1 ns, k from 1 to 29: the 15th is the median, the 28th
+    # the minimum that 95 % don't exceed (27.55 of 29).
     train = rows["train 1"]
     assert list(rows) == ["train 1", "pipe 1.0", "all"]
-    assert [train[name] for name in times_of((50, 95, 99))] == [8000001, 120000001, 224000001, 232000001, 232000001]
+    assert [train[name] for name in times_of((50, 95, 99))] == [8000001, 120000001, 224000001, 232000001,
+                                                                232000001]
     assert (train["bytes"], train["time"], train["codel"]) == (29000, 232000001, 1)
     assert train["rate"] == train["goodput"] == 29000 * 8 * 10**9 // 232000001
     assert (rows["pipe 1.0"]["packets"], rows["pipe 1.0"]["codel"], rows["pipe 1.0"]["full"]) == (29, 1, 0)
-    assert (train["ended"], train["warnings"], train["retransmissions"], train["jain"]) == ("end", "", None, None)
+    assert (train["ended"], train["warnings"], train["retransmissions"],
+            train["jain"]) == ("end", "", None, None)
 
 
 def test_untraced_and_without_the_scenario() -> None:
@@ -65,7 +67,8 @@ def test_a_flow() -> None:
 def test_sent_again() -> None:
     """reno_timeouts: three segments and two timeouts, all lost; nothing arrived."""
     flow = rows_of(view_of("reno_timeouts"))["flow 1"]
-    assert (flow["packets"], flow["retransmissions"], flow["useful"], flow["goodput"], flow["fct"]) == (5, 2, 0, None, None)
+    assert (flow["packets"], flow["retransmissions"], flow["useful"], flow["goodput"],
+            flow["fct"]) == (5, 2, 0, None, None)
 
 
 BOTH = b"""experiment both seed 7 budget 20 steps 100
@@ -74,8 +77,8 @@ BOTH = b"""experiment both seed 7 budget 20 steps 100
 @0 flow 1 10.0.0.1 1 10.0.0.2 2 smss 960 segments 2
 @1000000000 end
 """
-# By hand: a segment of 1000 bytes takes 1 ms, an acknowledgement of 40 bytes 40 us, one after the other; each leaves
-# 1 ns after its service. The first acknowledgement waits for the second segment.
+# By hand: a segment of 1000 bytes takes 1 ms, an acknowledgement of 40 bytes 40 us, one after the other; each
+# leaves 1 ns after its service. The first acknowledgement waits for the second segment.
 BOTH_REPORT = b"""experiment both
 0 ok 0
 0 ok 1
@@ -157,7 +160,8 @@ def test_losses() -> None:
     assert losses(view_of("codel_one_drop")) == [
         {"experiment": "codel-one-drop", "sender": "train 1", "cause": "codel", "queue": "1.0", "packets": 1}]
     timeouts = losses(view_of("reno_timeouts"))
-    assert [(row["sender"], row["cause"], row["queue"], row["packets"]) for row in timeouts] == [("flow 1", "lost", "1.0", 5)]
+    assert [(row["sender"], row["cause"], row["queue"], row["packets"])
+            for row in timeouts] == [("flow 1", "lost", "1.0", 5)]
 
 
 SILENT = b"""experiment silent seed 1 budget 2 steps 13
@@ -170,8 +174,9 @@ SILENT = b"""experiment silent seed 1 budget 2 steps 13
 
 
 def test_what_is_silently_wrong() -> None:
-    """By hand: three commands, two emissions with their finishes, two more that the budget drops, two deliveries whose
-    acknowledgements no rule allows, the command of the train and its packet, which no rule allows either: 13 steps."""
+    """By hand: three commands, two emissions with their finishes, two more that the budget drops, two
+    deliveries whose acknowledgements no rule allows, the command of the train and its packet, which no rule
+    allows either: 13 steps."""
     view, = views_of(SILENT)
     kinds = {note.kind: note.text for note in view.notes}
     assert "flow 1 acks" in kinds["no way back"]
@@ -184,11 +189,13 @@ def test_what_is_silently_wrong() -> None:
     assert rows["flow 1"]["warnings"].split() == ["spent", "budget"]
     assert {"spent", "no-way-back", "denied", "budget"} == set(rows["all"]["warnings"].split())
     assert (rows["all"]["ended"], rows["all"]["end"]) == ("spent", 20000000)
-    assert f"spent {milliseconds(view.ended.moment)} of 20.000000 ms" in table(Tables(view).rows(), exact=True)
+    assert f"spent {milliseconds(view.ended.moment)} of 20.000000 ms" in table(
+        Tables(view).rows(), exact=True)
 
 
 def test_ranks() -> None:
-    assert [place(count, of) + 1 for count, of in ((1, 50), (2, 50), (3, 50), (200, 99), (1000, "99.9"), (4, 100))] == [
+    assert [place(count, of) + 1
+            for count, of in ((1, 50), (2, 50), (3, 50), (200, 99), (1000, "99.9"), (4, 100))] == [
         1, 1, 2, 198, 999, 4]
     assert [percentile_name(one) for one in (50, "50.0", 95, "99.9")] == ["p50", "p50", "p95", "p99.9"]
 
@@ -198,7 +205,8 @@ def test_rank_is_the_least_that_fits(values: list[int], percentile: int) -> None
     values.sort()
     found = values[place(len(values), percentile)]
     assert sum(value <= found for value in values) * 100 >= percentile * len(values)
-    assert all(sum(value <= less for value in values) * 100 < percentile * len(values) for less in values if less < found)
+    assert all(sum(value <= less for value in values) * 100 < percentile * len(values)
+               for less in values if less < found)
 
 
 def test_fairness() -> None:
@@ -232,9 +240,11 @@ def test_groups() -> None:
 
 
 def test_what_varies() -> None:
-    text = "".join(f"experiment {name} seed 1 budget 9\n@0 pipe 1 config bw 1Mbit/s {queue}\n@0 pipe 2 config delay 9\n"
-                   "@9 end\n" for name, queue in
-                   (("a", "queue 5"), ("b", "queue 5 codel target 5 interval 9"), ("c", "mask proto 0xff queue 7")))
+    text = "".join(
+        f"experiment {name} seed 1 budget 9\n@0 pipe 1 config bw 1Mbit/s {queue}\n@0 pipe 2 config "
+        "delay 9\n@9 end\n" for name, queue in
+        (("a", "queue 5"), ("b", "queue 5 codel target 5 interval 9"),
+         ("c", "mask proto 0xff queue 7")))
     assert varied(scenario.read(text.encode())) == {
         "a": "pipe 1 queue 5 droptail", "b": "pipe 1 queue 5 codel target 5 interval 9",
         "c": "pipe 1 queue 7 droptail mask proto 0xff"}
@@ -244,14 +254,17 @@ def test_what_varies_counts_defaults_and_not_words() -> None:
     """A queue of 50 slots is the default, and 1000Kbit/s is 1Mbit/s: only values that differ are listed."""
     text = "".join(f"experiment {name} seed 1 budget 9\n@0 pipe 1 config {words}\n@9 end\n" for name, words in
                    (("a", "bw 1Mbit/s"), ("b", "bw 1000Kbit/s queue 50"), ("c", "bw 1Mbit/s queue 9")))
-    assert varied(scenario.read(text.encode())) == {"a": "pipe 1 queue 50", "b": "pipe 1 queue 50", "c": "pipe 1 queue 9"}
+    assert varied(scenario.read(text.encode())) == {"a": "pipe 1 queue 50", "b": "pipe 1 queue 50",
+                                                    "c": "pipe 1 queue 9"}
     # A pipe that some experiments lack: options that were given are listed, defaults are not.
     more = ("experiment a seed 1 budget 9\n@0 pipe 1 config\n@0 pipe 2 config delay 9\n@9 end\n"
             "experiment b seed 1 budget 9\n@0 pipe 1 config\n@9 end\n")
     assert varied(scenario.read(more.encode())) == {"a": "pipe 2 delay 9", "b": ""}
-    outage = "".join(f"experiment {name} seed 1 budget 9\n@0 pipe 1 config bw 1Mbit/s\n@5 pipe 1 config {words}\n@9 end\n"
-                     for name, words in (("a", "bw 2Mbit/s"), ("b", "bw 1Mbit/s")))
-    assert varied(scenario.read(outage.encode())) == {"a": "pipe 1 bw 1Mbit/s then bw 2Mbit/s", "b": "pipe 1 bw 1Mbit/s"}
+    outage = "".join(
+        f"experiment {name} seed 1 budget 9\n@0 pipe 1 config bw 1Mbit/s\n@5 pipe 1 config {words}\n@9 end\n"
+        for name, words in (("a", "bw 2Mbit/s"), ("b", "bw 1Mbit/s")))
+    assert varied(scenario.read(outage.encode())) == {"a": "pipe 1 bw 1Mbit/s then bw 2Mbit/s",
+                                                      "b": "pipe 1 bw 1Mbit/s"}
 
 
 @pytest.mark.parametrize("name", ["masked_instances", "deleted_everywhere", "one_packet_held"])

@@ -1,4 +1,5 @@
-"""Sources of traffic in templates: the merged commands, and means from the formulas of their distributions."""
+"""Sources of traffic in templates: the merged commands, and means from the formulas of their
+distributions."""
 import math
 import statistics
 from itertools import pairwise
@@ -29,7 +30,8 @@ def moments(one: Traffic) -> list[int]:
 
 
 def test_sources_are_merged(alone: Callable[[bytes], bytes]) -> None:
-    """By hand: packets at 20, 50 and 80 ms; two commands after the one at 50 ms, in their order; and one before all."""
+    """By hand: packets at 20, 50 and 80 ms; two commands after the one at 50 ms, in their order; and one
+    before all."""
     text = Template(TEMPLATE).render("a", 1, {})
     commands = read(text.encode())["a"].commands
     assert [(one.moment // 10**6, one.text.split()[-1]) for one in commands[2:-1]] == [
@@ -48,7 +50,8 @@ def test_poisson() -> None:
 
 @pytest.mark.parametrize("shape", [None, 3])
 def test_on_off(shape: "int | None") -> None:
-    """On for 1 s and off for 3 s on average: a quarter of the packets of a source that is always on, with 100 packets per second."""
+    """On for 1 s and off for 3 s on average: a quarter of the packets of a source that is always on, with 100
+    packets per second."""
     one = Traffic(Chance(2))
     one.on_off(SECOND, 3 * SECOND, 10**7, 4000 * SECOND, "show", shape=shape)
     assert abs(len(moments(one)) / 400000 - 0.25) < 0.03
@@ -59,7 +62,8 @@ def test_on_off(shape: "int | None") -> None:
 def test_flows() -> None:
     """A Pareto distribution with shape 2 and minimum 10 has the median 10 * sqrt(2), 14.1."""
     one = Traffic(Chance(3))
-    one.flows(10**7, 20 * SECOND, "flow {flow} 10.0.0.1 {flow} 10.0.1.1 80 smss 1460 segments {segments}", first=5, shape=2, least=10, most=900)
+    one.flows(10**7, 20 * SECOND, "flow {flow} 10.0.0.1 {flow} 10.0.1.1 80 smss 1460 segments {segments}",
+              first=5, shape=2, least=10, most=900)
     rows = [line.split() for line in one.lines()]
     assert [int(row[2]) for row in rows] == list(range(5, 5 + len(rows))) and len(rows) > 1800
     sizes = [int(row[-1]) for row in rows]
@@ -69,7 +73,8 @@ def test_flows() -> None:
 def test_web() -> None:
     """20 users who look at each page for 5 s make about 20 * 100 / 5 requests in 100 s."""
     one = Traffic(Chance(4))
-    one.web(20, 5 * SECOND, 100 * SECOND, "flow {flow} 10.0.1.1 80 10.0.0.{user} {flow} smss 1460 segments {segments}")
+    one.web(20, 5 * SECOND, 100 * SECOND,
+            "flow {flow} 10.0.1.1 80 10.0.0.{user} {flow} smss 1460 segments {segments}")
     rows = [line.split() for line in one.lines()]
     assert abs(len(rows) - 400) < 5 * math.sqrt(400)
     assert [int(row[2]) for row in rows] == list(range(1, len(rows) + 1))
@@ -88,8 +93,10 @@ def test_it_hangs_on_the_seed_alone() -> None:
 
 
 @pytest.mark.parametrize("source, wanted", [
-    ('traffic.every(0, 9, "show")', "gap"), ('traffic.at(1.5, "show")', "whole number"), ('traffic.at(1, "a\\nb")', "one command"),
-    ('traffic.on_off(0, 1, 1, 9, "show")', "above 0"), ('traffic.on_off(1, 1, 1, 9, "show", shape=1)', "above 1"),
+    ('traffic.every(0, 9, "show")', "gap"), ('traffic.at(1.5, "show")', "whole number"),
+    ('traffic.at(1, "a\\nb")', "one command"),
+    ('traffic.on_off(0, 1, 1, 9, "show")', "above 0"),
+    ('traffic.on_off(1, 1, 1, 9, "show", shape=1)', "above 1"),
     ('traffic.every(1, 10000000, "show")', "more than")])
 def test_wrong_sources(source: str, wanted: str) -> None:
     """The message has the template's line."""

@@ -1,4 +1,5 @@
-"""Goodput: bytes of a segment that arrives twice count once (drawn_03, drawn_07 and random_08 have such segments)."""
+"""Goodput: bytes of a segment that arrives twice count once (drawn_03, drawn_07 and random_08 have such
+segments)."""
 import re
 
 from conftest import text_of, views_of

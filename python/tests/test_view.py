@@ -1,5 +1,5 @@
-"""The page of `view` in headless Chromium: the dots and lines of its SVG are read back, and compared with values calculated
-by hand, with lines of the report and with `summary`."""
+"""The page of `view` in headless Chromium: the dots and lines of its SVG are read back, and compared with
+values calculated by hand, with lines of the report and with `summary`."""
 import csv
 import html
 import io
@@ -22,8 +22,8 @@ BROWSER = shutil.which("chromium") or ""
 browsing = pytest.mark.skipif(not BROWSER, reason="Chromium is missing (Debian: chromium)")
 RENO = EXAMPLES / "reno_four_segments"
 
-# Waits until a page is drawn, does `ACTS`, and writes the contents of the panels into the page: the dots and the corners of
-# the line of each trace in the units of the axes, and the text at the pointer.
+# Waits until a page is drawn, does `ACTS`, and writes the contents of the panels into the page: the dots and
+# the corners of the line of each trace in the units of the axes, and the text at the pointer.
 READ = """<pre id="readback"></pre><script>
 const value = (axes, x, y) => [axes.xaxis.p2l(x), axes.yaxis.p2l(y)];
 function cornersOf(axes, path) {
@@ -53,23 +53,28 @@ async function read() {
   const told = {};
   ACTS
   await new Promise((next) => setTimeout(next, 200));
-  const words = Object.fromEntries(["about", "range", "journey", "notes"].map((name) => [name, document.getElementById(name).innerText]));
+  const words = Object.fromEntries(["about", "range", "journey", "notes"].map(
+    (name) => [name, document.getElementById(name).innerText]));
   document.getElementById("readback").textContent = JSON.stringify({...words, ...told, panels: panelsOf(),
-    name: document.body.dataset.drawn, titles: [...document.querySelectorAll("h2")].map((title) => title.textContent),
+    name: document.body.dataset.drawn,
+    titles: [...document.querySelectorAll("h2")].map((title) => title.textContent),
     wide: [innerWidth, document.documentElement.scrollWidth]});
 }
 read();
 </script></body>"""
 
 # Draws acknowledgements too.
-ACKS = "const acks = document.getElementById('acks'); acks.click(); await new Promise((next) => setTimeout(next, 1000));"
+ACKS = ("const acks = document.getElementById('acks'); acks.click(); await new Promise((next) => "
+        "setTimeout(next, 1000));")
 
 
 def browse(page: Path, *more: str, address: str = "") -> str:
     """Returns the content of a page in Chromium after it is loaded."""
-    done = subprocess.run([BROWSER, "--headless", "--no-sandbox", "--disable-gpu", "--hide-scrollbars", "--window-size=1000,1800",
-                           f"--user-data-dir={page.parent / 'profile'}", "--virtual-time-budget=20000", *more,
-                           f"file://{page}{address}"], capture_output=True, text=True, timeout=120, check=True)
+    done = subprocess.run([BROWSER, "--headless", "--no-sandbox", "--disable-gpu", "--hide-scrollbars",
+                           "--window-size=1000,1800", f"--user-data-dir={page.parent / 'profile'}",
+                           "--virtual-time-budget=20000", *more,
+                           f"file://{page}{address}"], capture_output=True, text=True,
+                          timeout=120, check=True)
     return done.stdout
 
 
@@ -77,7 +82,8 @@ def read_back(page: Path, acts: str = "", address: str = "") -> dict[str, Any]:
     """Returns the content of a page after some actions."""
     beside = page.with_name("read.html")
     beside.write_text(page.read_text().replace("</body>", READ.replace("ACTS", acts)))
-    found = re.search(r'<pre id="readback">(.+?)</pre>', browse(beside, "--dump-dom", address=address), re.DOTALL)
+    found = re.search(r'<pre id="readback">(.+?)</pre>', browse(beside, "--dump-dom", address=address),
+                      re.DOTALL)
     assert found, "nothing was drawn"
     made: dict[str, Any] = json.loads(html.unescape(found[1]))
     made["panels"] = {panel: {one["name"]: one for one in traces} for panel, traces in made["panels"].items()}
@@ -92,35 +98,42 @@ def page_of(folder: Path, report: Path, scenario: Path, *words: str) -> Path:
 
 def near(found: Any, wanted: Any, scale: tuple[float, ...]) -> bool:
     """Returns true if points (or values) are where they must be, to a thousandth of their axes."""
-    return np.shape(found) == np.shape(wanted) and bool((np.abs(np.subtract(found, wanted)) < np.array(scale) / 1000).all())
+    return (np.shape(found) == np.shape(wanted)
+            and bool((np.abs(np.subtract(found, wanted)) < np.array(scale) / 1000).all()))
 
 
 @browsing
 def test_what_is_drawn_by_hand(tmp_path: Path) -> None:
-    """Three segments at once, served in 1.2 ms each, 10 ms of delay in each direction; the first acknowledgement sends the fourth."""
+    """Three segments at once, served in 1.2 ms each, 10 ms of delay in each direction; the first
+    acknowledgement sends the fourth."""
     page = page_of(tmp_path, rows_file(RENO / "scenario.txt", tmp_path), RENO / "scenario.txt")
     found = read_back(page, 'Plotly.Fx.hover("panel-sequence", [{curveNumber: 0, pointNumber: 3}]);'
                             'told.hover = document.querySelector("#panel-sequence .hoverlayer").textContent;'
-                            'const field = document.getElementById("packet"); field.value = 1; field.dispatchEvent(new Event("input"));')
+                            'const field = document.getElementById("packet"); field.value = 1; '
+                            'field.dispatchEvent(new Event("input"));')
     scale = (42.4, 6000)
     sequence = found["panels"]["sequence"]
     assert near(sequence["flow 1: sent"]["points"], [(0, 0), (0, 1460), (0, 2920), (21.2, 4380)], scale)
     line = sequence["flow 1: acknowledged"]["line"]
     assert near(line[:5], [(21.2, 1460), (22.4, 1460), (22.4, 2920), (23.6, 2920), (23.6, 4380)], scale)
-    assert near(found["panels"]["delay"]["flow 1"]["points"], [(11.2, 11.2), (12.4, 12.4), (13.6, 13.6), (32.4, 11.2)], (42.4, 14))
+    assert near(found["panels"]["delay"]["flow 1"]["points"],
+                [(11.2, 11.2), (12.4, 12.4), (13.6, 13.6), (32.4, 11.2)], (42.4, 14))
     # One of the three packets is in service, and two wait.
     queue = found["panels"]["queue"]["pipe 1"]["line"]
     assert near(queue[:5], [(0, 2), (1.2, 2), (1.2, 1), (2.4, 1), (2.4, 0)], (42.4, 4))
     flight = found["panels"]["queue"]["in flight"]["line"]
     assert near(flight[-3:], [(32.4, 1), (42.4, 1), (42.4, 0)], (42.4, 4))
     # Windows, from the lines of the report: TIME ack F CWND SSTHRESH, and 4380 bytes at the start.
-    lines = [words.split() for words in (RENO / "expected.txt").read_text().split("\n") if " ack 1 " in words and "deliver" not in words]
+    lines = [words.split() for words in (RENO / "expected.txt").read_text().split("\n") if " ack 1 " in words
+             and "deliver" not in words]
     steps = [(0, 4380)] + [(int(words[0]) / 1e6, int(words[3])) for words in lines]
     corners = found["panels"]["window"]["cwnd 1"]["line"]
     assert len(steps) == 5 and near([corners[0], *corners[2::2]], steps, (42.4, 12000))
-    assert found["hover"].startswith("flow 1: sent: 4380packet 6: flow 1, byte 4380, 1500 bytesmade 21.2 msat 1.0: came 21.2 ms")
+    assert found["hover"].startswith(
+        "flow 1: sent: 4380packet 6: flow 1, byte 4380, 1500 bytesmade 21.2 msat 1.0: came 21.2 ms")
     assert found["journey"].split("\n") == ["packet 1: flow 1, byte 1460, 1500 bytes", "made 0 ms",
-                                            "at 1.0: came 0 ms, served 2.4 ms, left 12.4 ms", "delivered 12.4 ms, 12.4 ms after it was made"]
+                                            "at 1.0: came 0 ms, served 2.4 ms, left 12.4 ms",
+                                            "delivered 12.4 ms, 12.4 ms after it was made"]
     assert found["about"].startswith("8 packets made, 8 delivered, 0 under way")
 
 
@@ -146,7 +159,9 @@ def test_losses_and_rates(tmp_path: Path) -> None:
     assert near(sequence["flow 1: sent again"]["points"], [(same[3], dropped[0][1])], (508, 40000))
     every = re.search(r"in each ([0-9]+) ms", found["titles"][-1])
     assert every
-    rows = list(csv.DictReader(io.StringIO(tool("summary", rows_file(folder / "scenario.txt", tmp_path), folder / "scenario.txt", "--every", f"{every[1]}ms", "--csv")[1])))
+    rows = list(csv.DictReader(io.StringIO(tool("summary", rows_file(folder / "scenario.txt", tmp_path),
+                                                folder / "scenario.txt", "--every", f"{every[1]}ms",
+                                                "--csv")[1])))
     for name in ("flow 1", "flow 2", "flow 1 acks"):
         wanted = [int(row["rate"]) / 1e6 for row in rows if row["sender"] == name]
         line = found["panels"]["rate"][name]["line"]
@@ -163,9 +178,11 @@ def test_losses_and_rates(tmp_path: Path) -> None:
 
 
 @browsing
-@pytest.mark.parametrize("folder", sorted(path.parent for path in COOKBOOK.glob("*/scenario.txt")), ids=lambda path: str(path.name))
+@pytest.mark.parametrize("folder", sorted(path.parent for path in COOKBOOK.glob("*/scenario.txt")),
+                         ids=lambda path: str(path.name))
 def test_a_picture_of_each_of_the_cookbook(folder: Path, tmp_path: Path) -> None:
-    """Each has a picture, the curves of a panel can be distinguished without colour, and the number of packets is that of the counters."""
+    """Each has a picture, the curves of a panel can be distinguished without colour, and the number of
+    packets is that of the counters."""
     page = page_of(tmp_path, rows_file(folder / "scenario.txt", tmp_path), folder / "scenario.txt")
     browse(page, f"--screenshot={tmp_path / 'page.png'}")
     picture = (tmp_path / "page.png").read_bytes()
@@ -185,29 +202,38 @@ def test_keys_chooser_and_a_phone(tmp_path: Path) -> None:
     folder = COOKBOOK / "bufferbloat"
     page = page_of(tmp_path, rows_file(folder / "scenario.txt", tmp_path), folder / "scenario.txt")
     key = "document.body.dispatchEvent(new KeyboardEvent('keydown', {key: '%s', bubbles: true}));"
-    range_of = "await new Promise((next) => setTimeout(next, 500)); told.%s = document.getElementById('range').textContent;"
+    range_of = (
+        "await new Promise((next) => setTimeout(next, 500)); told.%s = "
+        "document.getElementById('range').textContent;")
     found = read_back(page, "".join(key % one + range_of % name for one, name in
-                                    (("+", "near"), ("ArrowLeft", "left"), ("ArrowRight", "right"), ("-", "far"), ("0", "all"))))
+                                    (("+", "near"), ("ArrowLeft", "left"), ("ArrowRight", "right"),
+                                     ("-", "far"), ("0", "all"))))
     # 0 to 1238 ms, then the middle half of it, then half of that to the left and back.
     assert [found[name].removeprefix("in sight: ") for name in ("near", "left", "right", "far", "all")] == [
-        "309.5 ms to 928.5 ms", "0 ms to 619 ms", "309.5 ms to 928.5 ms", "0 ms to 1238 ms", "0 ms to 1238 ms"]
-    choose = "const menu = document.getElementById('experiment'); menu.value = 1; menu.dispatchEvent(new Event('change'));" \
-             "await new Promise((next) => setTimeout(next, 1000)); told.tabs = [...document.querySelectorAll('select, button, input')]" \
-             ".map((one) => one.tabIndex);"
+        "309.5 ms to 928.5 ms", "0 ms to 619 ms", "309.5 ms to 928.5 ms", "0 ms to 1238 ms",
+        "0 ms to 1238 ms"]
+    choose = (
+        "const menu = document.getElementById('experiment'); menu.value = 1; menu.dispatchEvent(new "
+        "Event('change'));await new Promise((next) => setTimeout(next, 1000)); told.tabs = "
+        "[...document.querySelectorAll('select, button, input')].map((one) => one.tabIndex);")
     found = read_back(page, choose)
     assert found["name"] == "codel" and "codel target" in found["about"] and found["tabs"] == [0] * 11
-    assert near(found["panels"]["sequence"]["flow 1: dropped"]["points"], drops_of((folder / "report.txt").read_text()), (1250, 30000))
+    assert near(found["panels"]["sequence"]["flow 1: dropped"]["points"],
+                drops_of((folder / "report.txt").read_text()), (1250, 30000))
     # In a frame with the width of a phone nothing is wider than the frame.
     inner = page.read_text().replace("</body>", "<script>setTimeout(() => parent.postMessage(`${innerWidth} "
-                                     "${document.documentElement.scrollWidth} ${document.body.dataset.drawn}`, '*'), 3000)</script></body>")
+                                     "${document.documentElement.scrollWidth} "
+                                     "${document.body.dataset.drawn}`, '*'), 3000)</script></body>")
     (tmp_path / "inner.html").write_text(inner)
-    (tmp_path / "phone.html").write_text('<!DOCTYPE html><body><iframe src="inner.html" width="360" height="700" style="border:0"></iframe>'
-                                         "<script>addEventListener('message', (event) => document.title = event.data)</script>")
+    (tmp_path / "phone.html").write_text(
+        '<!DOCTYPE html><body><iframe src="inner.html" width="360" height="700" style="border:0"></iframe>'
+        "<script>addEventListener('message', (event) => document.title = "
+        "event.data)</script>")
     assert "<title>360 360 deep</title>" in browse(tmp_path / "phone.html", "--dump-dom")
 
 
-# A train of 20000 packets every 10 us, at a rate that serves one every 8 us; and 30 packets of 1500 bytes, 120 us each,
-# every 200 us from 99.505 ms on, so that for 6 ms more packets arrive than are served.
+# A train of 20000 packets every 10 us, at a rate that serves one every 8 us; and 30 packets of 1500 bytes,
+# 120 us each, every 200 us from 99.505 ms on, so that for 6 ms more packets arrive than are served.
 LONG = """experiment long seed 0 budget 1000
 @0 pipe 1 config bw 100Mbit/s delay 1 queue 1000
 @0 add 100 pipe 1 ip from any to any
@@ -218,8 +244,10 @@ LONG = """experiment long seed 0 budget 1000
 
 
 def longest() -> float:
-    """Returns the maximum delay of the first train (ms): each packet waits until all earlier ones are served."""
-    came = sorted([(10000 * k, 8000) for k in range(20000)] + [(99505000 + 200000 * k, 120000) for k in range(30)])
+    """Returns the maximum delay of the first train (ms): each packet waits until all earlier ones are
+    served."""
+    came = sorted([(10000 * k, 8000) for k in range(20000)]
+                  + [(99505000 + 200000 * k, 120000) for k in range(30)])
     free, most = 0, 0
     for moment, service in came:
         free = max(free, moment) + service
@@ -237,7 +265,8 @@ def test_what_is_thinned(traced: Alone, tmp_path: Path) -> None:
     found = read_back(page)
     points = found["panels"]["delay"]["train 1"]["points"]
     assert 100 < len(points) <= 800 and abs(max(y for _, y in points) - longest()) < 0.002
-    deliveries = [int(line.split()[0]) for line in (tmp_path / "r").read_text().split("\n") if "deliver" in line]
+    deliveries = [int(line.split()[0])
+                  for line in (tmp_path / "r").read_text().split("\n") if "deliver" in line]
     near_by = read_back(page, address="#long,50000000,51000000")
     wanted = [moment / 1e6 for moment in deliveries if 50000000 <= moment <= 51000000]
     got = [x for x, _ in near_by["panels"]["delay"]["train 1"]["points"]]
@@ -245,15 +274,19 @@ def test_what_is_thinned(traced: Alone, tmp_path: Path) -> None:
 
 
 def test_columns_are_packed() -> None:
-    """A column has the narrowest type for all values, or for their differences if that is narrower, and starts at a multiple of eight."""
+    """A column has the narrowest type for all values, or for their differences if that is narrower, and
+    starts at a multiple of eight."""
     blocks = Blocks()
-    for values in ([5, -1, 127], [128], [10**15, 10**15 + 100, 10**15 + 227], [-2**31, 2**31 - 1], [0.5, 1.0], []):
+    for values in ([5, -1, 127], [128], [10**15, 10**15 + 100, 10**15 + 227], [-2**31, 2**31 - 1], [0.5, 1.0],
+                   []):
         blocks.add(np.array(values))
-    assert [head[0] for head in blocks.heads] == ["i1", "i2", "f8", "i4", "f8", "f8"] and [head[1] % 8 for head in blocks.heads] == [0] * 6
+    assert ([head[0] for head in blocks.heads] == ["i1", "i2", "f8", "i4", "f8", "f8"]
+            and [head[1] % 8 for head in blocks.heads] == [0] * 6)
     blocks.add(np.arange(1000) * 100)
     kind, at, length, is_delta = blocks.heads[-1]
     assert (kind, length, is_delta) == ("i1", 1000, 1)
-    assert np.cumsum(np.frombuffer(b"".join(blocks.parts)[at:at + length], dtype=kind)).tolist() == list(range(0, 100000, 100))
+    assert np.cumsum(np.frombuffer(b"".join(blocks.parts)[at:at + length],
+                                   dtype=kind)).tolist() == list(range(0, 100000, 100))
 
 
 def test_files_and_no_network(tmp_path: Path) -> None:
@@ -262,16 +295,19 @@ def test_files_and_no_network(tmp_path: Path) -> None:
     text = page.read_text()
     assert beside.stat().st_size > 10**6 and len(text) < 50000
     assert re.findall(r'(?:src|href)="([^"]*)"', text) == ["dnlab-plotly.js"] and "http" not in text
-    assert tool("view", RENO / "expected.txt", RENO / "scenario.txt", "--out", tmp_path / "other.html")[1] == f"{tmp_path}/other.html: experiments: 1\n"
+    assert (tool("view", RENO / "expected.txt", RENO / "scenario.txt", "--out",
+                 tmp_path / "other.html")[1] == f"{tmp_path}/other.html: experiments: 1\n")
     beside.unlink()
-    single = page_of(tmp_path, rows_file(RENO / "scenario.txt", tmp_path), RENO / "scenario.txt", "--single").read_text()
+    single = page_of(tmp_path, rows_file(RENO / "scenario.txt", tmp_path), RENO / "scenario.txt",
+                     "--single").read_text()
     assert len(single) > 10**6 and not beside.exists() and 'src="dnlab' not in single
     status, _, err = tool("view", RENO / "expected.txt", "--out", tmp_path / "none" / "a.html")
     assert status == 3 and "a.html" in err
     (tmp_path / "bad").write_text("experiment a\n0 okay 0\n")
     status, out, err = tool("view", tmp_path / "bad", "--out", tmp_path / "bad.html")
     assert status == 2 and "line 2" in err and not out and not (tmp_path / "bad.html").exists()
-    assert tool("view", EXAMPLES / "four_experiments" / "expected.txt", "--out", tmp_path / "four.html", "--experiment", "none")[0] == 2
+    assert tool("view", EXAMPLES / "four_experiments" / "expected.txt", "--out", tmp_path / "four.html",
+                "--experiment", "none")[0] == 2
     status, out, _ = tool("view", "--help")
     assert status == 0 and "Example:" in out and "Exit status" in out
 
@@ -281,7 +317,8 @@ def test_single_and_untraced(tmp_path: Path) -> None:
     status, _, err = tool("view", RENO / "expected.txt", "--out", tmp_path / "page.html", "--single")
     assert status == 0 and "made without --trace" in err
     found = read_back(tmp_path / "page.html")
-    assert near(found["panels"]["sequence"]["flow 1: delivered"]["points"], [(11.2, 0), (12.4, 1460), (13.6, 2920), (32.4, 4380)], (42.4, 6000))
+    assert near(found["panels"]["sequence"]["flow 1: delivered"]["points"],
+                [(11.2, 0), (12.4, 1460), (13.6, 2920), (32.4, 4380)], (42.4, 6000))
     assert "--trace" in found["notes"] and "delay" not in found["panels"]
 
 

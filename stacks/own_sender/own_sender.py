@@ -57,8 +57,8 @@ class Sender:
     def __init__(self, loop: Loop, here: Address, there: Address, packets: int) -> None:
         self.loop, self.here, self.there = loop, here, there
         self.window, self.timeout = CubicCurve(), Timeout()
-        # The packets that are still to be sent, the last one first; and those in flight: when each was sent (ns), and its
-        # place in the order of sending.
+        # The packets that are still to be sent, the last one first; and those in flight: when each was sent
+        # (ns), and its place in the order of sending.
         self.waiting = list(range(packets))[::-1]
         self.flying: dict[int, tuple[int, int]] = {}
         self.sent = self.lost = self.timeouts = self.recovered = 0
@@ -140,7 +140,8 @@ def transfer(link: dnlab.Link, packets: int) -> Sender:
     while sender.done_at is None and not link.is_over and loop.now < LAST:
         loop.run(min(loop.now + S // 10, LAST))
     if sender.done_at is None:
-        raise dnlab.InputError("the transfer didn't end: the experiment's steps ran out, or 600 s of simulated time are over")
+        raise dnlab.InputError(
+            "the transfer didn't end: the experiment's steps ran out, or 600 s of simulated time are over")
     assert len(receiver.numbers) == packets
     return sender
 
@@ -163,21 +164,23 @@ def run(words: argparse.Namespace) -> None:
     assert sender.done_at is not None
     rate = packets * (SIZE - HEADER) * 8 * S / sender.done_at / 10**6
     print(f"own sender: {packets} packets in {sender.done_at / S:.3f} s: {rate:.2f} Mbit/s")
-    print(f"{sender.sent} sent, {sender.lost} declared lost, {sender.timeouts} timeouts; srtt {sender.timeout.smoothed / MS:.2f} ms,"
-          f" window {sender.window.cwnd:.1f} segments")
+    print(f"{sender.sent} sent, {sender.lost} declared lost, {sender.timeouts} timeouts; srtt "
+          f"{sender.timeout.smoothed / MS:.2f} ms, window {sender.window.cwnd:.1f} segments")
     print("link: counters", *(link.counters or ()))
     print(f"{session.round_trips} round trips", file=sys.stderr)
 
 
 def main() -> int:
-    parser = argparse.ArgumentParser(description=__doc__, formatter_class=argparse.RawDescriptionHelpFormatter)
+    parser = argparse.ArgumentParser(description=__doc__,
+                                     formatter_class=argparse.RawDescriptionHelpFormatter)
     parser.add_argument("scenario", metavar="SCENARIO")
     parser.add_argument("report", metavar="REPORT")
     parser.add_argument("--mbytes", type=float, default=10.0)
     for name, value in (("bw", "10Mbit/s"), ("delay", "20"), ("queue", "100 codel"), ("plr", "0")):
         parser.add_argument(f"--{name}", default=value)
     parser.add_argument("--seed", type=int, default=1)
-    parser.add_argument("--trace", action="store_true", help="report when each packet is created, as tools/pcap needs")
+    parser.add_argument("--trace", action="store_true",
+                        help="report when each packet is created, as tools/pcap needs")
     parser.add_argument("--reno", action="store_true", help="add a built-in Reno flow in the same direction")
     words = parser.parse_args()
     subprocesses.handle_signals("own_sender")

@@ -1,4 +1,5 @@
-"""Runs a program with one of its allocations refused, by an allocator that is loaded before the C library's."""
+"""Runs a program with one of its allocations refused, by an allocator that is loaded before the C
+library's."""
 import os
 import subprocess
 from collections.abc import Sequence
@@ -7,7 +8,8 @@ from typing import Literal, NamedTuple
 # The exit status of a run, or "no end" if it exceeded its time limit.
 Status = int | Literal["no end"]
 
-# Refuses the allocation whose number is in REFUSED, and at the end writes the number of allocations to the descriptor COUNT.
+# Refuses the allocation whose number is in REFUSED, and at the end writes the number of allocations to the
+# descriptor COUNT.
 ALLOCATOR = r"""
 #include <errno.h>
 #include <stdatomic.h>
@@ -44,7 +46,8 @@ void _exit(int status) {
 
 
 class Outcome(NamedTuple):
-    """Standard output, standard error and status of a run, and the number of allocations that it requested."""
+    """Standard output, standard error and status of a run, and the number of allocations that it
+    requested."""
     out: bytes
     err: bytes
     status: Status
@@ -54,18 +57,20 @@ class Outcome(NamedTuple):
 def library(room: str) -> str:
     """Compiles the allocator into a folder with `cc`. Returns its path."""
     path = f"{room}/refusing.so"
-    subprocess.run(["cc", "-O2", "-shared", "-fPIC", "-x", "c", "-", "-o", path], input=ALLOCATOR.encode(), check=True)
+    subprocess.run(["cc", "-O2", "-shared", "-fPIC", "-x", "c", "-", "-o", path], input=ALLOCATOR.encode(),
+                   check=True)
     return path
 
 
 def run(allocator: str, words: Sequence[str], text: bytes, number: int, limit: float = 20) -> Outcome:
-    """Runs a command on a text, with the allocation of this number refused (0: none). Returns the outcome, whose status is
-    'no end' if the run takes longer than the limit (s)."""
+    """Runs a command on a text, with the allocation of this number refused (0: none). Returns the outcome,
+    whose status is 'no end' if the run takes longer than the limit (s)."""
     reading, writing = os.pipe()
     how = {"LD_PRELOAD": allocator, "REFUSED": str(number), "COUNT": str(writing)}
     status: Status
     try:
-        done = subprocess.run(words, input=text, capture_output=True, env=how, pass_fds=[writing], timeout=limit,
+        done = subprocess.run(words, input=text, capture_output=True, env=how, pass_fds=[writing],
+                              timeout=limit,
                               check=False)
         out, err, status = done.stdout, done.stderr, done.returncode
     except subprocess.TimeoutExpired:

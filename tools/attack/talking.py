@@ -19,8 +19,8 @@ class Raw:
     """A program `dnlab live` with pipes. It is killed at the end of the `with` block."""
 
     def __init__(self, program: str, before: Sequence[str] = (), words: Sequence[str] = ()) -> None:
-        self.process = subprocess.Popen([*before, program, "live", *words], stdin=subprocess.PIPE, stdout=subprocess.PIPE,
-                                        stderr=subprocess.PIPE, bufsize=0)
+        self.process = subprocess.Popen([*before, program, "live", *words], stdin=subprocess.PIPE,
+                                        stdout=subprocess.PIPE, stderr=subprocess.PIPE, bufsize=0)
         assert self.process.stdin and self.process.stdout and self.process.stderr
         self.input, self.output, self.errors = self.process.stdin, self.process.stdout, self.process.stderr
         self.rest = b""
@@ -56,7 +56,8 @@ class Raw:
         return said
 
     def fill(self) -> int:
-        """Sends harmless lines until the pipe accepts no more for a second. Returns the number of bytes sent."""
+        """Sends harmless lines until the pipe accepts no more for a second. Returns the number of bytes
+        sent."""
         os.set_blocking(self.input.fileno(), False)
         went = 0
         lines = b"#> next\n" * 8192

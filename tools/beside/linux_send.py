@@ -1,4 +1,5 @@
-"""Sends 3000 UDP packets to port 9 of an address, at random times and with random sizes that are the same on each call.
+"""Sends 3000 UDP packets to port 9 of an address, at random times and with random sizes that are the same on
+each call.
 
 A packet starts with its number and the time at which it was sent (ns of the wall clock)."""
 import random
@@ -14,7 +15,8 @@ SO_SNDBUFFORCE = 32
 
 rng = random.Random(1)
 out = socket.socket(socket.AF_INET, socket.SOCK_DGRAM)
-# Linux counts a queued packet against the sender's buffer, which must be so large that the sender never waits.
+# Linux counts a queued packet against the sender's buffer, which must be so large that the sender never
+# waits.
 out.setsockopt(socket.SOL_SOCKET, SO_SNDBUFFORCE, 1 << 26)
 at = time.monotonic_ns() // 10**9 * 10**9 + 2 * 10**9
 for number in range(COUNT):

@@ -1,11 +1,13 @@
-"""A sender for tools/beside/ns2 that deviates from RFC 5681 in the same ways as Agent/TCP/Reno of ns-2.35: windows are
-real numbers of segments, ssthresh depends on the window instead of FlightSize, the window grows on the acknowledgement
-that ends a recovery, a fast retransmit restarts the timer, every expiry halves ssthresh, and times are in ticks of 1 ms.
-Its methods have the meaning of those of Sender in tools/second/second_parts.py."""
+"""A sender for tools/beside/ns2 that deviates from RFC 5681 in the same ways as Agent/TCP/Reno of ns-2.35:
+windows are real numbers of segments, ssthresh depends on the window instead of FlightSize, the window grows
+on the acknowledgement that ends a recovery, a fast retransmit restarts the timer, every expiry halves
+ssthresh, and times are in ticks of 1 ms. Its methods have the meaning of those of Sender in
+tools/second/second_parts.py."""
 from second_parts import Sender
 
 TICK = 0.001
-# The phase of ns-2's ticks (s) is random. With this value the run with a round trip of 0.8 s agrees; others would do too.
+# The phase of ns-2's ticks (s) is random. With this value the run with a round trip of 0.8 s agrees; others
+# would do too.
 BOOT = 0.0007
 SECOND = 10**9
 

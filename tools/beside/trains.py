@@ -1,4 +1,5 @@
-"""What tools/beside/exact and tools/beside/ns3 share: a train through one pipe, what leaves it, and how late."""
+"""What tools/beside/exact and tools/beside/ns3 share: a train through one pipe, what leaves it, and how
+late."""
 import re
 import subprocess
 from collections.abc import Sequence
@@ -13,14 +14,15 @@ Leaving = tuple[int, int]
 
 
 def scenario(bw: int, discipline: str, size: int, count: int, gap: int) -> bytes:
-    return (f"experiment a seed 1 budget 65535 steps 10000000\n@0 pipe 1 config bw {bw} queue 1000 {discipline}\n"
-            f"@0 add 1 pipe 1 ip from any to any\n"
-            f"@0 train 1 udp 10.0.0.1 1 10.0.0.2 2 {size} count {count} gap {gap}\n@{END} end\n").encode()
+    return (f"experiment a seed 1 budget 65535 steps 10000000\n@0 pipe 1 config bw {bw} queue 1000 "
+            f"{discipline}\n@0 add 1 pipe 1 ip from any to any\n@0 train 1 udp 10.0.0.1 1 10.0.0.2 2 {size} "
+            f"count {count} gap {gap}\n@{END} end\n").encode()
 
 
 def leaving(report: str) -> tuple[list[Leaving], list[Leaving]]:
     """Returns the finishes and CoDel's drops in a report."""
-    finishes, drops = (re.findall(rf"(?m)^(\d+) {line}", report) for line in (r"finish (\d+) ", r"drop (\d+) plain codel$"))
+    finishes, drops = (re.findall(rf"(?m)^(\d+) {line}", report)
+                       for line in (r"finish (\d+) ", r"drop (\d+) plain codel$"))
     return [(int(a), int(b)) for a, b in finishes], [(int(a), int(b)) for a, b in drops]
 
 
@@ -37,8 +39,8 @@ def alike(one: Sequence[Leaving], other: Sequence[Leaving]) -> str:
 
 
 def behind(finishes: Sequence[Leaving], bw: int, size: int, gap: int) -> list[Fraction]:
-    """Returns by how much (ns) each finish is later than the exact one. A packet's serial number gives its arrival. A busy
-    period starts with a packet that arrives no earlier than the previous finish."""
+    """Returns by how much (ns) each finish is later than the exact one. A packet's serial number gives its
+    arrival. A busy period starts with a packet that arrives no earlier than the previous finish."""
     found, begun, served, before = [], 0, 0, -1
     for moment, number in finishes:
         if number * gap >= before:

@@ -8,11 +8,13 @@ import program as programs
 
 def parser_of(about: str | None, usage: str | None = None) -> argparse.ArgumentParser:
     """Returns a parser whose help is a tool's module docstring."""
-    return argparse.ArgumentParser(description=about, formatter_class=argparse.RawDescriptionHelpFormatter, usage=usage)
+    return argparse.ArgumentParser(description=about, formatter_class=argparse.RawDescriptionHelpFormatter,
+                                   usage=usage)
 
 
 def program_of(parser: argparse.ArgumentParser, named: str | os.PathLike[str] | None = None) -> str:
-    """Returns the absolute path of the named program, of $DNLAB, or of the one that ./dnlab starts. Exits if there is none."""
+    """Returns the absolute path of the named program, of $DNLAB, or of the one that ./dnlab starts. Exits if
+    there is none."""
     return path_of(parser, programs.program(named))
 
 

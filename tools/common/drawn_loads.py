@@ -1,4 +1,5 @@
-"""The loads b1 to b7 for speed measurements. Each is generated with its own seed, so it has the same bytes on every machine."""
+"""The loads b1 to b7 for speed measurements. Each is generated with its own seed, so it has the same bytes on
+every machine."""
 import random
 
 STEPS = "budget 65535 steps 10000000"
@@ -14,8 +15,10 @@ def long_flow(_draw: random.Random) -> list[str]:
     return [f"experiment long seed 1 {STEPS}",
             "@0 pipe 1 config bw 1Gbit/s delay 1 queue 1000 plr 0.0005 codel target 100us interval 2ms",
             "@0 pipe 2 config bw 1Gbit/s delay 1 queue 1000",
-            "@0 add 100 pipe 1 tcp from 10.0.0.1 to 10.0.0.2", "@0 add 200 pipe 2 tcp from 10.0.0.2 to 10.0.0.1",
-            "@0 flow 1 10.0.0.1 1000 10.0.0.2 80 smss 1460 segments 1000000 rto adaptive", "@1000000000000000 end"]
+            "@0 add 100 pipe 1 tcp from 10.0.0.1 to 10.0.0.2",
+            "@0 add 200 pipe 2 tcp from 10.0.0.2 to 10.0.0.1",
+            "@0 flow 1 10.0.0.1 1000 10.0.0.2 80 smss 1460 segments 1000000 rto adaptive",
+            "@1000000000000000 end"]
 
 
 def config(draw: random.Random, pipe: int, mask: str | None) -> str:
@@ -53,7 +56,8 @@ def sender(draw: random.Random, number: int, is_flow: bool) -> Timed:
     pipe, moment = draw.randint(1, 4), draw.randint(0, 10**8)
     ends = f"10.{pipe}.0.{number} {1000 + number} 10.9.0.{number} 80"
     if is_flow:
-        words = f"flow {number} {ends} smss {draw.choice([536, 1000, 1460])} segments {draw.randint(500, 5000)}"
+        words = (
+            f"flow {number} {ends} smss {draw.choice([536, 1000, 1460])} segments {draw.randint(500, 5000)}")
         return moment, words + draw.choice(["", " rto adaptive", " rto 200", " ssthresh 8000 window 30000"])
     return moment, (f"train {number} udp {ends} {draw.randint(40, 1500)} count {draw.randint(500, 5000)}"
                     f" gap {draw.randint(1, 2000) * 1000}")
@@ -91,7 +95,8 @@ def mixed(draw: random.Random) -> list[str]:
 
 def shared(_draw: random.Random) -> list[str]:
     """Returns b3: 256 flows that share one bottleneck."""
-    lines = [f"experiment shared seed 3 {STEPS}", "@0 pipe 1 config bw 1Gbit/s delay 5 queue 1000 plr 0.0001 codel",
+    lines = [f"experiment shared seed 3 {STEPS}",
+             "@0 pipe 1 config bw 1Gbit/s delay 5 queue 1000 plr 0.0001 codel",
              "@0 pipe 2 config bw 1Gbit/s delay 5 queue 1000",
              "@0 add 100 pipe 1 tcp from 10.0.0.0/16 to any", "@0 add 200 pipe 2 tcp from any to 10.0.0.0/16"]
     lines += [f"@{flow * 1000} flow {flow} 10.0.0.{flow % 256} {flow} 10.1.0.1 80 smss 1000 segments 1000000"
@@ -121,11 +126,13 @@ def line_of_big(draw: random.Random, moment: int) -> str:
     """Returns a line of b5, which is usually a single packet."""
     kind, number = draw.random(), draw.randint
     if kind < 0.93:
-        protocol, source = draw.choice(["udp", "tcp"]), f"10.{number(0, 255)}.{number(0, 255)}.1 {number(0, 65535)}"
-        return f"@{moment} inject {protocol} {source} 10.0.0.{number(0, 255)} {number(0, 65535)} {number(40, 1500)}"
+        protocol, source = draw.choice(["udp",
+                                        "tcp"]), f"10.{number(0, 255)}.{number(0, 255)}.1 {number(0, 65535)}"
+        return (f"@{moment} inject {protocol} {source} 10.0.0.{number(0, 255)} {number(0, 65535)} "
+                f"{number(40, 1500)}")
     if kind < 0.95:
-        return (f"@{moment} pipe 1 config bw {number(1, 1000)}Mbit/s delay {number(0, 5)}ms queue 1000 codel target 5ms"
-                " interval 100ms")
+        return (f"@{moment} pipe 1 config bw {number(1, 1000)}Mbit/s delay {number(0, 5)}ms queue 1000 codel "
+                "target 5ms interval 100ms")
     if kind < 0.97:
         return f"# a comment that takes some room in the text, number {moment}"
     if kind < 0.985:
@@ -150,10 +157,12 @@ def big(draw: random.Random) -> list[str]:
 
 def single_packets(draw: random.Random) -> list[str]:
     """Returns b6: 256 rules and 10^5 single packets with random addresses."""
-    lines = [f"experiment single seed 6 {STEPS}", "@0 pipe 1 config bw 10Gbit/s delay 1 queue 1000", *rules(draw)]
+    lines = [f"experiment single seed 6 {STEPS}", "@0 pipe 1 config bw 10Gbit/s delay 1 queue 1000",
+             *rules(draw)]
     for at in range(100_000):
         source = f"10.{draw.randint(0, 255)}.{draw.randint(0, 255)}.1 {draw.randint(0, 65535)}"
-        lines.append(f"@{at * 1000} inject udp {source} 10.0.0.{draw.randint(0, 255)} {draw.randint(0, 999)} 500")
+        lines.append(
+            f"@{at * 1000} inject udp {source} 10.0.0.{draw.randint(0, 255)} {draw.randint(0, 999)} 500")
     return [*lines, "@1000000000 show", "@1000000000 end"]
 
 
@@ -171,7 +180,8 @@ def chain(draw: random.Random) -> list[str]:
     return [*lines, "@1000000000000000 end"]
 
 
-LOADS = {"b1": long_flow, "b2": mixed, "b3": shared, "b4": train_behind_rules, "b5": big, "b6": single_packets, "b7": chain}
+LOADS = {"b1": long_flow, "b2": mixed, "b3": shared, "b4": train_behind_rules, "b5": big,
+         "b6": single_packets, "b7": chain}
 
 
 def drawn(name: str) -> str:

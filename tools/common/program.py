@@ -10,22 +10,23 @@ SCRIPT = ROOT / "dnlab"
 
 
 def program(named: str | os.PathLike[str] | None = None) -> str:
-    """Returns the path of the program: the named one, or the one that the environment variable DNLAB names, or the one that
-    this repository's script ./dnlab starts (the proved program or a checked build). If the script fails, the tool exits with
-    the script's status."""
+    """Returns the path of the program: the named one, or the one that the environment variable DNLAB names,
+    or the one that this repository's script ./dnlab starts (the proved program or a checked build). If the
+    script fails, the tool exits with the script's status."""
     named = str(named or os.environ.get("DNLAB") or SCRIPT)
     found = shutil.which(named)
     if found is None or not os.path.samefile(found, SCRIPT):
         return named
-    done = subprocess.run([SCRIPT, "program"], stdin=subprocess.DEVNULL, stdout=subprocess.PIPE, text=True, check=False)
+    done = subprocess.run([SCRIPT, "program"], stdin=subprocess.DEVNULL, stdout=subprocess.PIPE, text=True,
+                          check=False)
     if done.returncode:
         sys.exit(done.returncode)
     return done.stdout.rstrip("\n")
 
 
 def soak() -> str:
-    """Returns the path of the program of crates/soak: the one that the environment variable SOAK names, or this repository's
-    proved one. Exits with 3 if there is none."""
+    """Returns the path of the program of crates/soak: the one that the environment variable SOAK names, or
+    this repository's proved one. Exits with 3 if there is none."""
     named = os.environ.get("SOAK") or str(ROOT / "crates" / "soak" / "out" / "soak")
     if not os.access(named, os.X_OK):
         print(f"there is no program {named}: 'rt run' in crates/soak proves and builds it", file=sys.stderr)

@@ -1,9 +1,9 @@
-"""Judges whether a text is a scenario, with the package's reader (python/dnlab/io/scenario.py), and whether a report is
-complete.
+"""Judges whether a text is a scenario, with the package's reader (python/dnlab/io/scenario.py), and whether a
+report is complete.
 
-It gives tools/attack/hostile, tools/attack/limits and tools/second/differ an independent opinion on faults and their lines,
-which is written only from docs/reference/scenario.md, faults.md and report.md. It does not simulate, so it does not judge the
-finishes and drops of a report.
+It gives tools/attack/hostile, tools/attack/limits and tools/second/differ an independent opinion on faults
+and their lines, which is written only from docs/reference/scenario.md, faults.md and report.md. It does not
+simulate, so it does not judge the finishes and drops of a report.
 """
 import pathlib
 import re
@@ -13,7 +13,7 @@ from collections.abc import Iterable
 sys.path.insert(0, str(pathlib.Path(__file__).resolve().parents[2] / "python"))
 
 from dnlab.io.scenario import Judged  # noqa: E402  (the path is set first)
-from dnlab.io.scenario_parts import MOST_BYTES, MOST_LINE, SCALES, TIMES  # noqa: E402  (the path is set first)
+from dnlab.io.scenario_parts import MOST_BYTES, MOST_LINE, SCALES, TIMES  # noqa: E402
 
 __all__ = ["MOST_BYTES", "MOST_LINE", "SCALES", "TIMES", "Judged", "trouble"]
 
@@ -24,7 +24,8 @@ CLOSING = re.compile(rb"[0-9]+ (?:ok [0-9]+|spent)")
 
 
 def trouble(experiments: Iterable[tuple[str, int]], report: bytes) -> str | None:
-    """Returns a sentence on why a report is not complete, or None if it is. `experiments` has names and numbers of commands."""
+    """Returns a sentence on why a report is not complete, or None if it is. `experiments` has names and
+    numbers of commands."""
     if report and not report.endswith(b"\n"):
         return "the last line has no LF"
     lines = iter(report.split(b"\n")[:-1])

@@ -28,7 +28,8 @@ class Tally:
             self.count(is_well, f"{before}{name}: not so")
 
     def close(self) -> int:
-        """Prints the closing line. Returns the tool's status: 1 if a trial failed or none ran, otherwise 0."""
+        """Prints the closing line. Returns the tool's status: 1 if a trial failed or none ran, otherwise
+        0."""
         skipped = f", {self.skipped} skipped" if self.skipped else ""
         print(f"{self.passed} passed, {self.failed} failed{skipped}", flush=True)
         return 1 if self.failed or not self.passed else 0

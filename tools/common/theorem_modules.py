@@ -1,4 +1,5 @@
-"""Finds the modules of the crate emu_laws that state theorems proved by computation. The other modules have lemmas of its laws."""
+"""Finds the modules of the crate emu_laws that state theorems proved by computation. The other modules have
+lemmas of its laws."""
 import pathlib
 import re
 

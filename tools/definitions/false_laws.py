@@ -1,5 +1,5 @@
-"""Tries changes that make the laws of emu_laws false, each over a copy of emu_model without the laws and lemmas that
-emu_laws does not need."""
+"""Tries changes that make the laws of emu_laws false, each over a copy of emu_model without the laws and
+lemmas that emu_laws does not need."""
 import pathlib
 import re
 import shutil
@@ -35,7 +35,8 @@ class FalseLaw(Change):
 
     def calls_model(self) -> bool:
         """Returns whether the law's module calls laws of emu_model."""
-        return not self.is_weaker and CALLED.search((LAWS / f"src/{self.law.partition('.')[0]}.rt").read_text()) is not None
+        return (not self.is_weaker
+                and CALLED.search((LAWS / f"src/{self.law.partition('.')[0]}.rt").read_text()) is not None)
 
 
 def all_laws() -> list[FalseLaw]:
@@ -56,14 +57,17 @@ def all_laws() -> list[FalseLaw]:
             specs = (LAWS if found[-1].is_weaker else MODEL) / "specs"
             found[-1].applied((specs / f"{found[-1].file}.antt").read_text())
             changed |= set() if found[-1].is_weaker else {law}
-    laws = {f"{path.stem}.{name}" for path in (LAWS / "src").glob("*.rt") for name in FUNCTION.findall(path.read_text())}
+    laws = {f"{path.stem}.{name}" for path in (LAWS / "src").glob("*.rt")
+            for name in FUNCTION.findall(path.read_text())}
     if laws != changed or len({it.name for it in found}) < len(found):
-        raise ValueError(f"{LIST.name}: not the laws of emu_laws, or one twice: {' '.join(sorted(laws ^ changed))}")
+        raise ValueError(
+            f"{LIST.name}: not the laws of emu_laws, or one twice: {' '.join(sorted(laws ^ changed))}")
     return found
 
 
 def keep_only(crate: pathlib.Path, module: str, names: list[str]) -> str:
-    """Removes all laws of a module except those of these names, and the module itself if there are none. Returns its text."""
+    """Removes all laws of a module except those of these names, and the module itself if there are none.
+    Returns its text."""
     path, root, proofs = crate / f"src/{module}.rt", crate / "src/lib.rt", crate / "proofs" / module
     blocks = [(block, FUNCTION.search(block)) for block in path.read_text().split("\n\n")]
     source = "\n\n".join(block for block, name in blocks if not name or name[1] in names)
@@ -82,8 +86,8 @@ def keep_only(crate: pathlib.Path, module: str, names: list[str]) -> str:
 
 
 class Bare:
-    """A copy of emu_laws over a copy of emu_model without laws. Of the laws of emu_laws that call one of emu_model, it only
-    has `law`, if that is one of them, and the laws that it calls."""
+    """A copy of emu_laws over a copy of emu_model without laws. Of the laws of emu_laws that call one of
+    emu_model, it only has `law`, if that is one of them, and the laws that it calls."""
 
     def __init__(self, room: pathlib.Path, law: str) -> None:
         self.model, self.laws = room / "crates/emu_model", room / "crates/emu_laws"
@@ -96,7 +100,8 @@ class Bare:
                 continue
             source = keep_only(self.laws, path.stem, [name] if path.stem == module else [])
             if path.stem == module:
-                called = {it for it in re.findall(r"\w+", found[1] or found[2]) if re.search(rf"\b{it}\(\)", source)}
+                called = {it for it in re.findall(r"\w+", found[1] or found[2])
+                          if re.search(rf"\b{it}\(\)", source)}
                 use = f"use emu_model::{{{', '.join(sorted(called))}}};" if called else ""
                 path.write_text(CALLED.sub(use, source))
         self.strip(called)
@@ -110,23 +115,27 @@ class Bare:
         leave_modules(self.laws, computed)
 
     def strip(self, called: set[str]) -> None:
-        """Removes all of emu_model's laws except those that are called, and all lemmas except those that they and emu_laws
-        cite."""
+        """Removes all of emu_model's laws except those that are called, and all lemmas except those that they
+        and emu_laws cite."""
         for path in sorted((self.model / "src").glob("*laws.rt")):
-            keep_only(self.model, path.stem, [it for it in FUNCTION.findall(path.read_text()) if it in called])
+            keep_only(self.model, path.stem,
+                      [it for it in FUNCTION.findall(path.read_text()) if it in called])
         self.take_directly()
-        over = "".join(path.read_text() for crate in (self.laws, self.model) for path in (crate / "proofs").glob("*/**/*.antt"))
+        over = "".join(path.read_text() for crate in (self.laws, self.model)
+                       for path in (crate / "proofs").glob("*/**/*.antt"))
         over += "".join(path.read_text() for path in (self.laws / "proofs").glob("*.antt"))
         roots = set(re.findall(rf"^use {re.escape(PROOFS)}\.(\w+) as", over, re.M))
         self.keep_lemmas(roots | {stem for _, stem, _ in LEMMAS.findall(over)}, over)
 
     def take_directly(self) -> None:
-        """Makes emu_laws import each lemma that a file of emu_model only re-exports from where it is defined."""
+        """Makes emu_laws import each lemma that a file of emu_model only re-exports from where it is
+        defined."""
         passed_on: dict[str, dict[str, str]] = {}
         for path in (self.model / "proofs").glob("*.antt"):
             for pub, stem, names in LEMMAS.findall(path.read_text()):
                 if pub:
-                    passed_on.setdefault(path.stem, {}).update(dict.fromkeys(names.split(", "), f"{PROOFS}.{stem}"))
+                    passed_on.setdefault(path.stem,
+                                         {}).update(dict.fromkeys(names.split(", "), f"{PROOFS}.{stem}"))
         for path in (self.laws / "proofs").glob("*.antt"):
             text = path.read_text()
             for stem, places in passed_on.items():
@@ -134,15 +143,16 @@ class Bare:
             path.write_text(text)
 
     def keep_lemmas(self, todo: set[str], over: str) -> None:
-        """Removes all files of lemmas except those that are cited, directly or indirectly. Also removes each re-export of
-        which `over`, the text of the citing files, imports nothing."""
+        """Removes all files of lemmas except those that are cited, directly or indirectly. Also removes each
+        re-export of which `over`, the text of the citing files, imports nothing."""
         proofs = self.model / "proofs"
         kept: dict[str, str] = {}
         taken = {(stem, name) for _, stem, names in LEMMAS.findall(over) for name in names.split(", ")}
         while todo:
             stem = todo.pop()
             kept[stem] = LEMMAS.sub(
-                lambda it: it[0] if not it[1] or any((stem, name) in taken for name in it[3].split(", ")) else "",
+                lambda it: it[0] if not it[1]
+                or any((stem, name) in taken for name in it[3].split(", ")) else "",
                 (proofs / f"{stem}.antt").read_text())
             todo |= {name for _, name, _ in LEMMAS.findall(kept[stem])} - set(kept)
         for path in proofs.glob("*.antt"):
@@ -152,8 +162,9 @@ class Bare:
         (proofs / "Lib.antt").write_text("".join(f"pub mod {stem}\n" for stem in sorted(kept)))
 
     def refused(self, change: FalseLaw) -> tuple[set[str] | None, str]:
-        """Returns the laws that are refused, or None if the check gave no result, and the check's output. A lemma of
-        emu_model that isn't proved over the change is removed, and so is everything that cites it."""
+        """Returns the laws that are refused, or None if the check gave no result, and the check's output. A
+        lemma of emu_model that isn't proved over the change is removed, and so is everything that cites
+        it."""
         path = (self.laws if change.is_weaker else self.model) / "specs" / f"{change.file}.antt"
         old = {it: it.read_text() for it in [path, *(self.model / "proofs").glob("*.antt")]}
         try:
@@ -173,4 +184,5 @@ class Bare:
 def leave_modules(crate: pathlib.Path, names: set[str]) -> None:
     """Removes modules from the list of a crate's proofs."""
     root = crate / "proofs/Lib.antt"
-    root.write_text("".join(line for line in root.read_text().splitlines(keepends=True) if line.split()[-1] not in names))
+    root.write_text("".join(line for line in root.read_text().splitlines(keepends=True)
+                            if line.split()[-1] not in names))

@@ -1,5 +1,5 @@
-"""Tries changes of definitions on the theorems of emu_laws that are proved by computation, many at a time, and then on
-the laws of emu_model."""
+"""Tries changes of definitions on the theorems of emu_laws that are proved by computation, many at a time,
+and then on the laws of emu_model."""
 import pathlib
 import re
 import tempfile
@@ -9,10 +9,12 @@ from mutants import LAWS, MODEL, SPECS, Change, check, copy_crates, direct, line
 
 # The name of the crate for a lot.
 LOT = "emu_lot"
-# The files of single words, a few short examples of all topics, and those that take longer than all others together.
+# The files of single words, a few short examples of all topics, and those that take longer than all others
+# together.
 WORD_FILES = re.compile(r"Bounds|AdaptiveSamples|\w+Steps")
 FEW = re.compile(
-    r"DeletedEverywhere|FullAndLost|Listings|PacketBudget|RefusedCommands|StoppedFlow|TracedMasked|TracedTwoPipes")
+    r"DeletedEverywhere|FullAndLost|Listings|PacketBudget|RefusedCommands|StoppedFlow|TracedMasked"
+    r"|TracedTwoPipes")
 SLOW = re.compile(r"LimitRules|LimitTrains|LossAll|LossNone")
 # The turns, each with the size of a lot. A turn tries the changes that no earlier turn detected.
 TURNS = {"words": 20, "few": 20, "worked": 10, "slow": 10}
@@ -33,16 +35,20 @@ class Lots:
     """The definitions, and the theorems of a turn over them."""
 
     def __init__(self, turn: str) -> None:
-        self.specs = {path.stem: path.read_text() for path in (MODEL / "specs").glob("*.antt") if path.stem != "Lib"}
+        self.specs = {path.stem: path.read_text()
+                      for path in (MODEL / "specs").glob("*.antt") if path.stem != "Lib"}
         words = passed_on((LAWS / "proofs/Words.antt").read_text())
         # `Words` re-exports names of the original definitions; a copy must take those of changed ones.
-        self.examples = {stem: direct(text, "Rattle.emu_laws.proofs.Words", words).replace("Rattle.emu_laws.", f"Rattle.{LOT}.")
+        self.examples = {stem: direct(text, "Rattle.emu_laws.proofs.Words",
+                                      words).replace("Rattle.emu_laws.", f"Rattle.{LOT}.")
                          for stem, text in theorem_modules.texts().items() if turn_of(stem) == turn}
 
     def touched(self, file: str) -> tuple[set[str], set[str]]:
-        """Returns the files of definitions that depend on a file and that theorems need, and these theorems."""
+        """Returns the files of definitions that depend on a file and that theorems need, and these
+        theorems."""
         found = {file}
-        while more := {stem for stem, text in self.specs.items() if stem not in found and found & set(USES.findall(text))}:
+        while more := {stem for stem, text in self.specs.items() if stem not in found
+                       and found & set(USES.findall(text))}:
             found |= more
         theorems = {stem for stem, text in self.examples.items() if found & set(USES.findall(text))}
         wanted: set[str] = set()
@@ -55,12 +61,14 @@ class Lots:
         return wanted, theorems
 
     def direct(self, text: str) -> str:
-        """Returns a text that doesn't import from `Types`, nor `EventContext` from `Net`: other crates can't."""
+        """Returns a text that doesn't import from `Types`, nor `EventContext` from `Net`: other crates
+        can't."""
         text = direct(text, f"{SPECS}.Net", {"EventContext": f"{SPECS}.declared.commands.EventContext"})
         return direct(text, f"{SPECS}.Types", passed_on(self.specs["Types"]))
 
     def modules(self, number: int, change: Change) -> dict[str, str]:
-        """Returns copies of the definitions that a change affects and of the theorems over them, under new names."""
+        """Returns copies of the definitions that a change affects and of the theorems over them, under new
+        names."""
         specs, theorems = self.touched(change.file)
         parts = {stem: self.specs[stem] for stem in specs} | {stem: self.examples[stem] for stem in theorems}
         parts[change.file] = change.applied(self.specs[change.file])
@@ -70,7 +78,8 @@ class Lots:
                 for stem, text in parts.items()}
 
     def tried(self, lot: list[Change]) -> list[Seen]:
-        """Returns the theorems that are refused for each change, or None for those whose copy is not well formed."""
+        """Returns the theorems that are refused for each change, or None for those whose copy is not well
+        formed."""
         modules = {"Makings": (LAWS / "proofs/Makings.antt").read_text()}
         for number, change in enumerate(lot):
             modules |= self.modules(number, change)
@@ -83,7 +92,8 @@ class Lots:
             crate = room / "crates" / LOT
             for folder in "src", "proofs":
                 (crate / folder).mkdir(parents=True)
-            (crate / "src/lib.rt").write_text("//! Theorems alone.\n#![tactic(auto)]\n\npub const NOTHING: u64 = 0;\n")
+            (crate / "src/lib.rt").write_text(
+                "//! Theorems alone.\n#![tactic(auto)]\n\npub const NOTHING: u64 = 0;\n")
             for stem, text in modules.items():
                 (crate / f"proofs/{stem}.antt").write_text(text)
             (crate / "proofs/Lib.antt").write_text("".join(f"mod {stem}\n" for stem in modules))

@@ -1,4 +1,5 @@
-"""Changes of definitions: the lists of them, how one is made in a text, and copies of crates in which they are tried."""
+"""Changes of definitions: the lists of them, how one is made in a text, and copies of crates in which they
+are tried."""
 import os
 import pathlib
 import re
@@ -13,7 +14,8 @@ SPECS, PROOFS = "Rattle.emu_model.specs", "Rattle.emu_model.proofs"
 PASSED_ON = re.compile(r"^(?:unfoldable )?pub use (\S+)\.\{(.*)\}$", re.M)
 PRELUDE = re.compile(r"^use Rattle\.std\.specs\.Prelude\.\{(.*)\}$", re.M)
 # The names of the Prelude that a change may need in addition to those that its file imports.
-WORDS = {"true", "false", "Some", "None", "nat_lt", "nat_le", "max", "min", "length", "suc", "is_some", "is_none"} | {
+WORDS = {"true", "false", "Some", "None", "nat_lt", "nat_le", "max", "min", "length", "suc", "is_some",
+         "is_none"} | {
     "+", "-", "*", "/", "^", "&&", "||", "==", "++", "∷", "[]"}
 
 
@@ -113,13 +115,16 @@ def all_changes() -> list[Change]:
 
 def line_of(crate: str) -> str:
     """Returns the line of crates.txt for a crate."""
-    return next(line for line in (ROOT / "crates.txt").read_text().splitlines(keepends=True) if line.startswith(f"{crate}:"))
+    return next(line for line in (ROOT / "crates.txt").read_text().splitlines(keepends=True)
+                if line.startswith(f"{crate}:"))
 
 
 def copy_crates(room: pathlib.Path, *crates: pathlib.Path, without: str = "rlib") -> None:
-    """Makes a repository in a folder that has these crates of this one, without their edits and some more folders."""
+    """Makes a repository in a folder that has these crates of this one, without their edits and some more
+    folders."""
     for crate in crates:
-        shutil.copytree(crate, room / "crates" / crate.name, ignore=shutil.ignore_patterns("must-fail", without))
+        shutil.copytree(crate, room / "crates" / crate.name,
+                        ignore=shutil.ignore_patterns("must-fail", without))
     shutil.copy(ROOT / "HANDLES", room)
     (room / "crates.txt").write_text("".join(line_of(crate.name) for crate in crates))
 
@@ -136,4 +141,5 @@ def check_unchanged(crate: pathlib.Path, what: str) -> None:
     status, said = check(crate)
     if status:
         errors = [line for line in said.splitlines() if " error" in line]
-        raise SystemExit("\n".join([f"{what} as they stand are not proved:", *(errors or said.splitlines()[-20:])]))
+        raise SystemExit("\n".join([f"{what} as they stand are not proved:",
+                                    *(errors or said.splitlines()[-20:])]))

@@ -32,9 +32,11 @@ def address(word: str) -> int:
 
 
 def place(words: list[str]) -> str:
-    """Returns the terms of a rule's prefix and ports. Like `Prefix::new`, it clears the bits after the length."""
+    """Returns the terms of a rule's prefix and ports. Like `Prefix::new`, it clears the bits after the
+    length."""
     base, _, length = words[0].partition("/")
-    prefix = "anywhere" if base == "any" else f"(address_span {address(base)} {int(length) if length else 32})"
+    prefix = ("anywhere" if base == "any"
+              else f"(address_span {address(base)} {int(length) if length else 32})")
     if len(words) == 1:
         return f"{prefix} None"
     low, _, high = words[1].partition("-")
@@ -56,7 +58,8 @@ def rule(number: int, words: list[str]) -> str:
 
 def bandwidth(word: str) -> int:
     """Returns a rate in bit/s."""
-    number, scale, unit = re.fullmatch(r"(\d+)([KMG]?)(bit/s|Byte/s|)", word).groups()  # type: ignore[union-attr]
+    number, scale, unit = re.fullmatch(r"(\d+)([KMG]?)(bit/s|Byte/s|)",
+                                       word).groups()  # type: ignore[union-attr]
     return int(number) * SCALES[scale] * (8 if unit == "Byte/s" else 1)
 
 
@@ -86,7 +89,9 @@ def config(words: list[str]) -> str:
     # Each word is a key here: options, and those of `mask` and `codel`, have different names.
     found = dict(zip(words, [*words[1:], ""]))
     mask = ALL if found.get("mask") == "all" else tuple(int(found.get(name, "0"), 16) for name in FIELDS)
-    codel = f"(ControlledDelay {codel_time(found.get('target', '5'))} {codel_time(found.get('interval', '100'))})"
+    codel = (
+        f"(ControlledDelay {codel_time(found.get('target', '5'))} "
+        f"{codel_time(found.get('interval', '100'))})")
     return pipe_with(bandwidth(found.get("bw", "0")), int(found.get("delay", "0").removesuffix("ms")),
                      queue(found.get("queue", "50")), loss(found.get("plr", "0")), mask,
                      codel if "codel" in found else "TailDrop")
@@ -94,7 +99,8 @@ def config(words: list[str]) -> str:
 
 def packet(protocol: str, words: list[str]) -> str:
     source, sport, target, dport, size = words
-    return f"packet {protocol.capitalize()} {address(source)} {int(sport)} {address(target)} {int(dport)} {int(size)}"
+    return (f"packet {protocol.capitalize()} {address(source)} {int(sport)} {address(target)} "
+            f"{int(dport)} {int(size)}")
 
 
 def flow(words: list[str]) -> str:
@@ -107,7 +113,8 @@ def flow(words: list[str]) -> str:
 def pipe(words: list[str]) -> str:
     if words[0] == "show":
         return "PipeShow"
-    return f"PipeDelete {int(words[1])}" if words[0] == "delete" else f"Config {int(words[0])} ({config(words[2:])})"
+    return (f"PipeDelete {int(words[1])}" if words[0] == "delete"
+            else f"Config {int(words[0])} ({config(words[2:])})")
 
 
 # The functions that return the term of a command, by its first word, from the others.
@@ -142,9 +149,11 @@ def shown(words: list[str]) -> str:
         busy = "true" if found["busy"] == "1" else "false"
         return (f"InstanceLine {words[1].replace('.', ' ')} {found['waiting']} {found['bytes']} {busy}"
                 f" {found['flight']} {found['drawn']}")
-    discipline = f"(ControlledDelay {int(words[14])} {int(words[16])})" if words[12] == "codel" else "TailDrop"
+    discipline = (f"(ControlledDelay {int(words[14])} {int(words[16])})" if words[12] == "codel"
+                  else "TailDrop")
     mask = tuple(int(word, 16) for word in found["mask"].split("/"))
-    described = pipe_with(int(found["bw"]), int(found["delay"]), queue(found["queue"]), int(found["plr"]), mask, discipline)
+    described = pipe_with(int(found["bw"]), int(found["delay"]), queue(found["queue"]), int(found["plr"]),
+                          mask, discipline)
     return f"PipeLine {int(words[1])} ({described})"
 
 
@@ -152,8 +161,8 @@ def made(moment: str, words: list[str], plain: str) -> str:
     """Returns the term of a line `make`, if a packet without a load has the origin `plain`."""
     term, (protocol, source, sport, target, dport, size) = load(words[1:])
     by = {"Plain": plain}.get(term, term.replace("Seg", "BySender").replace("Ack", "ByReceiver")).strip("()")
-    return (f"PacketMade {moment} {words[0]} ({by}) {protocol.capitalize()} {address(source)} {sport} {address(target)}"
-            f" {dport} {size}")
+    return (f"PacketMade {moment} {words[0]} ({by}) {protocol.capitalize()} {address(source)} {sport} "
+            f"{address(target)} {dport} {size}")
 
 
 def dropped(moment: str, words: list[str]) -> str:
@@ -166,7 +175,8 @@ def identified(moment: str, words: list[str]) -> str:
     return f"InstanceIdentified {moment} {words[0].replace('.', ' ')} {fields}"
 
 
-# The functions that return the term of a line, by the line's second word, from its time and the words after the second.
+# The functions that return the term of a line, by the line's second word, from its time and the words after
+# the second.
 RECORDS: dict[str, Callable[[str, list[str]], str]] = {
     "ok": lambda m, w: f"CommandDone {m} {w[0]}",
     "refused": lambda m, w: f"CommandRefused {m} {w[0]} {REFUSALS[int(w[1])]}",
@@ -183,7 +193,8 @@ RECORDS: dict[str, Callable[[str, list[str]], str]] = {
 
 
 class Origins:
-    """Finds what created the packets without a load, from the commands and the lines of a report, in their order."""
+    """Finds what created the packets without a load, from the commands and the lines of a report, in their
+    order."""
 
     def __init__(self, commands: list[Timed]) -> None:
         self.commands = commands
@@ -195,8 +206,8 @@ class Origins:
     def of(self, now: int) -> str:
         """Returns the term of the origin of such a packet that is created now.
 
-        The line of an `inject` is directly before that of its packet. Of the trains that are due, the one with the
-        least number comes first, until it has sent its packets of this time.
+        The line of an `inject` is directly before that of its packet. Of the trains that are due, the one
+        with the least number comes first, until it has sent its packets of this time.
         """
         if self.done is not None and self.commands[self.done][1].startswith("Inject "):
             return f"ByCommand {self.done}"

@@ -1,4 +1,5 @@
-"""Builds without a proof, which are kept in the user's cache folder by a checksum of what they were made from."""
+"""Builds without a proof, which are kept in the user's cache folder by a checksum of what they were made
+from."""
 import hashlib
 import os
 import pathlib
@@ -19,7 +20,8 @@ def kit_folder() -> pathlib.Path:
     """The kit that `rt` on the PATH is of."""
     found = shutil.which("rt")
     if found is None:
-        raise FileNotFoundError("rt, the command of the Rattle kit, is not on the PATH (README.md names the kit)")
+        raise FileNotFoundError(
+            "rt, the command of the Rattle kit, is not on the PATH (README.md names the kit)")
     return pathlib.Path(found).resolve().parents[1]
 
 
@@ -33,10 +35,12 @@ def is_fresh(made: pathlib.Path, names: Sequence[str]) -> bool:
     return all(it.stat().st_mtime_ns <= since for it in found if it.exists())
 
 
-def key_of(root: pathlib.Path, names: Sequence[str], version: Optional[str], makers: Sequence[ModuleType]) -> str:
-    """A checksum of the sources of some crates below a folder, of what a program says of itself, of what makes it, and
-    of the kit."""
-    lines, sum_of = crates.lines_of_crates(root), hashlib.sha256(f"{crates.kit_version()}\0{version}".encode())
+def key_of(root: pathlib.Path, names: Sequence[str], version: Optional[str],
+           makers: Sequence[ModuleType]) -> str:
+    """A checksum of the sources of some crates below a folder, of what a program says of itself, of what
+    makes it, and of the kit."""
+    lines, sum_of = crates.lines_of_crates(root), hashlib.sha256(
+        f"{crates.kit_version()}\0{version}".encode())
     for it in makers:
         sum_of.update(pathlib.Path(str(it.__file__)).read_bytes())
     for name in names:
@@ -51,7 +55,8 @@ def forget(room: pathlib.Path, beside: pathlib.Path, kept: int) -> None:
     """Removes the least recently used builds, except for a few and one more, and what a killed call left."""
     for it in room.glob("making-*"):
         rt_ci.remove(it)
-    found = sorted((it for it in room.iterdir() if it.is_dir() and it != beside), key=lambda it: -it.stat().st_mtime)
+    found = sorted((it for it in room.iterdir() if it.is_dir() and it != beside),
+                   key=lambda it: -it.stat().st_mtime)
     for it in found[kept - 1:]:
         rt_ci.remove(it)
 
@@ -59,8 +64,8 @@ def forget(room: pathlib.Path, beside: pathlib.Path, kept: int) -> None:
 def made(work: Work, crate: str, what: str, makers: Sequence[ModuleType], kept: int,
          is_whole: Callable[[pathlib.Path], bool],
          make: Callable[[pathlib.Path, pathlib.Path, pathlib.Path], None]) -> pathlib.Path:
-    """The folder of a build of a crate's sources as they stand, one of some that are kept; made, where it isn't there,
-    by `make` of a copy of the sources, in a room, into a folder."""
+    """The folder of a build of a crate's sources as they stand, one of some that are kept; made, where it
+    isn't there, by `make` of a copy of the sources, in a room, into a folder."""
     names = crates.below(crates.read_uses(ROOT), [crate])
     version, room = stamp.version_of(ROOT, names, is_proved=False, crate=crate), crates.cache_folder() / what
     room.mkdir(parents=True, exist_ok=True)

@@ -16,9 +16,11 @@ PARTS = ("src", "specs", "proofs")
 
 
 def read_uses(root: pathlib.Path) -> Dict[str, List[str]]:
-    """The crates of crates.txt, in its order, each with the crates (not the kit's libraries) that its line names."""
+    """The crates of crates.txt, in its order, each with the crates (not the kit's libraries) that its line
+    names."""
     lines = lines_of_crates(root)
-    return {name: [it for it in re.split(r"[\s,]+", line.partition(":")[2]) if it in lines] for name, line in lines.items()}
+    return {name: [it for it in re.split(r"[\s,]+", line.partition(":")[2]) if it in lines]
+            for name, line in lines.items()}
 
 
 def lines_of_crates(root: pathlib.Path) -> Dict[str, str]:
@@ -48,8 +50,9 @@ def below(uses: Dict[str, List[str]], names: Iterable[str]) -> List[str]:
 
 @functools.lru_cache(maxsize=None)
 def cache_folder() -> pathlib.Path:
-    """Where what is made of checkouts is kept: `dnlab` in the user's cache folder (XDG base directories); where nothing can be written
-    there, a folder of the user's own among the temporary files. Where that can't be either, this ends with status 3."""
+    """Where what is made of checkouts is kept: `dnlab` in the user's cache folder (XDG base directories);
+    where nothing can be written there, a folder of the user's own among the temporary files. Where that can't
+    be either, this ends with status 3."""
     named, home = (os.environ.get(name, "") for name in ("XDG_CACHE_HOME", "HOME"))
     base = named if os.path.isabs(named) else f"{home}/.cache" if os.path.isabs(home) else ""
     if base:
@@ -65,8 +68,8 @@ def cache_folder() -> pathlib.Path:
         if not stat.S_ISDIR(found.st_mode) or found.st_uid != os.getuid() or found.st_mode & 0o022:
             raise PermissionError(errno.EACCES, "others can write there", str(own))
     except OSError as fault:
-        print(f"dnlab: nothing can be kept, neither in {base or 'a cache folder (HOME is not set)'} nor in {fault.filename}: {fault.strerror}"
-              " (XDG_CACHE_HOME names another place)", file=sys.stderr)
+        print(f"dnlab: nothing can be kept, neither in {base or 'a cache folder (HOME is not set)'} nor in "
+              f"{fault.filename}: {fault.strerror} (XDG_CACHE_HOME names another place)", file=sys.stderr)
         raise SystemExit(3) from None
     return own
 
@@ -83,5 +86,6 @@ def processors() -> int:
 
 def kit_version() -> str:
     """What `rt version` says."""
-    said = subprocess.run(["rt", "version"], stdin=subprocess.DEVNULL, stdout=subprocess.PIPE, stderr=subprocess.STDOUT, check=False)
+    said = subprocess.run(["rt", "version"], stdin=subprocess.DEVNULL, stdout=subprocess.PIPE,
+                          stderr=subprocess.STDOUT, check=False)
     return said.stdout.decode(errors="replace").strip()

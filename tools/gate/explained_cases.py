@@ -7,17 +7,20 @@ A case of explained/*.txt is
     -- STATUS                  the exit status
     the standard error
 
-In a scenario \\t, \\r and \\xNN stand for a byte, \\c at a line's end for no line feed, \\*N:x for N times x; a line %N for N experiments of one
-command, e1 to eN; %rules N, %pipes N and %trains N for N commands that make one each. In the standard error two kinds of lines stand for several:
+In a scenario \\t, \\r and \\xNN stand for a byte, \\c at a line's end for no line feed, \\*N:x for N times x;
+a line %N for N experiments of one command, e1 to eN; %rules N, %pipes N and %trains N for N commands that
+make one each. In the standard error two kinds of lines stand for several:
 
-    4: badword rate            line 4 is refused: its number and the cause, the line, marks below the word that stands between « and » in the scenario,
-                               what is expected and an example, by the name that sentences.tsv has for both
-    4: units                   a warning of line 4: its number and the cause, the line, and the name of its experiment; for
-                               a refused command also what refusals.tsv has of its code
+    4: badword rate            line 4 is refused: its number and the cause, the line, marks below the word
+                               that stands between « and » in the scenario, what is expected and an example,
+                               by the name that sentences.tsv has for both
+    4: units                   a warning of line 4: its number and the cause, the line, and the name of its
+                               experiment; for a refused command also what refusals.tsv has of its code
     %10 .. %                   the lines between, for each {number} from 1 to 10, and the number {after} it
 
-A row of explained/*.tsv is such a case with one faulty line and status 1: NAME | WORDS, the scenario, the cause, the name of what is expected, and the
-lines that follow. The scenario has its lines between ' | ', or is one line of an experiment with nothing else in it.
+A row of explained/*.tsv is such a case with one faulty line and status 1: NAME | WORDS, the scenario, the
+cause, the name of what is expected, and the lines that follow. The scenario has its lines between ' | ', or
+is one line of an experiment with nothing else in it.
 """
 import pathlib
 import re
@@ -47,7 +50,8 @@ def line_of(line: str) -> bytes:
     if made and made[1] in MADE:
         return "".join(MADE[made[1]].format(k) + "\n" for k in range(1, int(made[2]) + 1)).encode()
     if made and made[1].isdigit():
-        return "".join(f"experiment e{k} seed 0 budget 1\n@0 end\n" for k in range(1, int(made[1]) + 1)).encode()
+        return "".join(f"experiment e{k} seed 0 budget 1\n@0 end\n"
+                       for k in range(1, int(made[1]) + 1)).encode()
     line, end = (line[:-2], b"") if line.endswith("\\c") else (line, b"\n")
     line = re.sub(r"\\\*(\d+):(.)", lambda m: m[2] * int(m[1]), line)
     line = line.replace("\\t", "\t").replace("\\r", "\r")
@@ -60,7 +64,8 @@ def shown(line: str) -> str:
 
 
 def refused(line: str) -> list[str]:
-    """A faulty line as it is repeated, and marks below the word that is to blame, or behind the line's last byte."""
+    """A faulty line as it is repeated, and marks below the word that is to blame, or behind the line's last
+    byte."""
     before, word, after = re.split("[«»]", line)
     marks = " " * len(shown(f"{before}\\c")) + "^" * max(len(shown(f"{word}\\c")), 1)
     return [f"  {shown(before + word + after)}", f"  {marks}"]
@@ -87,14 +92,17 @@ def whole(lines: list[str], scenario: list[str], expected: dict[str, list[str]])
             made += [*refused(scenario[at]), *expected[found[3]]]
         else:
             name = next(it.split()[1] for it in scenario[at::-1] if it.startswith("experiment "))
-            made += [f"  {shown(scenario[at])}", f"  experiment: {name}", *(expected[found[2]] if " " in found[2] else [])]
+            made += [f"  {shown(scenario[at])}", f"  experiment: {name}",
+                     *(expected[found[2]] if " " in found[2] else [])]
     return repeated("".join(f"{it}\n" for it in made))
 
 
-def case_of(head: str, scenario: list[str], status: int, said: list[str], expected: dict[str, list[str]]) -> Case:
+def case_of(head: str, scenario: list[str], status: int, said: list[str],
+            expected: dict[str, list[str]]) -> Case:
     name, _, words = head.partition(" | ")
     text = b"".join(line_of(re.sub("[«»]", "", line)) for line in scenario)
-    return Case(name.strip(), (words or "check --explain").split(), text, status, whole(said, scenario, expected))
+    return Case(name.strip(), (words or "check --explain").split(), text, status,
+                whole(said, scenario, expected))
 
 
 def rows(path: pathlib.Path) -> Iterator[list[str]]:
@@ -104,11 +112,14 @@ def rows(path: pathlib.Path) -> Iterator[list[str]]:
 
 
 def cases() -> Iterator[Case]:
-    expected = {name: [f"  expected: {it}", *(f"  example: {one}" for one in example)] for name, it, *example in rows(FOLDER / "sentences.tsv")}
-    expected |= {f"refused {code}": [f"  means: {means}", f"  hint: {hint}"] for code, means, hint in rows(FOLDER / "refusals.tsv")}
+    expected = {name: [f"  expected: {it}", *(f"  example: {one}" for one in example)]
+                for name, it, *example in rows(FOLDER / "sentences.tsv")}
+    expected |= {f"refused {code}": [f"  means: {means}", f"  hint: {hint}"]
+                 for code, means, hint in rows(FOLDER / "refusals.tsv")}
     for path in sorted({*FOLDER.glob("*.tsv")} - {FOLDER / "sentences.tsv", FOLDER / "refusals.tsv"}):
         for head, text, cause, name, *more in rows(path):
-            scenario = text.split(" | ") if " | " in text else [text, LAST] if text.lstrip("«").startswith("experiment") else [FIRST, text, LAST]
+            scenario = (text.split(" | ") if " | " in text else [text, LAST]
+                        if text.lstrip("«").startswith("experiment") else [FIRST, text, LAST])
             at = next(k for k, line in enumerate(scenario, 1) if "«" in line)
             said = [f"{at}: {cause} {name}", *(f"  {it}" for it in more)]
             yield case_of(head, scenario, 1, said, expected)

@@ -1,4 +1,5 @@
-"""Where the libraries stand that were made of these sources: the proved one in the checkout, unproved ones in the user's cache folder."""
+"""Where the libraries stand that were made of these sources: the proved one in the checkout, unproved ones in
+the user's cache folder."""
 import os
 import pathlib
 

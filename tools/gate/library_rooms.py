@@ -1,5 +1,5 @@
-"""What tools/gate/check_library tries of libdnlab beneath the package's module: rooms that just fit or are too small, which
-nothing may be written past, limits of steps, and allocations that are refused."""
+"""What tools/gate/check_library tries of libdnlab beneath the package's module: rooms that just fit or are
+too small, which nothing may be written past, limits of steps, and allocations that are refused."""
 import ctypes
 import pathlib
 from collections.abc import Sequence
@@ -30,8 +30,10 @@ class Library:
     def __init__(self, path: pathlib.Path) -> None:
         self.calls = ctypes.CDLL(str(path))
 
-    def call(self, name: str, text: bytes, size: int, *more: object, before: Sequence[object] = ()) -> tuple[Answer, bytes]:
-        """Returns the answer of a call with a room of this size, and the room. Raises ValueError if it writes past it."""
+    def call(self, name: str, text: bytes, size: int, *more: object,
+             before: Sequence[object] = ()) -> tuple[Answer, bytes]:
+        """Returns the answer of a call with a room of this size, and the room. Raises ValueError if it writes
+        past it."""
         answer, room = Answer(9, 9, 9, 9), ctypes.create_string_buffer(FILL * (size + GUARD), size + GUARD)
         getattr(self.calls, f"dnlab_{name}")(*before, text, ctypes.c_size_t(len(text)), *more, room,
                                              ctypes.c_size_t(size), ctypes.byref(answer))
@@ -59,7 +61,8 @@ class Library:
         return answer.status, room[:answer.length] if answer.status == DONE else b""
 
     def talk(self, text: bytes, size: int) -> tuple[int, bytes, bool]:
-        """Returns the last status of a session that hears a text, all its replies, and whether it can be closed once."""
+        """Returns the last status of a session that hears a text, all its replies, and whether it can be
+        closed once."""
         session, status, said = ctypes.c_void_p(), DONE, b""
         # What is open is closed before, and the new one has heard nothing.
         for _ in range(2):
@@ -89,11 +92,13 @@ def of_rooms(library: Library, name: str, text: bytes, call: str, report: bytes)
     answer, room = library.call(call, text, len(report))
     yield f"{name} in a room that just fits", answer.all() == (DONE, 0, 0, len(report)) and room == report
     answer, _ = library.call(call, text, max(len(report) - 1, 0))
-    yield f"{name} in a room that is a byte too small", not report or answer.all() == (ROOM, 0, 0, len(report))
+    yield f"{name} in a room that is a byte too small", not report or answer.all() == (
+        ROOM, 0, 0, len(report))
     if call == "alone":
         length = library.call("records", text, 0)[0].length
         answers = [library.call("records", text, size)[0].all() for size in (length - 1, length)]
-        yield f"{name}: rooms for records", answers == [(ROOM, 0, 0, length), (DONE, 0, 0, length)] and length % 40 == 32
+        yield f"{name}: rooms for records", answers == [(ROOM, 0, 0, length),
+                                                        (DONE, 0, 0, length)] and length % 40 == 32
 
 
 def of_sessions(library: Library, name: str, text: bytes, said: bytes) -> Trials:
@@ -103,7 +108,8 @@ def of_sessions(library: Library, name: str, text: bytes, said: bytes) -> Trials
 
 
 def refused(path: pathlib.Path, name: str, text: bytes) -> Trials:
-    """Refuses each allocation of a call and of a session in turn: the call must report it and lose no memory."""
+    """Refuses each allocation of a call and of a session in turn: the call must report it and lose no
+    memory."""
     library = Library(path)
     refused, asked, held = (ctypes.c_long.in_dll(library.calls, it) for it in ("refused", "asked", "held"))
 
@@ -126,5 +132,6 @@ def refused(path: pathlib.Path, name: str, text: bytes) -> Trials:
             told += status == MEMORY
             is_right = whole[1].startswith(said) if status == MEMORY else (status, said) == whole[:2]
             yield f"{name}: allocation {number} refused, status {status}", is_well and is_right
-        print(f"{name}{' as a session' * is_session}: {many} allocations refused in turn, {told} times 'memory'")
+        print(f"{name}{' as a session' * is_session}: {many} allocations refused in turn, {told} "
+              "times 'memory'")
         yield f"{name}: a refusal is reported", told > 0

@@ -1,4 +1,5 @@
-"""The table of plants, docs/reports/plants.tsv: for each one that was tried and refused the day, where the proof fails first, and at which goal."""
+"""The table of plants, docs/reports/plants.tsv: for each one that was tried and refused the day, where the
+proof fails first, and at which goal."""
 import datetime
 import pathlib
 import re
@@ -29,7 +30,8 @@ def function_at(file: pathlib.Path, line: int) -> str | None:
 
 
 def name_of(path: str) -> str:
-    """A file by its path; what is said of a function in proofs/ by the function's whole name, and a module there by its own."""
+    """A file by its path; what is said of a function in proofs/ by the function's whole name, and a module
+    there by its own."""
     if not path.startswith("proofs/"):
         return path
     *folders, file = path.removeprefix("proofs/").removesuffix(".antt").split("/")
@@ -54,7 +56,8 @@ def plants_in(crates: pathlib.Path) -> list[tuple[str, str]]:
 
 def read(table: pathlib.Path) -> Rows:
     """The rows of a table."""
-    rows = [line.split("\t", 2) for line in table.read_text(encoding="utf-8").splitlines()[1:]] if table.exists() else []
+    rows = ([line.split("\t", 2) for line in table.read_text(encoding="utf-8").splitlines()[1:]]
+            if table.exists() else [])
     return {(crate, plant): rest for crate, plant, rest in rows}
 
 

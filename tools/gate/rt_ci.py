@@ -1,7 +1,8 @@
 """Runs `rt ci`, the kit's own gate, over a copy of some crates, and shows its progress.
 
-rt ci works on a whole repository, and sets aside what stands in its folders out/. So it gets one of its own, that has the sources as they stood at
-the beginning. What it proves it keeps in the kit's store on this machine, so that the copy can go.
+rt ci works on a whole repository, and sets aside what stands in its folders out/. So it gets one of its own,
+that has the sources as they stood at the beginning. What it proves it keeps in the kit's store on this
+machine, so that the copy can go.
 """
 import contextlib
 import os
@@ -25,7 +26,8 @@ RUN = ("args", "stdin", "stdout", "status", "data")
 # What rt ci says of a crate; of its tests it says the same behind a colon.
 PROVED = re.compile(r"rt: (\w+) (proved$|is kept:)")
 NOT_PROVED = re.compile(r"rt: (\w+)(?:: its tests are)? NOT PROVED")
-# How rt begins its verdict on an edit that is refused only because a proof names what the edit took away. That shows nothing of the contract.
+# How rt begins its verdict on an edit that is refused only because a proof names what the edit took away.
+# That shows nothing of the contract.
 NAMELESS = "refused, as it must be (only because a proof file names"
 # What is reported besides the crates that are proved.
 TOLD = re.compile(r"rt: (.*(?: NOT PROVED|: trying its must-fail edits| waiting for ).*)")
@@ -36,8 +38,8 @@ PAUSE, PATIENCE = 0.05, 3.0
 
 
 def copy_crates(root: pathlib.Path, names: Sequence[str], to: pathlib.Path, *more: str) -> None:
-    """Copies these crates, in the order in which they stand on each other, to a repository of their own: what a proof reads, what their programs
-    are run with, and more of their folders."""
+    """Copies these crates, in the order in which they stand on each other, to a repository of their own: what
+    a proof reads, what their programs are run with, and more of their folders."""
     lines = crates.lines_of_crates(root)
     to.mkdir(parents=True, exist_ok=True)
     for name in names:
@@ -60,7 +62,8 @@ def copy_crates(root: pathlib.Path, names: Sequence[str], to: pathlib.Path, *mor
 
 @contextlib.contextmanager
 def temporary_folder(prefix: str) -> Iterator[pathlib.Path]:
-    """A folder among the temporary files, until it is left. Where root calls, rt runs programs as nobody, who must get to them."""
+    """A folder among the temporary files, until it is left. Where root calls, rt runs programs as nobody, who
+    must get to them."""
     made = pathlib.Path(tempfile.mkdtemp(prefix=prefix))
     try:
         made.chmod(0o711)
@@ -70,7 +73,8 @@ def temporary_folder(prefix: str) -> Iterator[pathlib.Path]:
 
 
 @contextlib.contextmanager
-def started(words: Iterable[str], copy: pathlib.Path, temporary: pathlib.Path, **more: str) -> "Iterator[subprocess.Popen[bytes]]":
+def started(words: Iterable[str], copy: pathlib.Path, temporary: pathlib.Path,
+            **more: str) -> "Iterator[subprocess.Popen[bytes]]":
     """Starts rt ci in a session of its own, so that it ends when this is left, with all that it started."""
     if shutil.which("rt") is None:
         raise FileNotFoundError("rt, the command of the Rattle kit, is not on the PATH")
@@ -90,7 +94,8 @@ def started(words: Iterable[str], copy: pathlib.Path, temporary: pathlib.Path, *
 
 
 def said_by(process: "subprocess.Popen[bytes]", log: Optional[IO[bytes]] = None) -> Iterator[Optional[str]]:
-    """What it says, line by line as it comes, also into the log; None for each second in which it says nothing."""
+    """What it says, line by line as it comes, also into the log; None for each second in which it says
+    nothing."""
     assert process.stdout
     rest = b""
     while True:
@@ -112,15 +117,18 @@ def said_by(process: "subprocess.Popen[bytes]", log: Optional[IO[bytes]] = None)
 
 
 def said_of(name: str, lines: List[str]) -> List[str]:
-    """The last lines that rt ci says of a crate that isn't proved, at most back to its heading; the last of all where there is no such crate."""
-    ends = (at for at, it in enumerate(lines, 1) for found in [NOT_PROVED.match(it)] if found and found[1] == name)
+    """The last lines that rt ci says of a crate that isn't proved, at most back to its heading; the last of
+    all where there is no such crate."""
+    ends = (at for at, it in enumerate(lines, 1)
+            for found in [NOT_PROVED.match(it)] if found and found[1] == name)
     until = next(ends, len(lines))
     heads = [at for at, it in enumerate(lines[:until]) if re.fullmatch(rf"== {name}(: its tests)?", it)]
     return lines[heads[-1] if heads else 0 : until][-SHOWN:]
 
 
 class Progress:
-    """Says how many crates are proved: by one line that is written again where standard error is a terminal, and else by a line for each crate."""
+    """Says how many crates are proved: by one line that is written again where standard error is a terminal,
+    and else by a line for each crate."""
 
     def __init__(self, who: str, many: int):
         self.who, self.many, self.began = who, many, time.monotonic()
@@ -141,7 +149,8 @@ class Progress:
             self.tell()
 
     def tell(self) -> None:
-        line = f"{self.who}: proved {self.proved} of {self.many} crates in {time.monotonic() - self.began:.0f} s{self.last}"
+        line = (f"{self.who}: proved {self.proved} of {self.many} crates in "
+                f"{time.monotonic() - self.began:.0f} s{self.last}")
         if self.is_terminal:
             line = line[: shutil.get_terminal_size().columns - 1]
         self.clear()
@@ -174,7 +183,8 @@ def remove(folder: pathlib.Path) -> None:
 
 
 def end_on_signals() -> None:
-    """Has the signals by which a run is interrupted raise SystemExit, so that what runs is ended and taken away."""
+    """Has the signals by which a run is interrupted raise SystemExit, so that what runs is ended and taken
+    away."""
 
     def stop(number: int, _frame: object) -> None:
         for it in signal.SIGINT, signal.SIGTERM, signal.SIGHUP:

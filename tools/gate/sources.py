@@ -1,4 +1,5 @@
-"""What the sources of the tree name: the words outside their comments, and the options and commands of programs."""
+"""What the sources of the tree name: the words outside their comments, and the options and commands of
+programs."""
 import functools
 import pathlib
 import re
@@ -6,12 +7,16 @@ import re
 ROOT = pathlib.Path(__file__).resolve().parents[2]
 # Comments, by what begins them; docstrings are comments too.
 SLASHES, DASHES, SIGNS = r"//[^\n]*|/\*[\s\S]*?\*/", r"--[^\n]*", r'"""[\s\S]*?"""|#[^\n]*'
-COMMENTS = {".rt": SLASHES, ".c": SLASHES, ".h": SLASHES, ".cc": SLASHES, ".js": SLASHES, ".mjs": SLASHES, ".html": SLASHES,
-            ".antt": DASHES, ".py": SIGNS, ".sh": SIGNS, ".bash": SIGNS, ".toml": SIGNS, "": SIGNS}
-FOLDERS = ("crates", "python", "tools", "hosts", "stacks", "playground", "cookbook", "library", "debian", ".ci")
+COMMENTS = {".rt": SLASHES, ".c": SLASHES, ".h": SLASHES, ".cc": SLASHES, ".js": SLASHES, ".mjs": SLASHES,
+            ".html": SLASHES, ".antt": DASHES, ".py": SIGNS, ".sh": SIGNS, ".bash": SIGNS, ".toml": SIGNS,
+            "": SIGNS}
+FOLDERS = ("crates", "python", "tools", "hosts", "stacks", "playground", "cookbook", "library", "debian",
+           ".ci")
 # What defines a name: a word before it, a clause's head, or its place at the beginning of a line.
-DEFINED = (r"\b(?:fn|struct|enum|trait|record|type|const|static|mod|pub|abbrev|unfoldable|def|class)\s+(?:pub\s+)?{0}(?!\w)"
-           r"|(?:ensures|requires) {0} \{{|^\s*{0}\s*[:=(,]")
+DEFINED = (
+    r"\b(?:fn|struct|enum|trait|record|type|const|static|mod|pub|abbrev|unfoldable|def|class)"
+    r"\s+(?:pub\s+)?{0}(?!\w)"
+    r"|(?:ensures|requires) {0} \{{|^\s*{0}\s*[:=(,]")
 OPTION = re.compile(r"(?<![\w-])--[a-z][\w-]*")
 # What each command of the tools takes.
 COMMON = ("--help", "--version")
@@ -32,8 +37,10 @@ def words_in(path: pathlib.Path) -> set[str]:
 
 
 def defines(path: pathlib.Path, name: str) -> bool:
-    """Whether a source defines a name, as a function, a clause, a field or the like, or is the module of this name."""
-    return name == path.stem or re.search(DEFINED.format(re.escape(name)), code_of(path), re.MULTILINE) is not None
+    """Whether a source defines a name, as a function, a clause, a field or the like, or is the module of this
+    name."""
+    return (name == path.stem
+            or re.search(DEFINED.format(re.escape(name)), code_of(path), re.MULTILINE) is not None)
 
 
 def all_words() -> set[str]:
@@ -47,14 +54,17 @@ def all_words() -> set[str]:
 
 
 class Programs:
-    """What the programs of the tree take: options, as their files and the modules that they import have them, and the commands of `dnlab`."""
+    """What the programs of the tree take: options, as their files and the modules that they import have them,
+    and the commands of `dnlab`."""
 
     def __init__(self) -> None:
         folder = ROOT / "python" / "dnlab"
-        self.of_package = {it for path in folder.rglob("*.py") for it in OPTION.findall(path.read_text(encoding="utf-8"))}
+        self.of_package = {it for path in folder.rglob("*.py")
+                           for it in OPTION.findall(path.read_text(encoding="utf-8"))}
         script, words = ROOT / "dnlab", ROOT / "crates/command_line/src/words.rt"
         texts = [it.read_text(encoding="utf-8") for it in (script, words)]
-        self.commands = {*re.findall(r'"\$\{[12]-\}" = (\w+)', texts[0]), *re.findall(r'Command::new\(alloc, "(\w+)"\)', texts[1])}
+        self.commands = {*re.findall(r'"\$\{[12]-\}" = (\w+)', texts[0]),
+                         *re.findall(r'Command::new\(alloc, "(\w+)"\)', texts[1])}
         self.options: dict[pathlib.Path, set[str]] = {script: {*COMMON, *OPTION.findall("".join(texts))}}
 
     def has(self, program: pathlib.Path, option: str) -> bool:
@@ -65,8 +75,12 @@ class Programs:
     def options_of(self, program: pathlib.Path) -> set[str]:
         text = program.read_text(encoding="utf-8", errors="replace")
         names = set(re.findall(r"^(?:import|from) (\w+)", text, re.MULTILINE))
-        modules = [folder / f"{name}.py" for folder in (program.parent, ROOT / "tools/common") for name in names]
-        found = {*COMMON, *OPTION.findall("".join([text, *(it.read_text(encoding="utf-8") for it in modules if it.exists())]))}
+        modules = [folder / f"{name}.py" for folder in (program.parent, ROOT / "tools/common")
+                   for name in names]
+        found = {*COMMON,
+                 *OPTION.findall("".join([text,
+                                          *(it.read_text(encoding="utf-8")
+                                            for it in modules if it.exists())]))}
         # A script that hands its own arguments to a tool takes the tool's options.
         hands_on = re.search(r'\btools/[\w-]+ [^\n]*(?:\\\n[^\n]*)*"\$@"', text)
         return found | self.of_package if "dnlab" in names or hands_on else found

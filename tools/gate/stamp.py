@@ -1,7 +1,9 @@
-"""What a program says of itself by --version: its number, the commit of its sources, and by which kit it is proved.
+"""What a program says of itself by --version: its number, the commit of its sources, and by which kit it is
+proved.
 
-It stands in one line of the crate `dnlab`, above all others, so that another one costs a proof of seconds; the library `dnlab_c` has one of its own. Whoever
-builds one of them writes it into the copy that is built. The commit is the last one that changed the program's sources: an edit of a page builds nothing again.
+It stands in one line of the crate `dnlab`, above all others, so that another one costs a proof of seconds;
+the library `dnlab_c` has one of its own. Whoever builds one of them writes it into the copy that is built.
+The commit is the last one that changed the program's sources: an edit of a page builds nothing again.
 """
 import pathlib
 import re
@@ -18,7 +20,8 @@ def _git(root: pathlib.Path, words: Sequence[str], paths: Sequence[str]) -> Opti
     if not (root / ".git").exists():
         return None
     try:
-        done = subprocess.run(["git", *words, "--", *paths], cwd=root, stdin=subprocess.DEVNULL, stdout=subprocess.PIPE, stderr=subprocess.DEVNULL, check=False)
+        done = subprocess.run(["git", *words, "--", *paths], cwd=root, stdin=subprocess.DEVNULL,
+                              stdout=subprocess.PIPE, stderr=subprocess.DEVNULL, check=False)
     except OSError:
         return None
     return None if done.returncode else done.stdout.decode(errors="replace").strip()
@@ -35,7 +38,8 @@ def paths_of(names: Sequence[str]) -> List[str]:
 
 
 def commit_of(root: pathlib.Path, names: Sequence[str]) -> str:
-    """The last commit that changed the sources of these crates, by its first seven digits; `unknown` where git knows none."""
+    """The last commit that changed the sources of these crates, by its first seven digits; `unknown` where
+    git knows none."""
     found = _git(root, ["log", "-1", "--format=%H"], paths_of(names))
     changed = _git(root, ["status", "--porcelain"], paths_of(names))
     if not found or changed is None:
@@ -43,8 +47,10 @@ def commit_of(root: pathlib.Path, names: Sequence[str]) -> str:
     return found[:7] + (" with changes" if changed else "")
 
 
-def version_of(root: pathlib.Path, names: Sequence[str], is_proved: bool, crate: str = "dnlab") -> Optional[str]:
-    """What the program of these sources says of itself, or the library; None where the sources have no such line."""
+def version_of(root: pathlib.Path, names: Sequence[str], is_proved: bool,
+               crate: str = "dnlab") -> Optional[str]:
+    """What the program of these sources says of itself, or the library; None where the sources have no such
+    line."""
     try:
         line = _LINE.search((root / file_of(crate)).read_text(encoding="utf-8"))
     except OSError:
@@ -60,7 +66,8 @@ def put(copy: pathlib.Path, version: Optional[str], crate: str = "dnlab") -> Non
     """Writes it into a copy of the sources."""
     if version is not None:
         text = (copy / file_of(crate)).read_text(encoding="utf-8")
-        (copy / file_of(crate)).write_text(_LINE.sub(lambda line: f'{line[1]}{version}";', text), encoding="utf-8")
+        (copy / file_of(crate)).write_text(_LINE.sub(lambda line: f'{line[1]}{version}";', text),
+                                           encoding="utf-8")
 
 
 def is_of(program: pathlib.Path, version: Optional[str]) -> bool:
@@ -68,7 +75,8 @@ def is_of(program: pathlib.Path, version: Optional[str]) -> bool:
     if version is None:
         return True
     try:
-        done = subprocess.run([program, "--version"], stdin=subprocess.DEVNULL, stdout=subprocess.PIPE, stderr=subprocess.DEVNULL, check=False)
+        done = subprocess.run([program, "--version"], stdin=subprocess.DEVNULL, stdout=subprocess.PIPE,
+                              stderr=subprocess.DEVNULL, check=False)
     except OSError:
         return False
     return done.stdout.decode(errors="replace").strip() == f"dnlab {version}"

@@ -18,7 +18,8 @@ END_WITH_PARENT = 1
 
 
 class Told:
-    """Says what is being made, on a line of its own each few seconds, or on one that is written again where standard error is a terminal."""
+    """Says what is being made, on a line of its own each few seconds, or on one that is written again where
+    standard error is a terminal."""
 
     def __init__(self) -> None:
         self.began, self.is_terminal, self.last = time.monotonic(), sys.stderr.isatty(), 0.0
@@ -30,7 +31,8 @@ class Told:
         if what or (self.what and now - self.last >= (1 if self.is_terminal else TELL)):
             self.last, self.what = now, what or self.what
             line = f"dnlab: {self.what}, {now - self.began:.0f} s"
-            print(f"\r\033[K{line}" if self.is_terminal else line, end="" if self.is_terminal else "\n", file=sys.stderr, flush=True)
+            print(f"\r\033[K{line}" if self.is_terminal else line, end="" if self.is_terminal else "\n",
+                  file=sys.stderr, flush=True)
 
     def clear(self) -> None:
         if self.is_terminal and self.last:
@@ -73,8 +75,10 @@ class Work:
 
     def start(self, words: Sequence[str], log: pathlib.Path, folder: pathlib.Path, **names: str) -> None:
         with open(log, "wb") as out:
-            self.running.append(subprocess.Popen(words, cwd=folder, stdin=subprocess.DEVNULL, stdout=out, stderr=subprocess.STDOUT,
-                                                 start_new_session=True, env={**os.environ, **names}, preexec_fn=self._end_with_parent))
+            self.running.append(subprocess.Popen(words, cwd=folder, stdin=subprocess.DEVNULL, stdout=out,
+                                                 stderr=subprocess.STDOUT, start_new_session=True,
+                                                 env={**os.environ, **names},
+                                                 preexec_fn=self._end_with_parent))
 
     def ended(self) -> List[int]:
         """Waits for what was started, and gives each one's status."""

@@ -1,4 +1,5 @@
-"""Makes archives of a folder. Their bytes depend only on the files: names are sorted, and there is one date and no owner."""
+"""Makes archives of a folder. Their bytes depend only on the files: names are sorted, and there is one date
+and no owner."""
 import gzip
 import io
 import os
@@ -14,13 +15,16 @@ class Lacking(Exception):
 
 
 def run(words: Sequence[str | os.PathLike[str]], date: int, folder: pathlib.Path | None = None) -> str:
-    """Runs a packaging program, with the date for the files that it writes (seconds since 1970). Returns its output."""
+    """Runs a packaging program, with the date for the files that it writes (seconds since 1970). Returns its
+    output."""
     if shutil.which(words[0]) is None:
         raise Lacking(f"{words[0]} is not there")
     # Debian's packaging needs Debian's own Python, whatever the caller's PATH is.
     path = os.pathsep.join(["/usr/bin", os.environ.get("PATH", os.defpath)])
-    names = {**os.environ, "PATH": path, "SOURCE_DATE_EPOCH": str(date), "LC_ALL": "C.UTF-8", "TZ": "UTC", "PYTHONDONTWRITEBYTECODE": "1"}
-    done = subprocess.run(words, cwd=folder, env=names, stdin=subprocess.DEVNULL, stdout=subprocess.PIPE, stderr=subprocess.STDOUT, text=True, check=False)
+    names = {**os.environ, "PATH": path, "SOURCE_DATE_EPOCH": str(date), "LC_ALL": "C.UTF-8", "TZ": "UTC",
+             "PYTHONDONTWRITEBYTECODE": "1"}
+    done = subprocess.run(words, cwd=folder, env=names, stdin=subprocess.DEVNULL, stdout=subprocess.PIPE,
+                          stderr=subprocess.STDOUT, text=True, check=False)
     if done.returncode:
         raise Lacking(f"{words[0]} ended with {done.returncode}: {done.stdout.strip()[-2000:]}")
     return done.stdout

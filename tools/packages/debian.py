@@ -8,7 +8,8 @@ import archives
 from archives import Lacking
 
 # The sources of the packages: those that git tracks, without those that no package needs.
-LEFT_OUT = ("crates/", "examples/", "cookbook/", "tools/gate/", "tools/attack/", "tools/beside/", "tools/definitions/", "tools/second/")
+LEFT_OUT = ("crates/", "examples/", "cookbook/", "tools/gate/", "tools/attack/", "tools/beside/",
+            "tools/definitions/", "tools/second/")
 
 
 def _sources(root: pathlib.Path, to: pathlib.Path) -> None:
@@ -21,10 +22,12 @@ def _sources(root: pathlib.Path, to: pathlib.Path) -> None:
 
 
 def built_using() -> str:
-    """Returns the source packages whose files are linked in, with versions, as the field Built-Using has them."""
+    """Returns the source packages whose files are linked in, with versions, as the field Built-Using has
+    them."""
     found = []
     for package in "libc6-dev", "libgcc-12-dev":
-        done = subprocess.run(["dpkg-query", "-W", "-f", "${source:Package} (= ${source:Version})", package], stdin=subprocess.DEVNULL,
+        done = subprocess.run(["dpkg-query", "-W", "-f", "${source:Package} (= ${source:Version})", package],
+                              stdin=subprocess.DEVNULL,
                               capture_output=True, text=True, check=False)
         found += [done.stdout] if done.returncode == 0 and done.stdout else []
     return ", ".join(found)
@@ -38,10 +41,12 @@ def version_in(root: pathlib.Path) -> str:
     return found[1]
 
 
-def packages(root: pathlib.Path, prebuilt: pathlib.Path, room: pathlib.Path, to: pathlib.Path, date: int) -> None:
+def packages(root: pathlib.Path, prebuilt: pathlib.Path, room: pathlib.Path, to: pathlib.Path,
+             date: int) -> None:
     """Builds the packages in `room` and puts the .deb files into `to`.
 
-    prebuilt  a prefix with the program, the library and BUILD.txt and the bill of materials, which debian/rules puts in place
+    prebuilt  a prefix with the program, the library and BUILD.txt and the bill of materials, which
+              debian/rules puts in place
     date      of the commit, in seconds since 1970
     """
     sources = room / "dnlab"

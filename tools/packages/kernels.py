@@ -1,4 +1,5 @@
-"""Makes the archive of the guest's kernel, with everything that its licence requires: its text, and the exact source."""
+"""Makes the archive of the guest's kernel, with everything that its licence requires: its text, and the exact
+source."""
 import hashlib
 import pathlib
 import shutil
@@ -30,7 +31,8 @@ def recorded(folder: pathlib.Path) -> dict[str, str]:
     """Returns the lines of SOURCE.txt of a built kernel, by name."""
     missing = [name for name in (*PROGRAMS, RECORD) if not (folder / name).is_file()]
     if missing:
-        raise archives.Lacking(f"{folder} has no {', '.join(missing)}: name a folder that hosts/kernel/build filled")
+        raise archives.Lacking(
+            f"{folder} has no {', '.join(missing)}: name a folder that hosts/kernel/build filled")
     lines = (folder / RECORD).read_text(encoding="utf-8").splitlines()
     return dict(line.split(": ", 1) for line in lines if ": " in line)
 
@@ -42,13 +44,16 @@ def changed(root: pathlib.Path, record: dict[str, str]) -> list[str]:
             if not (root / name).is_file() or hashlib.sha256((root / name).read_bytes()).hexdigest() != sum]
 
 
-def package(root: pathlib.Path, kernel: pathlib.Path, room: pathlib.Path, to: pathlib.Path, commit: str, date: int) -> None:
-    """Writes the archive `to` of a kernel that was built from the sources below `root`; its folder is `room`."""
+def package(root: pathlib.Path, kernel: pathlib.Path, room: pathlib.Path, to: pathlib.Path, commit: str,
+            date: int) -> None:
+    """Writes the archive `to` of a kernel that was built from the sources below `root`; its folder is
+    `room`."""
     record = recorded(kernel)
     others = changed(root, record)
     if others or f"{SOURCES}/kernel/linux-6.1.patch" not in record:
-        raise archives.Lacking(f"{kernel} was built from other sources ({(others or ['no patch'])[0]}): tools/hosts --kernel prints"
-                               " the folder of the kernel of these")
+        raise archives.Lacking(
+            f"{kernel} was built from other sources ({(others or ['no patch'])[0]}): tools/hosts --kernel "
+            "prints the folder of the kernel of these")
     room.mkdir()
     for name in (*PROGRAMS, RECORD):
         shutil.copy(kernel / name, room / name)

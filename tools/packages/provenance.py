@@ -1,4 +1,5 @@
-"""Writes the origin of a release in the fields of SLSA's provenance, version 1 (https://slsa.dev/spec/v1.0/provenance)."""
+"""Writes the origin of a release in the fields of SLSA's provenance, version 1
+(https://slsa.dev/spec/v1.0/provenance)."""
 import json
 import pathlib
 import platform
@@ -12,7 +13,8 @@ def _moment(seconds: float) -> str:
     return datetime.fromtimestamp(seconds, timezone.utc).strftime("%Y-%m-%dT%H:%M:%SZ")
 
 
-def statement(files: Iterable[pathlib.Path], commit: str, kit: str, tools: Mapping[str, str], began: float, ended: float) -> str:
+def statement(files: Iterable[pathlib.Path], commit: str, kit: str, tools: Mapping[str, str], began: float,
+              ended: float) -> str:
     """Returns the statement over some files.
 
     commit  of the tree
@@ -28,7 +30,8 @@ def statement(files: Iterable[pathlib.Path], commit: str, kit: str, tools: Mappi
             "buildDefinition": {
                 "buildType": "https://gavdilos.example/dnlab/release/v1",
                 "externalParameters": {"command": "tools/release"},
-                "internalParameters": {"machine": platform.machine(), "system": f"{platform.system()} {platform.release()}", **tools},
+                "internalParameters": {"machine": platform.machine(),
+                                       "system": f"{platform.system()} {platform.release()}", **tools},
                 "resolvedDependencies": [{"name": "sources", "digest": {"gitCommit": commit}}, {"name": kit}],
             },
             "runDetails": {

@@ -14,7 +14,8 @@ from components import sha256
 def _unpacked(file: pathlib.Path, room: pathlib.Path) -> None:
     """Unpacks a Debian package, a wheel or an archive into a folder."""
     if file.name.endswith(".deb"):
-        done = subprocess.run(["dpkg-deb", "-x", str(file), str(room)], stdin=subprocess.DEVNULL, capture_output=True, text=True, check=False)
+        done = subprocess.run(["dpkg-deb", "-x", str(file), str(room)], stdin=subprocess.DEVNULL,
+                              capture_output=True, text=True, check=False)
         if done.returncode:
             raise Lacking(f"{file}: {done.stderr.strip()[-400:]}")
     elif file.name.endswith(".whl"):
@@ -31,24 +32,29 @@ def _unpacked(file: pathlib.Path, room: pathlib.Path) -> None:
 
 
 def _expected(root: pathlib.Path, room: pathlib.Path) -> dict[str, list[str]]:
-    """Returns the checksums that each kind of file may have, by its name. Builds the libraries and the static program again
-    for this."""
-    done = subprocess.run([root / "tools" / "library", str(room / "library")], stdin=subprocess.DEVNULL, capture_output=True, text=True, check=False)
+    """Returns the checksums that each kind of file may have, by its name. Builds the libraries and the static
+    program again for this."""
+    done = subprocess.run([root / "tools" / "library", str(room / "library")], stdin=subprocess.DEVNULL,
+                          capture_output=True, text=True, check=False)
     if done.returncode:
         raise Lacking(f"the library can't be made again: {done.stderr.strip()[-400:]}")
     linking.link_static(room / "static")
     library = room / "library" / "lib"
-    return {"dnlab": [sha256(linking.OUT / "dnlab"), sha256(room / "static")], "dnlab.o": [sha256(linking.OBJECT)],
-            "libdnlab.a": [sha256(library / "libdnlab.a")], "libdnlab.so.1": [sha256(library / "libdnlab.so.1")]}
+    return {"dnlab": [sha256(linking.OUT / "dnlab"), sha256(room / "static")],
+            "dnlab.o": [sha256(linking.OBJECT)],
+            "libdnlab.a": [sha256(library / "libdnlab.a")],
+            "libdnlab.so.1": [sha256(library / "libdnlab.so.1")]}
 
 
 def _is_of_proof(path: pathlib.Path) -> bool:
-    """Returns true if a file with a name of the proof is a program or a library, and not a folder or a completion."""
+    """Returns true if a file with a name of the proof is a program or a library, and not a folder or a
+    completion."""
     return path.is_file() and not path.is_symlink() and path.read_bytes()[:4] in (b"\x7fELF", b"!<ar")
 
 
 def verify(root: pathlib.Path, files: Sequence[pathlib.Path], room: pathlib.Path) -> int:
-    """Prints a line for each program, object and library in some files. Returns 0 if all are those of the proof, otherwise 1."""
+    """Prints a line for each program, object and library in some files. Returns 0 if all are those of the
+    proof, otherwise 1."""
     if not (linking.OUT / "dnlab").is_file():
         raise Lacking("there is no proof in this checkout: run ./dnlab prove")
     linking.proved_sums()
@@ -60,7 +66,8 @@ def verify(root: pathlib.Path, files: Sequence[pathlib.Path], room: pathlib.Path
         found = [it for it in sorted(folder.rglob("*")) if it.name in expected and _is_of_proof(it)]
         for path in found:
             is_same = sha256(path) in expected[path.name]
-            print(f"{file.name}: {path.relative_to(folder)}: {'the proved one' if is_same else 'NOT the proved one'}")
+            print(f"{file.name}: {path.relative_to(folder)}: "
+                  f"{'the proved one' if is_same else 'NOT the proved one'}")
             status = status or int(not is_same)
         if not found:
             print(f"release: {file}: it has no program, object or library", file=sys.stderr)

@@ -1,8 +1,9 @@
-"""Generates random scenarios for tools/second/differ: small queues, short flows, losses, masks, CoDel, changes of
-configuration, deletions, equal times, rules at which the search continues, several experiments. Some are damaged afterwards.
+"""Generates random scenarios for tools/second/differ: small queues, short flows, losses, masks, CoDel,
+changes of configuration, deletions, equal times, rules at which the search continues, several experiments.
+Some are damaged afterwards.
 
-There are only a few different times, and service times are often whole milliseconds, so that commands, exits and finishes
-coincide. draw_text(random.Random(..)) returns the bytes of a text.
+There are only a few different times, and service times are often whole milliseconds, so that commands, exits
+and finishes coincide. draw_text(random.Random(..)) returns the bytes of a text.
 """
 from random import Random
 
@@ -14,8 +15,8 @@ PORTS = (0, 1, 7, 80, 1000, 2000, 65535)
 PIPES = (1, 2, 3, 4, 256, 65535)
 SIZES = (40, 41, 125, 500, 999, 1000, 1040, 1460, 1499, 1500)
 GAPS = (0, 1, 999, 1000, 125000, MS, 2 * MS, 3333333, 10 * MS)
-SERVICE = ("bw 8Mbit/s", "bw 1Mbit/s", "bw 1MByte/s", "bw 125KByte/s", "bw 3Mbit/s", "bw 7777777", "bw 10Mbit/s",
-           "bw 1Gbit/s", "bw 10Gbit/s", "bw 56Kbit/s", "bw 0", "bw 997bit/s")
+SERVICE = ("bw 8Mbit/s", "bw 1Mbit/s", "bw 1MByte/s", "bw 125KByte/s", "bw 3Mbit/s", "bw 7777777",
+           "bw 10Mbit/s", "bw 1Gbit/s", "bw 10Gbit/s", "bw 56Kbit/s", "bw 0", "bw 997bit/s")
 NUMBERS = (1, 2, 50, 100, 100, 100, 150, 200, 200, 300, 400, 65534)
 
 # The mask of each pipe, as in its configuration.
@@ -38,7 +39,8 @@ def action(draw: Random, number: int) -> str:
     if roll < 0.72:
         return "count"
     if roll < 0.9:
-        return f"skipto {draw.choice([n for n in (*NUMBERS, 65535) if n > number] or [65535] if roll < 0.88 else NUMBERS)}"
+        later = [n for n in (*NUMBERS, 65535) if n > number] or [65535]
+        return f"skipto {draw.choice(later if roll < 0.88 else NUMBERS)}"
     return "allow" if roll < 0.96 else "deny"
 
 
@@ -76,19 +78,21 @@ def config(draw: Random, masks: Masks, pipe: int) -> str:
     """Returns a configuration. Most configurations of a pipe have the same mask."""
     if pipe not in masks or draw.random() < 0.05:
         masks[pipe] = mask(draw)
-    queue = draw.choice(("", "", "", "", "queue 1", "queue 2", "queue 3", "queue 5", "queue 10", "queue 1000", "queue 1K",
-                         "queue 2KBytes", "queue 3Kbytes", "queue 10KB"))
+    queue = draw.choice(("", "", "", "", "queue 1", "queue 2", "queue 3", "queue 5", "queue 10", "queue 1000",
+                         "queue 1K", "queue 2KBytes", "queue 3Kbytes", "queue 10KB"))
     words = [draw.choice(SERVICE) if draw.random() < 0.9 else "",
              f"delay {draw.choice((0, 1, 2, 5, 10, 10, 50, 400, 1200))}{draw.choice(('', 'ms'))}"
              if draw.random() < 0.8 else "",
-             queue, draw.choice(("",) * 9 + ("plr 0.02", "plr 0.05", "plr 0.2", "plr 0.000001", "plr 1", "plr 0.5")),
+             queue,
+             draw.choice(("",) * 9 + ("plr 0.02", "plr 0.05", "plr 0.2", "plr 0.000001", "plr 1", "plr 0.5")),
              masks[pipe], discipline(draw)]
     draw.shuffle(words)
     return f"pipe {pipe} config " + " ".join(word for word in words if word)
 
 
 def ends(draw: Random) -> str:
-    """Returns the addresses and ports of a sender and a receiver, usually in the two networks that the rules are for."""
+    """Returns the addresses and ports of a sender and a receiver, usually in the two networks that the rules
+    are for."""
     if draw.random() < 0.85:
         both = [draw.choice(ADDRESSES[:2]), draw.choice(ADDRESSES[2:4])]
     else:
@@ -99,7 +103,8 @@ def ends(draw: Random) -> str:
 def flow(draw: Random, number: int) -> str:
     words = [draw.choice(("", f"ssthresh {draw.choice((1, 1000, 2000, 4000, 8000, 10**9))}")),
              draw.choice(("", "", f"window {draw.choice((1, 1460, 3000, 10000, 65535))}")),
-             draw.choice(("", "rto adaptive", "rto adaptive", f"rto {draw.choice((1, 25, 200, 1000, 60000))}"))]
+             draw.choice(("", "rto adaptive", "rto adaptive",
+                          f"rto {draw.choice((1, 25, 200, 1000, 60000))}"))]
     draw.shuffle(words)
     return (f"flow {number} {ends(draw)} smss {draw.choice((64, 460, 536, 960, 1000, 1095, 1096, 1460))} "
             f"segments {draw.choice((1, 2, 5, 10, 20, 40, 60))} " + " ".join(words))
@@ -141,7 +146,8 @@ def crowd(draw: Random, moment: int) -> list[Timed]:
     """Returns commands with more senders than a pipe can have instances, in random order."""
     pairs = [(host // 256, host % 256) for host in range(270)]
     draw.shuffle(pairs)
-    return [(0, "pipe 2 config bw 1Mbit/s mask src-ip 0xffff"), (0, "add 1 pipe 2 ip from 10.7.0.0/16 to any")] + [
+    return [(0, "pipe 2 config bw 1Mbit/s mask src-ip 0xffff"),
+            (0, "add 1 pipe 2 ip from 10.7.0.0/16 to any")] + [
         (moment, f"inject udp 10.7.{net}.{host} 1 10.0.1.1 2 40") for net, host in pairs]
 
 
@@ -160,7 +166,8 @@ def experiment(draw: Random, name: str) -> list[str]:
     draw.shuffle(first)
     timed = [(0, words) for words in first]
     times = moments(draw)
-    timed += [(0 if draw.random() < 0.4 else draw.choice(times), source(draw)) for _ in range(draw.randint(1, 5))]
+    timed += [(0 if draw.random() < 0.4 else draw.choice(times), source(draw))
+              for _ in range(draw.randint(1, 5))]
     timed += [(draw.choice(times), later(draw, masks)) for _ in range(draw.choice((0, 2, 5, 12, 25)))]
     if draw.random() < 0.01:
         timed += crowd(draw, draw.choice(times))
@@ -173,9 +180,10 @@ def experiment(draw: Random, name: str) -> list[str]:
     return [head] + [f"@{moment} {words}" for moment, words in timed] + [f"@{end} {words}" for words in tail]
 
 
-DAMAGE = ("", " ", "  ", "0", "00", "-1", "65536", "1000000000000000", "1000000000000001", "18446744073709551616",
-          "99999999999999999999", "100000000000000000000", "any", "ip", "end", "@0", "#", "plr", "mask", "all", "codel",
-          "experiment", "10.0.0.256", "10.0.0.0/33", "9-8", "0x", "0xfffffffff", "1.0000001", "adaptive", "61s", "0us")
+DAMAGE = ("", " ", "  ", "0", "00", "-1", "65536", "1000000000000000", "1000000000000001",
+          "18446744073709551616", "99999999999999999999", "100000000000000000000", "any", "ip", "end", "@0",
+          "#", "plr", "mask", "all", "codel", "experiment", "10.0.0.256", "10.0.0.0/33", "9-8", "0x",
+          "0xfffffffff", "1.0000001", "adaptive", "61s", "0us")
 
 
 def damaged(draw: Random, lines: list[str]) -> bytes:
@@ -204,7 +212,8 @@ def damaged(draw: Random, lines: list[str]) -> bytes:
         return text[:place]
     if roll < 0.88:
         return text.replace(b" ", b" " * draw.choice((2, 60, 200)))
-    return text[:place] + draw.choice((b"", b"\n", b" ", b"\t", b"\r", b"\xff", b"0", b"#")) + text[place + 1:]
+    return text[:place] + draw.choice((b"", b"\n", b" ", b"\t", b"\r", b"\xff", b"0",
+                                       b"#")) + text[place + 1:]
 
 
 def draw_text(draw: Random) -> bytes:

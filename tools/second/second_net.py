@@ -1,5 +1,5 @@
-"""Parts of tools/second/second: the code that moves packets in one experiment, written from docs/explanation/rules.md and
-docs/explanation/order.md."""
+"""Parts of tools/second/second: the code that moves packets in one experiment, written from
+docs/explanation/rules.md and docs/explanation/order.md."""
 import heapq
 from collections import deque
 from collections.abc import Callable, Iterator
@@ -22,8 +22,8 @@ Due = tuple[int, int, int]
 
 
 class Event(NamedTuple):
-    """An event, the function that executes it, and its place: a pipe's number and an instance's index, or a source's number
-    and 0."""
+    """An event, the function that executes it, and its place: a pipe's number and an instance's index, or a
+    source's number and 0."""
 
     due: Due
     call: Callable[[int, int], None]
@@ -64,7 +64,8 @@ class Pipe:
         return tuple(getattr(packet, field) & self.config.mask[word] for word, (field, _) in FIELDS.items())
 
     def find(self, packet: Packet) -> int | None:
-        """Returns the index of the packet's instance, which is created if it is new, or None if there can be no more."""
+        """Returns the index of the packet's instance, which is created if it is new, or None if there can be
+        no more."""
         name = self.name_of(packet)
         if name not in self.places:
             if len(self.instances) == MOST_INSTANCES:
@@ -116,8 +117,8 @@ class Net:
         self.made += 1
         self.held += 1
         if self.trace:
-            self.say("make", packet.serial, load_text(load), TRANSPORTS[proto], dotted(src), sport, dotted(dst), dport,
-                     size)
+            self.say("make", packet.serial, load_text(load), TRANSPORTS[proto], dotted(src), sport,
+                     dotted(dst), dport, size)
         if self.held > self.budget:
             self.drop(packet, "budget")
         else:

@@ -1,5 +1,6 @@
 """Parts of tools/second/second: loss words, an instance of a pipe, and a sender. They are written only from
-docs/explanation/rules.md, docs/explanation/codel.md and docs/explanation/reno.md, to be read and not to be fast."""
+docs/explanation/rules.md, docs/explanation/codel.md and docs/explanation/reno.md, to be read and not to be
+fast."""
 from collections import deque
 from math import isqrt
 
@@ -128,8 +129,8 @@ class Instance:
         return dropped, packet
 
     def serve(self, now: int, config: Config, goes_on: bool) -> list[Packet]:
-        """Dequeues for the server, which continues a busy period if `goes_on`, or starts one. Returns the packets that CoDel
-        dropped."""
+        """Dequeues for the server, which continues a busy period if `goes_on`, or starts one. Returns the
+        packets that CoDel dropped."""
         dropped, packet = self.dequeue(now, config)
         self.serving = packet
         self.finish = None
@@ -154,7 +155,8 @@ class Sender:
 
     # The time at which the timer expires (ns), or None if it is off.
     timer: int | None
-    # The sequence number at the end of the segment that is timed, and the time at which it was sent (ns), or None.
+    # The sequence number at the end of the segment that is timed, and the time at which it was sent (ns), or
+    # None.
     sample: tuple[int, int] | None
     # None before the first measurement.
     srtt: int | None

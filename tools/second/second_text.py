@@ -1,5 +1,6 @@
-"""Parts of tools/second/second: reads and lists rules and configurations, written from docs/explanation/rules.md,
-docs/reference/scenario.md and docs/reference/report.md. It assumes that the words are a valid line of a scenario."""
+"""Parts of tools/second/second: reads and lists rules and configurations, written from
+docs/explanation/rules.md, docs/reference/scenario.md and docs/reference/report.md. It assumes that the words
+are a valid line of a scenario."""
 from collections import deque
 from dataclasses import dataclass
 from typing import NamedTuple
@@ -65,10 +66,12 @@ class End:
             self.ports = (int(first), int(last or first))
 
     def has(self, address: int, port: int) -> bool:
-        return address & self.mask == self.address and (not self.ports or self.ports[0] <= port <= self.ports[1])
+        return (address & self.mask == self.address
+                and (not self.ports or self.ports[0] <= port <= self.ports[1]))
 
     def text(self) -> str:
-        address = "any" if not self.length else dotted(self.address) + (f"/{self.length}" if self.length < 32 else "")
+        address = ("any" if not self.length
+                   else dotted(self.address) + (f"/{self.length}" if self.length < 32 else ""))
         if not self.ports:
             return address
         first, last = self.ports
@@ -95,7 +98,8 @@ class Rule:
         return self.target
 
     def matches(self, packet: Packet) -> bool:
-        return (RULE_PROTOCOLS[self.proto] in (None, packet.proto) and self.source.has(packet.src, packet.sport)
+        return (RULE_PROTOCOLS[self.proto] in (None, packet.proto)
+                and self.source.has(packet.src, packet.sport)
                 and self.sink.has(packet.dst, packet.dport))
 
     def text(self) -> str:

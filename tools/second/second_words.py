@@ -1,5 +1,5 @@
-"""Parts of tools/second/second: the effects of commands, and the report of a text, written from docs/reference/scenario.md,
-docs/explanation/rules.md and docs/explanation/order.md."""
+"""Parts of tools/second/second: the effects of commands, and the report of a text, written from
+docs/reference/scenario.md, docs/explanation/rules.md and docs/explanation/order.md."""
 from collections import deque
 from collections.abc import Callable, Iterator
 
@@ -11,7 +11,8 @@ LAST_RULE = 65535
 
 # The time of a command (ns), and its words.
 Timed = tuple[int, list[str]]
-# Makes a sender from smss, segments, ssthresh, window and the retransmission timeout in ms (None if it is adaptive).
+# Makes a sender from smss, segments, ssthresh, window and the retransmission timeout in ms (None if it is
+# adaptive).
 NewSender = Callable[[int, int, int, int, int | None], Sender]
 
 
@@ -21,8 +22,8 @@ def ends_of(words: list[str]) -> Ends:
 
 
 class Experiment(Net):
-    """An experiment that runs commands. Each `do_` method returns None, or the code of a refusal, in which case it has changed
-    nothing."""
+    """An experiment that runs commands. Each `do_` method returns None, or the code of a refusal, in which
+    case it has changed nothing."""
 
     def __init__(self, seed: int, budget: int, sender: NewSender = Sender, is_traced: bool = False) -> None:
         super().__init__(seed, budget)
@@ -81,7 +82,8 @@ class Experiment(Net):
             return 20
         for instance in pipe.instances:
             serving = [instance.serving] if instance.serving else []
-            for packet in [packet for _, packet in instance.line] + serving + [packet for packet, _ in instance.waiting]:
+            waiting = [packet for packet, _ in instance.waiting]
+            for packet in [packet for _, packet in instance.line] + serving + waiting:
                 self.drop(packet, "deleted")
         return None
 
@@ -90,7 +92,8 @@ class Experiment(Net):
             self.lines.append(f"pipe {number} {pipe.config.text()}")
             for place, each in enumerate(pipe.instances):
                 self.lines.append(f"instance {number}.{place} waiting {len(each.waiting)} bytes {each.bytes} "
-                                  f"busy {int(bool(each.serving))} flight {len(each.line)} drawn {each.drawn}")
+                                  f"busy {int(bool(each.serving))} flight {len(each.line)} "
+                                  f"drawn {each.drawn}")
 
     def do_show(self, _: list[str]) -> None:
         self.lines += [rule.text() for rule in self.rules]
@@ -107,7 +110,8 @@ class Experiment(Net):
         return None
 
     def do_train(self, words: list[str]) -> int | None:
-        return self.new_source(int(words[1]), Train(proto=PROTOCOLS[words[2]], ends=ends_of(words[3:]), size=int(words[7]),
+        return self.new_source(int(words[1]),
+                               Train(proto=PROTOCOLS[words[2]], ends=ends_of(words[3:]), size=int(words[7]),
                                                     left=int(words[9]), gap=int(words[11]), next=self.now))
 
     def do_flow(self, words: list[str]) -> int | None:
@@ -115,7 +119,8 @@ class Experiment(Net):
         rto = options.get("rto", "1000")
         sender = self.new_sender(int(words[7]), int(words[9]), int(options.get("ssthresh", 65535)),
                         int(options.get("window", 65535)), None if rto == "adaptive" else int(rto))
-        return self.new_source(int(words[1]), Flow(sender=sender, ends=ends_of(words[2:]), kept=set(), missing=0))
+        return self.new_source(int(words[1]),
+                               Flow(sender=sender, ends=ends_of(words[2:]), kept=set(), missing=0))
 
     def do_stop(self, words: list[str]) -> int | None:
         source = self.sources.get(int(words[1]))
@@ -151,11 +156,14 @@ class Experiment(Net):
             if made == steps and not self.is_over:
                 self.say("spent")
                 break
-        return "\n".join([*self.lines, " ".join(map(str, ["counters", self.made, self.delivered, self.held, *self.drops]))])
+        return "\n".join([*self.lines,
+                          " ".join(map(str,
+                                       ["counters", self.made, self.delivered, self.held, *self.drops]))])
 
 
 def report(text: bytes, sender: NewSender = Sender, is_traced: bool = False) -> Iterator[str]:
-    """Yields the reports of the experiments of a valid scenario, with senders of this kind; all packets are traced on request."""
+    """Yields the reports of the experiments of a valid scenario, with senders of this kind; all packets are
+    traced on request."""
     experiments: list[tuple[list[str], list[Timed]]] = []
     for line in text.decode().split("\n"):
         words = line.split()
@@ -167,4 +175,5 @@ def report(text: bytes, sender: NewSender = Sender, is_traced: bool = False) -> 
             experiments[-1][1].append((int(words[0][1:]), words[1:]))
     for head, commands in experiments:
         steps = int(head[7]) if len(head) > 6 else 10**6
-        yield f"experiment {head[1]}\n" + Experiment(int(head[3]), int(head[5]), sender, is_traced).run(commands, steps) + "\n"
+        yield f"experiment {head[1]}\n" + Experiment(int(head[3]), int(head[5]), sender,
+                                                     is_traced).run(commands, steps) + "\n"

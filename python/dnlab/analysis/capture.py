@@ -1,9 +1,9 @@
 """Packets of a traced experiment as a capture file for Wireshark, tshark and tcptrace (Debian: python3-dpkt).
 
-A capture is taken at one side: `sender`, where packets are created and acknowledgements arrive, or `receiver`. What no report
-has is made up: Ethernet, TTLs, the receiver's window (the flow's `window`), and payloads, of which only the length is kept. The
-first byte of a flow has the sequence number 1, as after a SYN, which is missing. A packet's serial number modulo 65536 is its IP
-identification; time 0 is 1970.
+A capture is taken at one side: `sender`, where packets are created and acknowledgements arrive, or
+`receiver`. What no report has is made up: Ethernet, TTLs, the receiver's window (the flow's `window`), and
+payloads, of which only the length is kept. The first byte of a flow has the sequence number 1, as after a
+SYN, which is missing. A packet's serial number modulo 65536 is its IP identification; time 0 is 1970.
 """
 import socket
 from typing import BinaryIO, Iterator, NamedTuple
@@ -14,8 +14,8 @@ import numpy as np
 from dnlab.analysis.packets import distinct
 from dnlab.analysis.view import View
 from dnlab.errors import InputError
-from dnlab.io.rows import (ACKNOWLEDGES, DATA, DELIVER, DELIVER_ACK, LOAD_OF, MAKE_ACK, MAKE_COMMAND, Flags, Ints, header_text,
-                           headers_at)
+from dnlab.io.rows import (ACKNOWLEDGES, DATA, DELIVER, DELIVER_ACK, LOAD_OF, MAKE_ACK, MAKE_COMMAND, Flags,
+                           Ints, header_text, headers_at)
 from dnlab.io.scenario_parts import HEADER, WINDOW
 
 _ETHERNET = 14
@@ -39,7 +39,8 @@ class Header(NamedTuple):
 def header_of(text: str) -> Header:
     """Returns the header of a `make` line, as `tcp 10.0.0.1 1000 10.0.1.1 80`."""
     protocol, source, source_port, target, target_port = text.split()
-    return Header(protocol, socket.inet_aton(source), int(source_port), socket.inet_aton(target), int(target_port))
+    return Header(protocol, socket.inet_aton(source), int(source_port), socket.inet_aton(target),
+                  int(target_port))
 
 
 def judge(view: View) -> None:
@@ -52,12 +53,13 @@ def judge(view: View) -> None:
 def rows_of(view: View, side: str, wanted: Flags) -> Ints:
     """Returns the rows of the report at which packets pass a side, in order.
 
-    Segments and plain packets are created at the sender and delivered at the receiver, acknowledgements vice versa. `wanted`
-    selects packets, shape (packets,)."""
+    Segments and plain packets are created at the sender and delivered at the receiver, acknowledgements vice
+    versa. `wanted` selects packets, shape (packets,)."""
     own = view.records
     made, came = own.at(MAKE_COMMAND, MAKE_ACK), own.at(DELIVER, DELIVER_ACK)
     of_acks, others = (came, made) if side == "sender" else (made, came)
-    rows: Ints = np.sort(np.concatenate((of_acks[LOAD_OF[own.kind[of_acks]] == ACKNOWLEDGES], others[LOAD_OF[own.kind[others]] != ACKNOWLEDGES])))
+    rows: Ints = np.sort(np.concatenate((of_acks[LOAD_OF[own.kind[of_acks]] == ACKNOWLEDGES],
+                                         others[LOAD_OF[own.kind[others]] != ACKNOWLEDGES])))
     kept: Ints = rows[wanted[own.rows["packet"][rows]]]
     return kept
 
@@ -65,7 +67,8 @@ def rows_of(view: View, side: str, wanted: Flags) -> Ints:
 def sequences(view: View) -> Ints:
     """Returns the sequence number of each packet. Shape (packets,), int64, below 2^32.
 
-    A segment's is its first byte + 1; plain packets of one sender and header follow one another, as if each had new data."""
+    A segment's is its first byte + 1; plain packets of one sender and header follow one another, as if each
+    had new data."""
     table = view.packets
     found = np.where(table.kind == DATA, table.number + 1, 1)
     for _, packets in view.senders:
@@ -76,7 +79,8 @@ def sequences(view: View) -> Ints:
 
 
 def frames_of(view: View, side: str, wanted: Flags) -> Iterator[tuple[int, bytes, int]]:
-    """Yields the packets that pass a side, in the order of the report: time (ns), captured bytes, and length on the wire."""
+    """Yields the packets that pass a side, in the order of the report: time (ns), captured bytes, and length
+    on the wire."""
     own, table = view.records, view.packets
     found, place = distinct(headers_at(own.rows, table.row))
     headers = [header_of(header_text(one)) for one in found]
@@ -90,8 +94,8 @@ def frames_of(view: View, side: str, wanted: Flags) -> Iterator[tuple[int, bytes
             inner = dpkt.udp.UDP(sport=header.source_port, dport=header.target_port, ulen=size - 20)
         else:
             upto = int(table.number[packet]) + 1 if table.kind[packet] == ACKNOWLEDGES else 1
-            inner = dpkt.tcp.TCP(sport=header.source_port, dport=header.target_port, seq=int(sequence[packet]),
-                                 ack=upto % _MOST, flags=dpkt.tcp.TH_ACK,
+            inner = dpkt.tcp.TCP(sport=header.source_port, dport=header.target_port,
+                                 seq=int(sequence[packet]), ack=upto % _MOST, flags=dpkt.tcp.TH_ACK,
                                  win=windows.get(int(table.flow[packet]), WINDOW))
         yield moment, ethernets[place[packet]] + packed(header, inner, packet, size), _ETHERNET + size
 
@@ -113,8 +117,10 @@ def write(view: View, side: str, wanted: Flags, out: BinaryIO) -> int:
     own = view.packets.row[np.flatnonzero(wanted & view.is_injected)]
     invented = int(np.count_nonzero(view.records.rows["code"][own] == dpkt.ip.IP_PROTO_TCP))
     if invented:
-        raise InputError(f"experiment {view.name}: {invented} of the packets were injected as TCP, whose flags and sequence numbers no"
-                         " report has: capture them in the program that sends them, or choose other senders with --of")
+        raise InputError(
+            f"experiment {view.name}: {invented} of the packets were injected as TCP, whose flags and "
+            "sequence numbers no report has: capture them in the program that sends them, or choose other "
+            "senders with --of")
     out.write(bytes(dpkt.pcap.LEFileHdr(magic=dpkt.pcap.TCPDUMP_MAGIC_NANO, linktype=dpkt.pcap.DLT_EN10MB)))
     count = 0
     for count, (moment, kept, length) in enumerate(frames_of(view, side, wanted), 1):

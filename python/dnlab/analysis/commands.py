@@ -1,5 +1,5 @@
-"""The commands of an experiment as the report and the scenario have them: which were executed, the rules at each time, what they
-send, and the senders of packets, which the text of a report lacks."""
+"""The commands of an experiment as the report and the scenario have them: which were executed, the rules at
+each time, what they send, and the senders of packets, which the text of a report lacks."""
 from __future__ import annotations
 
 import ipaddress
@@ -20,8 +20,8 @@ if TYPE_CHECKING:
     from dnlab.analysis.view import View
 
 def done_of(records: Records, plan: Optional[Plan]) -> list[tuple[int, Command]]:
-    """Returns the executed commands of a scenario that inject nothing, each with its number. Raises `ParseError` if the report has other
-    commands."""
+    """Returns the executed commands of a scenario that inject nothing, each with its number. Raises
+    `ParseError` if the report has other commands."""
     if plan is None:
         return []
     rows = records.commands()
@@ -32,7 +32,8 @@ def done_of(records: Records, plan: Optional[Plan]) -> list[tuple[int, Command]]
 
 
 def _compare(records: Records, plan: Plan, rows: Ints) -> None:
-    """Raises `ParseError` if the report's commands have other times than the scenario's, or another number."""
+    """Raises `ParseError` if the report's commands have other times than the scenario's, or another
+    number."""
     moments = np.zeros(len(plan.commands), dtype=np.int64)
     moments[[number for number, _ in plan.commands.plain]] = [one.moment for _, one in plan.commands.plain]
     for number, run in plan.commands.runs:
@@ -42,8 +43,9 @@ def _compare(records: Records, plan: Plan, rows: Ints) -> None:
     bad = np.flatnonzero(told[:both] != moments[:both])
     if len(bad):
         number = int(bad[0])
-        raise records.refused(int(rows[number]), f"command {number} at {told[number]}, where line {plan.commands[number].line} of the"
-                              f" scenario has {moments[number]}")
+        raise records.refused(int(rows[number]),
+                              f"command {number} at {told[number]}, where line {plan.commands[number].line} "
+                              f"of the scenario has {moments[number]}")
     if len(rows) > both:
         raise records.refused(int(rows[both]), f"the scenario has no command {both} in {plan.name}")
     if len(moments) > both and not records.is_spent():
@@ -77,7 +79,8 @@ def epochs_of(view: View) -> list[Epoch]:
         elif command.word != "one_pass":
             continue
         one_pass = words[1] == "1" if command.word == "one_pass" else found[-1].is_one_pass
-        found = [one for one in found if one.moment < command.moment] + [Epoch(command.moment, tuple(rules), one_pass)]
+        found = [one for one in found
+                 if one.moment < command.moment] + [Epoch(command.moment, tuple(rules), one_pass)]
     return found
 
 
@@ -89,7 +92,8 @@ def header_by(command: Command) -> list[int]:
 
 
 def headers_of(view: View) -> tuple[Ints, Ints]:
-    """Returns the headers that are sent, and the index of each packet's (-1 if unknown). Shapes (n, 5) and (packets,)."""
+    """Returns the headers that are sent, and the index of each packet's (-1 if unknown). Shapes (n, 5) and
+    (packets,)."""
     rows: list[list[int]] = []
     by_name: dict[str, int] = {}
     for _, command in view.done:
@@ -115,8 +119,8 @@ def headers_of(view: View) -> tuple[Ints, Ints]:
 
 
 def search(epoch: Epoch, headers: Ints, is_whole: bool = False) -> tuple[Ints, Flags]:
-    """Returns where the search for each header first ends (a pipe's number, `DENIED` or `ALLOWED`), and which rules some of them meet.
-    With `is_whole`, packets that leave a pipe under `one_pass 0` continue."""
+    """Returns where the search for each header first ends (a pipe's number, `DENIED` or `ALLOWED`), and which
+    rules some of them meet. With `is_whole`, packets that leave a pipe under `one_pass 0` continue."""
     ends = np.full(len(headers), DENIED, dtype=np.int64)
     open_, skips = np.ones(len(headers), dtype=np.bool_), np.zeros(len(headers), dtype=np.int64)
     met = np.zeros(len(epoch.rules), dtype=np.bool_)
@@ -147,8 +151,8 @@ def _matches(rule: Rule, headers: Ints) -> Flags:
 
 
 def unmet(view: View) -> tuple[list[tuple[int, Rule]], list[int]]:
-    """Returns the rules that no packet met, each with its line, and the pipes. What a packet's return path would meet counts as met; so
-    does everything if no packet was created."""
+    """Returns the rules that no packet met, each with its line, and the pipes. What a packet's return path
+    would meet counts as met; so does everything if no packet was created."""
     if not len(view.packets):
         return [], []
     there, _ = view.headers
@@ -159,22 +163,25 @@ def unmet(view: View) -> tuple[list[tuple[int, Rule]], list[int]]:
             rules[one] = rules.get(one, False) or is_met
     pipes = {rule.value for (_, rule), is_met in rules.items() if is_met and rule.action == "pipe"}
     pipes |= set((view.visits.pipe // 256).tolist())
-    return [one for one, is_met in rules.items() if not is_met], [pipe for pipe in view.changes if pipe not in pipes]
+    return [one for one, is_met in rules.items() if not is_met], [pipe for pipe in view.changes
+                                                                  if pipe not in pipes]
 
 
 def is_settled(view: View, epochs: Sequence[Epoch], which: Ints) -> Flags:
-    """Returns for each packet whether the rules at its creation are known: emissions of flows and trains follow everything else of their
-    time."""
+    """Returns for each packet whether the rules at its creation are known: emissions of flows and trains
+    follow everything else of their time."""
     changes = np.array([epoch.moment for epoch in epochs], dtype=np.int64)
     names = np.array([name.startswith(("flow", "train")) for name in view.packets.names] + [False])
     is_emission = names[view.packets.who] & (view.packets.kind != ACKNOWLEDGES)
-    found: Flags = (which >= 0) & (view.packets.made >= 0) & (is_emission | ~np.isin(view.packets.made, changes))
+    found: Flags = (which >= 0) & (view.packets.made >= 0) & (is_emission
+                                                              | ~np.isin(view.packets.made, changes))
     return found
 
 
 def find_senders(records: Records, plan: Plan, notes: list[Note]) -> frozenset[str]:
-    """Sets the senders in the rows of a text, by its scenario. An injected packet follows the `ok` of its command; a train's has the
-    train's header. Returns the trains that share a header, so that no packet of theirs can be attributed, and adds a note."""
+    """Sets the senders in the rows of a text, by its scenario. An injected packet follows the `ok` of its
+    command; a train's has the train's header. Returns the trains that share a header, so that no packet of
+    theirs can be attributed, and adds a note."""
     makes = records.at(MAKE_COMMAND)
     makes = makes[records.rows["source"][makes] == UNKNOWN_SOURCE]
     if not len(makes):
@@ -203,7 +210,9 @@ def _find_trains(records: Records, plan: Plan, makes: Ints, notes: list[Note]) -
             records.name_train(makes[which == place], next(iter(names.values())))
         elif names:
             shared += names
-            notes.append(Note("same header", f"{', '.join(names)} have the same header, so their packets are named {header_text(header)}: the"
-                              " text of a report doesn't tell them apart, but rows do (`dnlab alone --format npy < scenario.txt >"
-                              " rows.npy`)", "", header_text(header)))
+            notes.append(Note("same header",
+                              f"{', '.join(names)} have the same header, so their packets are named "
+                              f"{header_text(header)}: the text of a report doesn't tell them apart, but "
+                              "rows do (`dnlab alone --format npy < scenario.txt > rows.npy`)", "",
+                              header_text(header)))
     return frozenset(shared)

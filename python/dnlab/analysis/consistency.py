@@ -1,7 +1,8 @@
-"""Refuses a report that cannot come from its scenario: senders, rates, delays, losses, packets in flight, steps, instances and routes.
+"""Refuses a report that cannot come from its scenario: senders, rates, delays, losses, packets in flight,
+steps, instances and routes.
 
-Only what is cheap to see is compared, and no state that the report doesn't show, such as CoDel's times before its first drop
-(docs/reference/tools.md).
+Only what is cheap to see is compared, and no state that the report doesn't show, such as CoDel's times before
+its first drop (docs/reference/tools.md).
 """
 from __future__ import annotations
 
@@ -13,14 +14,15 @@ import numpy as np
 from dnlab.analysis import commands
 from dnlab.analysis.packets import DROPPED, HELD, distinct
 from dnlab.errors import ParseError
-from dnlab.io.rows import (ACK, DELIVER, DELIVER_ACK, DROP, DROP_ACK, EXPIRE, FINISH, MAKE_ACK, MAKE_COMMAND, OK, PASS, REFUSED, Flags, Ints,
-                           header_text, headers_at, instance_name)
+from dnlab.io.rows import (ACK, DELIVER, DELIVER_ACK, DROP, DROP_ACK, EXPIRE, FINISH, MAKE_ACK, MAKE_COMMAND,
+                           OK, PASS, REFUSED, Flags, Ints, header_text, headers_at, instance_name)
 from dnlab.io.scenario_parts import DROP_CAUSES, MASKS, Config
 
 if TYPE_CHECKING:
     from dnlab.analysis.view import View
 
-_DENIED, _LOST, _FULL, _CODEL, _BUDGET = (DROPPED + DROP_CAUSES.index(cause) for cause in ("denied", "lost", "full", "codel", "budget"))
+_DENIED, _LOST, _FULL, _CODEL, _BUDGET = (DROPPED + DROP_CAUSES.index(cause)
+                                          for cause in ("denied", "lost", "full", "codel", "budget"))
 # Losses with a lower probability than this are not attributed to chance.
 _SURELY_NOT = 1e-10
 
@@ -46,16 +48,19 @@ def _steps(view: View) -> None:
 
 
 def _budget(view: View) -> None:
-    """Checks the packets in flight, which the rows count in order; one that the budget drops is created first."""
+    """Checks the packets in flight, which the rows count in order; one that the budget drops is created
+    first."""
     assert view.plan is not None
     kind = view.records.kind
-    change = ((kind >= MAKE_COMMAND) & (kind <= MAKE_ACK)).astype(np.int8) - ((kind >= DELIVER) & (kind <= DROP_ACK)).astype(np.int8)
+    change = ((kind >= MAKE_COMMAND) & (kind <= MAKE_ACK)).astype(np.int8) - (
+        (kind >= DELIVER) & (kind <= DROP_ACK)).astype(np.int8)
     flying = np.cumsum(change, dtype=np.int32)
     drops = view.records.at(DROP, DROP_ACK)
     drops = drops[view.records.rows["code"][drops] == _BUDGET - DROPPED + 1]
     most = int(flying.max(initial=0)) - (len(drops) > 0)
     if most > view.plan.budget:
-        raise _no(view, f"{most} packets are in flight at once, but the scenario has `budget {view.plan.budget}`")
+        raise _no(view,
+                  f"{most} packets are in flight at once, but the scenario has `budget {view.plan.budget}`")
     if len(drops) and int(flying[drops].min()) < view.plan.budget:
         raise _no(view, f"packets are dropped for the budget, with fewer than {view.plan.budget} in flight")
 
@@ -71,16 +76,21 @@ def _senders(view: View) -> None:
             continue
         first = packets[:1]
         command = next(one for _, one in view.done if one.sends is sends)
-        told = headers_at(rows, table.row[first])[0].tolist(), int(table.size[first[0]]), int(table.made[first[0]])
-        if told != (commands.header_by(command), sends.size, moment) or len(packets) > sends.count and sends.word == "train":
+        told = headers_at(rows,
+                          table.row[first])[0].tolist(), int(table.size[first[0]]), int(table.made[first[0]])
+        if (told != (commands.header_by(command), sends.size, moment) or len(packets) > sends.count
+            and sends.word == "train"):
             header, size, made = told
-            raise view.records.refused(int(table.row[first[0]]), f"the first of {len(packets)} packets of {name} is created at {made} with"
-                                       f" {size} bytes and the header {header_text(header)}, but the scenario has `{command.text}` at {moment}"
-                                       f" (line {command.line}): the report isn't this scenario's")
+            raise view.records.refused(int(table.row[first[0]]),
+                                       f"the first of {len(packets)} packets of {name} is created at {made} "
+                                       f"with {size} bytes and the header {header_text(header)}, but the "
+                                       f"scenario has `{command.text}` at {moment} (line {command.line}): "
+                                       "the report isn't this scenario's")
 
 
 def _links(view: View) -> None:
-    """Checks the service of packets that found an idle instance, and the delays, of pipes whose rate or delay never changes."""
+    """Checks the service of packets that found an idle instance, and the delays, of pipes whose rate or delay
+    never changes."""
     visits, pipes = view.visits, view.visits.pipe // 256
     for pipe, changes in view.changes.items():
         configs = [change.config for change in changes if change.config is not None]
@@ -92,7 +102,8 @@ def _links(view: View) -> None:
         if len({config.delay for config in configs}) == 1:
             left = own[visits.exit[own] >= 0]
             expected = visits.finish[left] + max(configs[0].delay, 1)
-            _refuse_time(view, left, visits.exit[left], expected, "leaves its pipe", f"line {configs[0].line}: {configs[0].words('delay')}")
+            _refuse_time(view, left, visits.exit[left], expected, "leaves its pipe",
+                         f"line {configs[0].line}: {configs[0].words('delay')}")
 
 
 def _rate(view: View, own: Ints, config: Config) -> None:
@@ -103,27 +114,34 @@ def _rate(view: View, own: Ints, config: Config) -> None:
     idle = own[visits.arrival[own] > before]
     bits = view.packets.size[visits.packet[idle]] * 8 * 10**9
     expected = visits.arrival[idle] + (-(-bits // config.bw) if config.bw else 0)
-    _refuse_time(view, idle, visits.finish[idle], expected, "finishes", f"line {config.line}: {config.words('bw')}")
+    _refuse_time(view, idle, visits.finish[idle], expected, "finishes",
+                 f"line {config.line}: {config.words('bw')}")
 
 
 def _refuse_time(view: View, visits: Ints, told: Ints, expected: Ints, what: str, said: str) -> None:
     bad = np.flatnonzero(told != expected)
     if len(bad):
         place = int(bad[0])
-        raise _no(view, f"packet {view.visits.packet[visits[place]]} {what} at {told[place]}, but the scenario has {expected[place]} ({said})")
+        raise _no(view,
+                  f"packet {view.visits.packet[visits[place]]} {what} at {told[place]}, but the scenario has "
+                  f"{expected[place]} ({said})")
 
 
 def _losses(view: View) -> None:
     """Checks the losses of a pipe against its `plr`, if that never changes."""
-    shares = {pipe: {change.config.plr for change in changes if change.config is not None} for pipe, changes in view.changes.items()}
+    shares = {pipe: {change.config.plr for change in changes if change.config is not None}
+              for pipe, changes in view.changes.items()}
     pipes, served = view.visits.pipe // 256, view.visits.finish >= 0
     for pipe, share in shares.items():
         if share == {10**6} and (served & (pipes == pipe)).any():
             raise _no(view, f"pipe {pipe} served packets, but the scenario has `plr 1`")
-    configs = [change.config for changes in view.changes.values() for change in changes if change.config is not None]
+    configs = [change.config for changes in view.changes.values()
+               for change in changes if change.config is not None]
     for cause, name in ((_LOST, "plr"), (_CODEL, "codel")):
         if (view.packets.outcome == cause).any() and not any(getattr(config, name) for config in configs):
-            raise _no(view, f"packets are dropped as `{DROP_CAUSES[cause - DROPPED]}`, but no pipe of the scenario has {name}")
+            raise _no(view,
+                      f"packets are dropped as `{DROP_CAUSES[cause - DROPPED]}`, but no pipe of the "
+                      f"scenario has {name}")
     lossy = [pipe for pipe, share in shares.items() if share != {0}]
     if len(lossy) != 1 or len(shares[lossy[0]]) != 1:
         return
@@ -135,12 +153,14 @@ def _losses(view: View) -> None:
     least = came - int(np.count_nonzero(np.isin(fates, (_FULL, _CODEL))))
     if (lost < least * plr and _chance(lost, least, plr) < _SURELY_NOT
             or came and lost > came * plr and _chance(lost, came, plr) < _SURELY_NOT):
-        raise _no(view, f"{lost} of {came} packets were lost, but the scenario has `plr {plr:g}` in pipe {lossy[0]}")
+        raise _no(view,
+                  f"{lost} of {came} packets were lost, but the scenario has `plr {plr:g}` in "
+                  f"pipe {lossy[0]}")
 
 
 def _chance(lost: int, came: int, share: float) -> float:
-    """Returns an upper bound for the probability that this many or fewer are lost, or this many or more if that is above the share
-    (Chernoff).
+    """Returns an upper bound for the probability that this many or fewer are lost, or this many or more if
+    that is above the share (Chernoff).
 
     >>> _chance(0, 100, 0.5) < 1e-10 < _chance(30, 100, 0.5)
     True
@@ -160,8 +180,9 @@ def _thresholds(view: View) -> None:
         own = rows[flows == sends.number] if sends.word == "flow" else rows[:0]
         row = int(own[0]) if len(own) else -1
         if row >= 0 and records.kind[row] == ACK and int(records.rows["more"][row]) != sends.ssthresh:
-            raise records.refused(row, f"{name} has ssthresh {int(records.rows['more'][row])}, but the scenario has {sends.ssthresh}:"
-                                  " the report isn't this scenario's")
+            raise records.refused(row,
+                                  f"{name} has ssthresh {int(records.rows['more'][row])}, but the scenario "
+                                  f"has {sends.ssthresh}: the report isn't this scenario's")
 
 
 def _ways(view: View) -> None:
@@ -188,9 +209,12 @@ def _ways(view: View) -> None:
 def _refuse_way(view: View, own: Ints, wrong: Flags, ends: Ints) -> None:
     if wrong.any():
         place = int(np.flatnonzero(wrong)[0])
-        said = {commands.DENIED: "deny it", commands.ALLOWED: "allow it at once"}.get(int(ends[place]), f"send it to pipe {ends[place]} first")
-        raise _no(view, f"packet {own[place]} of {view.packets.names[view.packets.who[own[place]]]} did not go where the rules send it,"
-                  f" which {said}")
+        said = {commands.DENIED: "deny it",
+                commands.ALLOWED: "allow it at once"}.get(int(ends[place]),
+                                                          f"send it to pipe {ends[place]} first")
+        raise _no(view,
+                  f"packet {own[place]} of {view.packets.names[view.packets.who[own[place]]]} did not go "
+                  f"where the rules send it, which {said}")
 
 
 def _instances(view: View) -> None:
@@ -206,9 +230,12 @@ def _instances(view: View) -> None:
             continue
         bits = _bits(str(masks.pop()))
         _, key = distinct(headers & bits)
-        pairs = np.flatnonzero(np.bincount(key[which[view.visits.packet[own]]] << 8 | view.visits.pipe[own] % 256))
+        pairs = np.flatnonzero(np.bincount(key[which[view.visits.packet[own]]] << 8
+                                           | view.visits.pipe[own] % 256))
         if len(np.unique(pairs >> 8)) != len(pairs) or len(np.unique(pairs & 255)) != len(pairs):
-            raise _no(view, f"packets are in other instances of pipe {pipe} than its mask selects, as {instance_name(int(view.visits.pipe[own[0]]))}")
+            raise _no(view,
+                      f"packets are in other instances of pipe {pipe} than its mask selects, as "
+                      f"{instance_name(int(view.visits.pipe[own[0]]))}")
 
 
 def _bits(mask: str) -> Ints:

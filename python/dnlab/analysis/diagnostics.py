@@ -1,4 +1,5 @@
-"""Judges a run: warnings for its rows, and hints at what a scenario does although its author hardly meant it."""
+"""Judges a run: warnings for its rows, and hints at what a scenario does although its author hardly meant
+it."""
 from __future__ import annotations
 
 from collections import Counter
@@ -17,7 +18,8 @@ if TYPE_CHECKING:
 
 # `unsent`          `end` cut off a train or a flow
 # `reconfigured`    a later `config` of a pipe reset an option of an earlier one to its default
-# `outage`          in a link that changes: `bw 0`, which means unlimited, or a rate at which a packet takes longer than it lasts
+# `outage`          in a link that changes: `bw 0`, which means unlimited, or a rate at which a packet takes
+#                   longer than it lasts
 # `half-duplex`     a flow's acknowledgements wait in the pipe of its segments
 # `window-limited`  for part of a flow's time its `window`, and not cwnd, was the limit
 # `unused`          a rule or a pipe that no packet met
@@ -28,7 +30,8 @@ ENDLESS = 10**6
 # No pipe is faster (bit/s), so a smaller gap than that of packets at this rate must be a mistake.
 _FASTEST = 10**10
 _SLOWEST = 1000
-# A run that ends before this (ns) without a delivery was meant to be longer; so were times below the other value.
+# A run that ends before this (ns) without a delivery was meant to be longer; so were times below the other
+# value.
 _SHORT = 10**6
 _ODD = range(10, 1000)
 # The maximum number of rules and pipes in a message.
@@ -62,8 +65,9 @@ def _unsent(view: View) -> Iterator[Note]:
             what = "segments were sent" if is_flow else "packets were made"
             more = (f"segments {ENDLESS} means an endless flow" if is_flow else
                     f"its last is due at {moment + sends.gap * (sends.count - 1)} ns")
-            yield Note("unsent", f"{name}: {sent} of {sends.count} {what} before `end` at {spoken(view.ended.moment)}"
-                       f" ({more})", "unsent", name)
+            yield Note("unsent",
+                       f"{name}: {sent} of {sends.count} {what} before `end` at "
+                       f"{spoken(view.ended.moment)} ({more})", "unsent", name)
 
 
 def _by_pipes(view: View) -> Iterator[Note]:
@@ -78,8 +82,8 @@ def _by_pipes(view: View) -> Iterator[Note]:
 
 
 def _reconfigured(pipe: int, earlier: Sequence[Change], change: Change) -> Iterator[Note]:
-    """Returns notes about options that fall back to a default which the pipe never had. A return to an earlier value is normal, as at the
-    end of an outage."""
+    """Returns notes about options that fall back to a default which the pipe never had. A return to an
+    earlier value is normal, as at the end of an outage."""
     known = [one.config for one in earlier if one.config is not None]
     config, before, usual = change.config, known[-1], Config(0)
     assert config is not None
@@ -87,8 +91,9 @@ def _reconfigured(pipe: int, earlier: Sequence[Change], change: Change) -> Itera
             and all(_value(one, name) != _value(usual, name) for one in known)]
     if lost:
         back = ", ".join(f"{name} ({DEFAULTS[name]})" for name in lost)
-        yield Note("reconfigured", f"line {config.line}: this `config` of pipe {pipe} resets {back} to the default, because"
-                   f" it omits what line {before.line} set ({before.words(*lost)}): write every option again",
+        yield Note("reconfigured",
+                   f"line {config.line}: this `config` of pipe {pipe} resets {back} to the default, because "
+                   f"it omits what line {before.line} set ({before.words(*lost)}): write every option again",
                    "reconfigured")
 
 
@@ -101,26 +106,33 @@ def _outages(pipe: int, stretch: Sequence[Change], largest: int) -> Iterator[Not
         config = change.config
         assert config is not None
         if config.bw == 0 and "bw" in dict(config.given):
-            yield Note("outage", f"line {config.line}: `bw 0` of pipe {pipe} means unlimited, not an outage: `plr 1` loses every"
-                       " packet", "outage")
+            yield Note("outage",
+                       f"line {config.line}: `bw 0` of pipe {pipe} means unlimited, not an outage: `plr 1` "
+                       "loses every packet", "outage")
         elif config.bw and following is not None:
             time, holds = -(-8 * 10**9 * largest // config.bw), following.moment - change.moment
             if time > holds > 0:
-                yield Note("outage", f"line {config.line}: at {config.words('bw')} a packet of {largest} bytes takes"
-                           f" {spoken(time)}, and this rate of pipe {pipe} lasts {spoken(holds)}: the packet in"
-                           " service keeps its finish time, so the link is busy until then", "outage")
+                yield Note("outage",
+                           f"line {config.line}: at {config.words('bw')} a packet of {largest} bytes takes "
+                           f"{spoken(time)}, and this rate of pipe {pipe} lasts {spoken(holds)}: the packet "
+                           "in service keeps its finish time, so the link is busy until then", "outage")
 
 
 def _half_duplex(view: View) -> Iterator[Note]:
     who, names = view.packets.who, view.packets.names
     both: list[tuple[int, int]] = []
     for pipe, visits in view.visits.pipes():
-        here = {names[one] for one in np.flatnonzero(np.bincount(who[view.visits.packet[visits]], minlength=len(names)))}
-        both += [(int(name.split()[1]), pipe) for name in here if name.startswith("flow ") and f"{name} acks" in here]
+        here = {names[one]
+                for one in np.flatnonzero(np.bincount(who[view.visits.packet[visits]], minlength=len(names)))}
+        both += [(int(name.split()[1]), pipe)
+                 for name in here if name.startswith("flow ") and f"{name} acks" in here]
     for number, pipe in sorted(both):
-        if any(change.config is not None and change.config.bw for change in view.changes.get(pipe // 256, [])):
-            yield Note("half-duplex", f"flow {number}: its acknowledgements wait behind its segments, in {instance_name(pipe)}: a"
-                       " pipe has one direction, so give the return path a rule and a pipe of its own", "half-duplex", f"flow {number}")
+        if any(change.config is not None and change.config.bw
+               for change in view.changes.get(pipe // 256, [])):
+            yield Note("half-duplex",
+                       f"flow {number}: its acknowledgements wait behind its segments, in "
+                       f"{instance_name(pipe)}: a pipe has one direction, so give the return path a rule and "
+                       "a pipe of its own", "half-duplex", f"flow {number}")
 
 
 def _window_limited(view: View) -> Iterator[Note]:
@@ -133,15 +145,18 @@ def _window_limited(view: View) -> Iterator[Note]:
             continue
         own = np.flatnonzero(flows == sends.number)
         sent = packets[name][~view.packets.retransmission[packets[name]]]
-        until = int(view.packets.made[sent].max()) if len(sent) == sends.count or not len(own) else int(moment[own[-1]])
+        until = (int(view.packets.made[sent].max()) if len(sent) == sends.count or not len(own)
+                 else int(moment[own[-1]]))
         moments = np.concatenate((np.array([begin]), moment[own], np.array([until])))
         cwnd = np.concatenate((np.array([first_window(sends.smss)]), window[own]))
         times = np.maximum(np.minimum(moments[1:], until) - moments[:-1], 0)
         held = int(times[cwnd // sends.smss > sends.window // sends.smss].sum())
         if 100 * held >= until - begin > 0:
-            share, more = 100 * held // (until - begin), ": a longer queue gives it nothing more" if 2 * held > until - begin else ""
-            yield Note("window-limited", f"{name}: its window of {sends.window} bytes, and not the network, held it back for"
-                       f" {share} % of its time{more}", "window-limited", name)
+            share, more = 100 * held // (
+                until - begin), ": a longer queue gives it nothing more" if 2 * held > until - begin else ""
+            yield Note("window-limited",
+                       f"{name}: its window of {sends.window} bytes, and not the network, held it back for "
+                       f"{share} % of its time{more}", "window-limited", name)
 
 
 def _unused(view: View) -> Iterator[Note]:
@@ -149,8 +164,9 @@ def _unused(view: View) -> Iterator[Note]:
     names = [f"pipe {pipe}" for pipe in pipes] + [f"`add {rule.text()}`" for _, rule in rules]
     if names:
         more = f" and {len(names) - _MOST_UNUSED} more" if len(names) > _MOST_UNUSED else ""
-        yield Note("unused", f"no packet met {', '.join(names[:_MOST_UNUSED])}{more}: an earlier rule decides, or it matches no"
-                   " sender", "unused")
+        yield Note("unused",
+                   f"no packet met {', '.join(names[:_MOST_UNUSED])}{more}: an earlier rule decides, or it "
+                   "matches no sender", "unused")
 
 
 def _units(view: View) -> Iterator[Note]:
@@ -163,19 +179,26 @@ def _units(view: View) -> Iterator[Note]:
         sent += [(number, view.plan.commands[number].line, view.plan.commands[number].moment, None)
                  for number in view.records.take("source", rows[odd]).tolist() if number != UNKNOWN_SOURCE]
     for _, line, moment, sends in sorted(sent, key=lambda one: one[0]):
-        if sends is not None and sends.count > 1 and 0 < sends.gap and sends.size * 8 * 10**9 > _FASTEST * sends.gap:
-            yield _unit(line, f"gap {sends.gap} is {spoken(sends.gap)}, so the train is faster than any pipe: gaps are"
-                        f" nanoseconds, {sends.gap} ms is {sends.gap * 10**6}", sends)
+        if (sends is not None and sends.count > 1 and 0 < sends.gap
+            and sends.size * 8 * 10**9 > _FASTEST * sends.gap):
+            yield _unit(line,
+                        f"gap {sends.gap} is {spoken(sends.gap)}, so the train is faster than any pipe: gaps "
+                        f"are nanoseconds, {sends.gap} ms is {sends.gap * 10**6}", sends)
         if moment in _ODD and end >= _SHORT:
-            yield _unit(line, f"@{moment} is {spoken(moment)}: times are in nanoseconds, {moment} ms is @{moment * 10**6}")
+            yield _unit(line,
+                        f"@{moment} is {spoken(moment)}: times are in nanoseconds, {moment} ms is "
+                        f"@{moment * 10**6}")
     for changes in view.changes.values():
         for config in (change.config for change in changes if change.config is not None):
             if 0 < config.bw < _SLOWEST:
-                yield Note("units", f"line {config.line}: {config.words('bw')} is {config.bw} bit/s: is a unit missing, as in"
-                           " 10Mbit/s?", "units")
-    if (view.sends or view.counters.made) and 0 < end < _SHORT and not view.ended.is_short() and not view.counters.delivered:
-        yield _unit(view.done[-1][1].line, f"@{end} end is {spoken(end)}, and nothing was delivered by then: times are in nanoseconds,"
-                    f" {end} ms is @{end * 10**6}")
+                yield Note("units",
+                           f"line {config.line}: {config.words('bw')} is {config.bw} bit/s: is a unit "
+                           "missing, as in 10Mbit/s?", "units")
+    if ((view.sends or view.counters.made) and 0 < end < _SHORT and not view.ended.is_short()
+        and not view.counters.delivered):
+        yield _unit(view.done[-1][1].line,
+                    f"@{end} end is {spoken(end)}, and nothing was delivered by then: times are in "
+                    f"nanoseconds, {end} ms is @{end * 10**6}")
 
 
 def _unit(line: int, said: str, sends: Sends | None = None) -> Note:
@@ -200,8 +223,8 @@ _MOST_TOLD = 3
 
 
 class Refusal(NamedTuple):
-    """A refused command: its index in the experiment (from 0), its time in ns, the code, its line in the report (or its row), and its
-    line and text in the scenario (None if the scenario isn't known)."""
+    """A refused command: its index in the experiment (from 0), its time in ns, the code, its line in the
+    report (or its row), and its line and text in the scenario (None if the scenario isn't known)."""
     experiment: str
     number: int
     moment: int
@@ -216,7 +239,8 @@ class Refusal(NamedTuple):
         >>> Refusal("a", 1, 0, 13, 3, 4, "delete 7").told()
         'line 4: `delete 7` (13: no rule has this number)'
         """
-        what = f"command {self.number} at {self.moment} ns" if self.line is None else f"line {self.line}: `{self.text}`"
+        what = (f"command {self.number} at {self.moment} ns" if self.line is None
+                else f"line {self.line}: `{self.text}`")
         return f"{what} ({self.code}: {MEANS[self.code]})"
 
 
@@ -226,7 +250,8 @@ def refused_of(view: View) -> list[Refusal]:
     commands = view.plan.commands if view.plan else []
     numbers, moments, codes = (records.take(column, rows).tolist() for column in ("source", "moment", "code"))
     return [Refusal(records.name, number, moment, code, records.number_of(row),
-                    *((commands[number].line, commands[number].text) if number < len(commands) else (None, None)))
+                    *((commands[number].line, commands[number].text) if number < len(commands)
+                      else (None, None)))
             for row, number, moment, code in zip(rows.tolist(), numbers, moments, codes)]
 
 
@@ -237,9 +262,11 @@ def codes_of(refused: Iterable[Refusal]) -> str:
 
 
 def told_of(refused: Sequence[Refusal], commands: int) -> str:
-    """Returns the message about refused commands, with the first of them; `commands` is the number of all commands."""
+    """Returns the message about refused commands, with the first of them; `commands` is the number of all
+    commands."""
     said = "; ".join(one.told() for one in refused[:_MOST_TOLD])
-    more = f"; and {len(refused) - _MOST_TOLD} more, codes {codes_of(refused)}" if len(refused) > _MOST_TOLD else ""
+    more = (f"; and {len(refused) - _MOST_TOLD} more, codes {codes_of(refused)}"
+            if len(refused) > _MOST_TOLD else "")
     were = "was" if len(refused) == 1 else "were"
     return f"{len(refused)} of {commands} commands {were} refused and did nothing: {said}{more}"
 
@@ -251,30 +278,36 @@ def marks_of(view: View) -> list[Note]:
         found.append(Note("refused", told_of(view.refused, len(view.records.commands())), "refused"))
     if view.ended.is_short():
         end = "" if view.ended.end is None else f", before its end at {view.ended.end} ns"
-        found.append(Note("spent", f"its steps were spent at {view.ended.moment} ns{end}: what follows is missing; give"
-                          " it more `steps`", "spent"))
+        found.append(Note("spent",
+                          f"its steps were spent at {view.ended.moment} ns{end}: what follows is missing; "
+                          "give it more `steps`", "spent"))
     found += _losses(view)
     if view.plan is not None:
         # An untraced report has only what the notes about pipes and units need.
-        for kind in (_unsent, _by_pipes, _half_duplex, _window_limited, _unused, _units) if view.is_told else (_by_pipes, _units):
+        for kind in (_unsent, _by_pipes, _half_duplex, _window_limited, _unused,
+                     _units) if view.is_told else (_by_pipes, _units):
             found += kind(view)
     return found
 
 
 def _losses(view: View) -> Iterator[Note]:
-    """Returns notes about drops that suggest a mistake: by rules, in a pipe that doesn't exist, or for the budget."""
+    """Returns notes about drops that suggest a mistake: by rules, in a pipe that doesn't exist, or for the
+    budget."""
     for name, packets in view.senders:
         counts = np.bincount(view.packets.outcome[packets], minlength=len(OUTCOMES)).tolist()
-        came, denied, nowhere, over = (counts[OUTCOMES.index(name)] for name in ("delivered", "denied", "nopipe", "budget"))
+        came, denied, nowhere, over = (counts[OUTCOMES.index(name)]
+                                       for name in ("delivered", "denied", "nopipe", "budget"))
         if denied and not came and int(view.packets.kind[packets[0]]) == ACKNOWLEDGES:
-            yield Note("no way back", f"{name}: all {denied} that ended were denied: no rule allows the return"
-                       " path, so the sender never saw an acknowledgement", "no-way-back", name)
+            yield Note("no way back",
+                       f"{name}: all {denied} that ended were denied: no rule allows the return path, so the "
+                       "sender never saw an acknowledgement", "no-way-back", name)
         elif denied:
             yield Note("denied", f"{name}: {denied} of {len(packets)} packets were denied: no rule matched,"
                        " or a `deny`", "denied", name)
         if nowhere:
-            yield Note("nopipe", f"{name}: {nowhere} of {len(packets)} packets were dropped because a rule sends them to a pipe"
-                       " that does not exist: configure that pipe, or name another", "nopipe", name)
+            yield Note("nopipe",
+                       f"{name}: {nowhere} of {len(packets)} packets were dropped because a rule sends them "
+                       "to a pipe that does not exist: configure that pipe, or name another", "nopipe", name)
         if over:
             yield Note("budget", f"{name}: {over} of {len(packets)} packets were dropped because the budget"
                        " of packets in flight was used up", "budget", name)

@@ -29,7 +29,8 @@ class Span(NamedTuple):
         return self.begin == 0 and self.end is None
 
     def has(self, moments: "Ints") -> "Flags":
-        """Returns which times (ns, shape (n,)) are in it: `begin` is and `end` isn't. If it is whole, all are, even unknown ones.
+        """Returns which times (ns, shape (n,)) are in it: `begin` is and `end` isn't. If it is whole, all
+        are, even unknown ones.
 
         >>> import numpy as np
         >>> Span(2, 5).has(np.array([-1, 1, 2, 4, 5])).tolist()
@@ -52,14 +53,17 @@ class Span(NamedTuple):
         return "" if self.is_whole() else f"{self.begin}..{'' if self.end is None else self.end}"
 
     def check(self, view: "View") -> None:
-        """Raises `InputError` if the experiment has nothing in the range, or if the creation times of packets are unknown."""
+        """Raises `InputError` if the experiment has nothing in the range, or if the creation times of packets
+        are unknown."""
         if self.is_whole():
             return
         if not view.is_told:
             view.must_be_traced("--from and --to need creation times")
         last = view.ended.moment
         if self.begin >= last:
-            raise InputError(f"experiment {view.name}: it ended at {last} ns, but --from is {self.begin} ns: choose an earlier time")
+            raise InputError(
+                f"experiment {view.name}: it ended at {last} ns, but --from is {self.begin} ns: choose "
+                "an earlier time")
 
 
 def span_of(begin: int = 0, end: Optional[int] = None) -> Span:
@@ -69,7 +73,9 @@ def span_of(begin: int = 0, end: Optional[int] = None) -> Span:
     Span(begin=5, end=7)
     """
     if begin < 0 or (end is not None and end <= begin):
-        raise InputError(f"--from {begin} ns, --to {end} ns: the second time must be later than the first, and neither may be negative")
+        raise InputError(
+            f"--from {begin} ns, --to {end} ns: the second time must be later than the first, and neither "
+            "may be negative")
     return Span(begin, end)
 
 
@@ -78,8 +84,9 @@ Row = dict[str, Any]
 WHOLE = ("there", "back", "all")
 PERCENTILES: tuple[Percentile, ...] = (50, 99)
 _COUNTS = ("packets", "delivered", "in_flight", "bytes", "first", "last", "time", "rate")
-_MORE = ("mean", "jitter", "useful", "goodput", "utilisation", "retransmissions", "fct", "jain", "seed", "budget_packets",
-         "budget_steps", "params", "varied", "refused", "codes", "ended", "ended_at", "end", "warnings")
+_MORE = ("mean", "jitter", "useful", "goodput", "utilisation", "retransmissions", "fct", "jain", "seed",
+         "budget_packets", "budget_steps", "params", "varied", "refused", "codes", "ended", "ended_at", "end",
+         "warnings")
 
 
 def times_of(percentiles: Sequence[Percentile]) -> tuple[str, ...]:
@@ -103,26 +110,31 @@ ALIASES = {"rate": "delivered"}
 _PERCENTILE = re.compile(r"delay\.p([0-9]{1,3}(?:\.[0-9]{1,6})?)")
 # Columns of a summary by their unit.
 _PLAIN = {"packets": "count", "delivered": "count", "in_flight": "count", "bytes": "size", "useful": "size",
-          "first": "time", "last": "time", "time": "time", "rate": "rate", "goodput": "rate", "utilisation": "share",
-          "retransmissions": "count", "fct": "time", "jitter": "time", "jain": "index", "refused": "count", "ended": "ending"}
+          "first": "time", "last": "time", "time": "time", "rate": "rate", "goodput": "rate",
+          "utilisation": "share", "retransmissions": "count", "fct": "time", "jitter": "time",
+          "jain": "index", "refused": "count", "ended": "ending"}
 _DELAYS = ("min", "p50", "mean", "max")
 # Metrics that only one kind of row has, with the reason for other rows.
-_OF_KIND = {"fct": (("flow",), "only a flow has a completion time"), "retransmissions": (("flow",), "only a flow retransmits"),
+_OF_KIND = {"fct": (("flow",), "only a flow has a completion time"),
+            "retransmissions": (("flow",), "only a flow retransmits"),
             "jain": (("whole",), "only all flows together have an index of fairness"),
             "utilisation": (("pipe",), "only a pipe has a utilisation")}
 _NOT_OF = {"useful": ("acks", "pipe"), "goodput": ("acks", "pipe")}
 
 
 class Metric(NamedTuple):
-    """A metric: its name, the kind of its amounts (a key of `dnlab.analysis.quantities.UNITS`), and its column in a summary.
+    """A metric: its name, the kind of its amounts (a key of `dnlab.analysis.quantities.UNITS`), and its
+    column in a summary.
 
-    `loss` (drops divided by created packets) and `drops` (their sum) are computed from several columns, and have none of their own."""
+    `loss` (drops divided by created packets) and `drops` (their sum) are computed from several columns, and
+    have none of their own."""
     word: str
     kind: str
     column: str
 
     def of(self, row: Row) -> Optional[Fraction]:
-        """Returns its value in a row, in base units (ns, bytes, bit/s, fractions, counts), or None if unknown."""
+        """Returns its value in a row, in base units (ns, bytes, bit/s, fractions, counts), or None if
+        unknown."""
         if self.column:
             value = row.get(self.column)
             if self.kind == "ending" and value is not None:
@@ -141,7 +153,8 @@ class Metric(NamedTuple):
         kind = kind_of(row["sender"])
         only, _ = _OF_KIND.get(self.word, ((kind,), ""))
         # With packets in both directions, `all` has only counts, and new data is in `there`.
-        both = row["sender"] == "all" and row.get("bytes") is None and row.get("seed") is not None and row["packets"] > 0
+        both = (row["sender"] == "all" and row.get("bytes") is None and row.get("seed") is not None
+                and row["packets"] > 0)
         return (kind in only and kind not in _NOT_OF.get(self.word, ())
                 and not (both and self.kind in ("time", "rate", "size"))
                 and not (row["sender"] == "back" and self.word in (*_NOT_OF, "jain")))
@@ -165,7 +178,8 @@ class Metric(NamedTuple):
         if row.get("seed") is None:
             return "give the scenario"
         if self.word == "fct":
-            return f"it had not finished when the experiment ended, at {shown(Fraction(row['ended_at']), 'time', 's')}"
+            return ("it had not finished when the experiment ended, at "
+                    f"{shown(Fraction(row['ended_at']), 'time', 's')}")
         if self.word == "utilisation":
             return "the pipe has no rate (`bw 0`, or none), or it served nothing"
         if row.get("delivered") == 0 and (self.kind in ("time", "rate")):
@@ -189,17 +203,21 @@ def kind_of(of: str) -> str:
 
 
 def is_named(of: str, pattern: str) -> bool:
-    """Returns whether a pattern matches a row: `flow *` matches flows, and not their acknowledgements, which `flow * acks`
-    matches.
+    """Returns whether a pattern matches a row: `flow *` matches flows, and not their acknowledgements, which
+    `flow * acks` matches.
 
-    >>> is_named("flow 1", "flow *"), is_named("flow 1 acks", "flow *"), is_named("flow 1 acks", "flow * acks")
-    (True, False, True)
+    >>> is_named("flow 1", "flow *"), is_named("flow 1 acks", "flow *")
+    (True, False)
+    >>> is_named("flow 1 acks", "flow * acks")
+    True
     """
-    return fnmatchcase(of, pattern) and not (kind_of(of) == "acks" and pattern.startswith("flow") and "ack" not in pattern)
+    return (fnmatchcase(of, pattern)
+            and not (kind_of(of) == "acks" and pattern.startswith("flow") and "ack" not in pattern))
 
 
 # As in messages and help.
-WORDS = (*_PLAIN, "loss", "drops", *(f"drops.{cause}" for cause in DROP_CAUSES), *map("delay.{}".format, _DELAYS), "delay.pN")
+WORDS = (*_PLAIN, "loss", "drops", *(f"drops.{cause}" for cause in DROP_CAUSES),
+         *map("delay.{}".format, _DELAYS), "delay.pN")
 
 
 def refuse_share(percentile: str) -> None:
@@ -247,12 +265,14 @@ def metrics(percentiles: Iterable[str] = tuple(map(str, PERCENTILES))) -> list[M
 
 def percentiles_in(found: Iterable[Metric]) -> list[str]:
     """Returns the percentiles that a summary must have for some metrics."""
-    names = dict.fromkeys(one.column[1:] for one in found if one.word.startswith("delay.") and one.column not in ("min", "mean", "max"))
+    names = dict.fromkeys(one.column[1:] for one in found if one.word.startswith("delay.")
+                          and one.column not in ("min", "mean", "max"))
     return list(names)
 
 
 def stored_rows(name: str) -> Optional[dict[str, list[Row]]]:
-    """Returns the rows of a file of `dnlab-summary --json`, by experiment, or None for a report. Standard input is a report."""
+    """Returns the rows of a file of `dnlab-summary --json`, by experiment, or None for a report. Standard
+    input is a report."""
     if name == "-":
         return None
     with reading(name), open(name, "rb") as packed, opened_gzip(packed) as file:
@@ -268,5 +288,7 @@ def stored_rows(name: str) -> Optional[dict[str, list[Row]]]:
                 raise ValueError
             found.setdefault(row["experiment"], []).append(row)
     except (ValueError, TypeError):
-        raise InputError(f"{name}: it is not a complete summary: `dnlab-summary REPORT SCENARIO --json` makes one") from None
+        raise InputError(
+            f"{name}: it is not a complete summary: `dnlab-summary REPORT SCENARIO "
+            "--json` makes one") from None
     return found

@@ -8,20 +8,21 @@ from dnlab.analysis.statistics import percentile_of
 from dnlab.errors import InputError
 from dnlab.io.scenario_parts import Config, Plan, config_of, rate_text
 
-# A source is an address, or address and port, as `10.0.0.1` and `10.0.0.1:1000`. Only the scenario says which packets were
-# injected, so names are put into its plans, and everything made from these has them.
+# A source is an address, or address and port, as `10.0.0.1` and `10.0.0.1:1000`. Only the scenario says which
+# packets were injected, so names are put into its plans, and everything made from these has them.
 
 FORM = "SOURCE=NAME, as 10.0.0.1=mine or 10.0.0.1:1000=mine"
 _NAME = re.compile(r"[A-Za-z][A-Za-z0-9_.-]*")
 # Words of the tools for rows, groups of them, or their kinds.
-_TAKEN = ("injected", "all", "there", "back", "flow", "flows", "train", "trains", "pipe", "acks", "whole", "plain", "unknown")
+_TAKEN = ("injected", "all", "there", "back", "flow", "flows", "train", "trains", "pipe", "acks", "whole",
+          "plain", "unknown")
 # The maximum number of sources in a message.
 _MOST = 40
 
 
 def names_of(words: Iterable[str]) -> dict[str, str]:
-    """Parses the values of `--name` into names by source. Raises `InputError` for a malformed value, and for two names of one
-    source.
+    """Parses the values of `--name` into names by source. Raises `InputError` for a malformed value, and for
+    two names of one source.
 
     >>> names_of(["10.0.0.1:1000=mine", "10.0.0.2=theirs"])
     {'10.0.0.1:1000': 'mine', '10.0.0.2': 'theirs'}
@@ -36,21 +37,27 @@ def names_of(words: Iterable[str]) -> dict[str, str]:
     return found
 
 
-def with_names(plans: Optional[dict[str, Plan]], names: Mapping[str, str], wanted: Sequence[str] = ()) -> Optional[dict[str, Plan]]:
-    """Returns plans in which injected packets have the names of their sources; several sources may share a name.
+def with_names(plans: Optional[dict[str, Plan]], names: Mapping[str, str],
+               wanted: Sequence[str] = ()) -> Optional[dict[str, Plan]]:
+    """Returns plans in which injected packets have the names of their sources; several sources may share a
+    name.
 
     names   the name of each source, `ADDRESS` or `ADDRESS:PORT`
 
-    Raises `InputError` without a scenario, for a name that the tools use, for a source that no `inject` has (in the `wanted`
-    experiments, or all), and if a packet would have two names."""
+    Raises `InputError` without a scenario, for a name that the tools use, for a source that no `inject` has
+    (in the `wanted` experiments, or all), and if a packet would have two names."""
     if not names:
         return plans
     for source, name in names.items():
         if not _NAME.fullmatch(name) or name in _TAKEN:
-            raise InputError(f"name {source}={name}: {name!r} can't be a name: it must start with a letter, then have letters, digits, `_`,"
-                         f" `-` and `.`, and must not be a word of the tools: {', '.join(_TAKEN)}, `flow 1`, `train 2`")
+            raise InputError(
+                f"name {source}={name}: {name!r} can't be a name: it must start with a letter, then have "
+                "letters, digits, `_`, `-` and `.`, and must not be a word of the tools: "
+                f"{', '.join(_TAKEN)}, `flow 1`, `train 2`")
     if plans is None:
-        raise InputError(f"name {_said(names)}: only the scenario says which packets were injected: give it after the report")
+        raise InputError(
+            f"name {_said(names)}: only the scenario says which packets were injected: give it "
+            "after the report")
     _check([plans[name] for name in (wanted or plans) if name in plans], names)
     return {own: plan._replace(names=names) for own, plan in plans.items()}
 
@@ -59,7 +66,8 @@ _INJECTED = re.compile(r"^@[0-9]+ inject (tcp|udp) ([0-9.]+) ([0-9]+) ([0-9.]+) 
 
 
 def headers_in(plan: Plan) -> list[tuple[str, ...]]:
-    """Returns the headers that a scenario injects (protocol, source, its port, target, its port), each once, in the order of the first."""
+    """Returns the headers that a scenario injects (protocol, source, its port, target, its port), each once,
+    in the order of the first."""
     return list(dict.fromkeys(_INJECTED.findall(plan.commands.text().decode())))
 
 
@@ -69,17 +77,21 @@ def sources_of(plan: Plan) -> list[tuple[str, str]]:
 
 
 def _check(plans: Iterable[Plan], names: Mapping[str, str]) -> None:
-    """Raises `InputError` for a source that no `inject` of the plans has, and for one that is named both by address and by port."""
+    """Raises `InputError` for a source that no `inject` of the plans has, and for one that is named both by
+    address and by port."""
     found = dict.fromkeys(source for plan in plans for source in sources_of(plan))
     for address, source in found:
         if address in names and source in names and names[address] != names[source]:
-            raise InputError(f"name {_said(names)}: {source} would have two names, {names[address]!r} and {names[source]!r}")
+            raise InputError(
+                f"name {_said(names)}: {source} would have two names, {names[address]!r} and "
+                f"{names[source]!r}")
     for source, name in names.items():
         if not any(source in both for both in found):
             there = [both[1] for both in found]
             more = f" and {len(there) - _MOST} more" if len(there) > _MOST else ""
             raise InputError(f"name {source}={name}: no packet is injected from {source}: "
-                         + (f"the sources are {', '.join(there[:_MOST])}{more}" if there else "the scenario injects none"))
+                         + (f"the sources are {', '.join(there[:_MOST])}{more}" if there
+                            else "the scenario injects none"))
 
 
 def _said(names: Mapping[str, str]) -> str:
@@ -100,7 +112,8 @@ def configs_of(plan: Plan) -> dict[int, list[Config]]:
 
 
 def values_of(config: Config) -> dict[str, Any]:
-    """Returns the options of a configuration as numbers: rates in bit/s (0 is unlimited), times in ns, queues in slots or bytes.
+    """Returns the options of a configuration as numbers: rates in bit/s (0 is unlimited), times in ns, queues
+    in slots or bytes.
 
     >>> values_of(config_of(1, "pipe 1 config bw 8Mbit/s delay 10"))["queue"]
     50
@@ -108,13 +121,14 @@ def values_of(config: Config) -> dict[str, Any]:
     100000000
     """
     return {"bw": config.bw, "delay": config.delay, "queue": config.slots, "queue_bytes": config.bytes,
-            "plr": config.plr / 10**6, "discipline": "codel" if config.codel else "droptail", "target": config.target,
+            "plr": config.plr / 10**6, "discipline": "codel" if config.codel else "droptail",
+            "target": config.target,
             "interval": config.interval, "mask": config.mask}
 
 
 def columns_in(plan: Plan) -> dict[str, Any]:
-    """Returns the settings of an experiment by column, as `pipe1_bw`, `flow1_window` or `train9_gap`; `varies` if an option of a pipe
-    changes during the run."""
+    """Returns the settings of an experiment by column, as `pipe1_bw`, `flow1_window` or `train9_gap`;
+    `varies` if an option of a pipe changes during the run."""
     found: dict[str, Any] = {"seed": plan.seed, "budget": plan.budget, "steps": plan.steps, "end": plan.end()}
     for pipe, configs in configs_of(plan).items():
         every = [values_of(config) for config in configs]
@@ -125,7 +139,8 @@ def columns_in(plan: Plan) -> dict[str, Any]:
         if sends is None or sends.number is None:
             continue
         own = {"begin": command.moment, "segments" if sends.word == "flow" else "count": sends.count}
-        own |= ({"smss": sends.smss, "window": sends.window, "ssthresh": sends.ssthresh} if sends.word == "flow" else
+        own |= ({"smss": sends.smss, "window": sends.window, "ssthresh": sends.ssthresh}
+                if sends.word == "flow" else
                 {"size": sends.size, "gap": sends.gap})
         found |= {f"{sends.word}{sends.number}_{name}": value for name, value in own.items()
                   if f"{sends.word}{sends.number}_{name}" not in found}
@@ -135,14 +150,16 @@ def columns_in(plan: Plan) -> dict[str, Any]:
 def spelled(config: Config) -> dict[str, str]:
     """Returns each option of a configuration in scenario syntax, with one spelling per value.
 
-    >>> spelled(config_of(1, "pipe 1 config bw 8000Kbit/s"))
-    {'bw': 'bw 8Mbit/s', 'delay': 'delay 0', 'queue': 'queue 50', 'plr': 'plr 0', 'discipline': 'droptail', 'mask': ''}
+    >>> list(spelled(config_of(1, "pipe 1 config bw 8000Kbit/s")).values())
+    ['bw 8Mbit/s', 'delay 0', 'queue 50', 'plr 0', 'droptail', '']
     """
-    times = [f" {name} {value // 10**6 if value % 10**6 == 0 else f'{value // 10**3}us'}" for name, value in (("target", config.target), ("interval", config.interval))
+    times = [f" {name} {value // 10**6 if value % 10**6 == 0 else f'{value // 10**3}us'}"
+             for name, value in (("target", config.target), ("interval", config.interval))
              if config.codel and value is not None]
     queue = f"{config.bytes // 1024}KBytes" if config.bytes is not None else f"{config.slots}"
     plr = f"{config.plr / 10**6:.6f}".rstrip("0").rstrip(".")
-    return {"bw": f"bw {rate_text(config.bw) if config.bw else 0}", "delay": f"delay {config.delay // 10**6}", "queue": f"queue {queue}",
+    return {"bw": f"bw {rate_text(config.bw) if config.bw else 0}", "delay": f"delay {config.delay // 10**6}",
+            "queue": f"queue {queue}",
             "plr": f"plr {plr}", "discipline": "codel" + "".join(times) if config.codel else "droptail",
             "mask": f"mask {config.mask}" if config.mask else ""}
 
@@ -155,13 +172,16 @@ def _sequence(values: Iterable[str]) -> str:
             found.append(value)
     if len(found) <= _MOST_SHOWN:
         return " then ".join(filter(None, found))
-    return f"{found[0]} then {len(found) - 1} more ({hashlib.sha256(chr(10).join(found).encode()).hexdigest()[:8]})"
+    return (f"{found[0]} then {len(found) - 1} more "
+            f"({hashlib.sha256(chr(10).join(found).encode()).hexdigest()[:8]})")
 
 
 def varied(plans: dict[str, Plan]) -> dict[str, str]:
-    """Returns for each experiment the options of its pipes that differ between experiments, as `pipe 1 queue 50 droptail`.
+    """Returns for each experiment the options of its pipes that differ between experiments, as `pipe 1 queue
+    50 droptail`.
 
-    An omitted option counts as its default, and is left out if no other experiment has the pipe with another value."""
+    An omitted option counts as its default, and is left out if no other experiment has the pipe with another
+    value."""
     options: dict[str, dict[tuple[int, str], str]] = {}
     given: dict[str, set[tuple[int, str]]] = {}
     for name, plan in plans.items():
@@ -173,7 +193,8 @@ def varied(plans: dict[str, Plan]) -> dict[str, str]:
     counts = Counter((key, text) for own in options.values() for key, text in own.items())
     has = Counter(key for own in options.values() for key in own)
     return {name: _told([(key, text) for key, text in own.items()
-                         if text and (counts[key, text] < has[key] or (key in given[name] and has[key] < len(plans)))])
+                         if text and (counts[key, text] < has[key]
+                                      or (key in given[name] and has[key] < len(plans)))])
             for name, own in options.items()}
 
 
@@ -187,19 +208,22 @@ def _told(options: Sequence[tuple[tuple[int, str], str]]) -> str:
     return "; ".join(f"pipe {pipe} {' '.join(texts)}" for pipe, texts in pipes.items())
 
 
-_STATS = {"packets": "Packets made", "delivered": "Packets delivered", "in_flight": "Packets in flight", "retransmissions": "Segments retransmitted",
-          "lost": "Packets dropped", "bytes": "Bytes delivered", "useful": "New bytes delivered", "rate": "Throughput",
-          "goodput": "Goodput", "time": "Time to the last delivery", "first": "First packet created", "last": "Last delivery",
-          "fct": "Flow completion time", "jain": "Jain's fairness index", "utilisation": "Utilisation", "jitter": "Jitter",
-          "delay.min": "Minimum delay", "delay.mean": "Mean delay", "delay.p50": "Median delay",
-          "delay.max": "Maximum delay"}
+_STATS = {"packets": "Packets made", "delivered": "Packets delivered", "in_flight": "Packets in flight",
+          "retransmissions": "Segments retransmitted", "lost": "Packets dropped", "bytes": "Bytes delivered",
+          "useful": "New bytes delivered", "rate": "Throughput", "goodput": "Goodput",
+          "time": "Time to the last delivery", "first": "First packet created", "last": "Last delivery",
+          "fct": "Flow completion time", "jain": "Jain's fairness index", "utilisation": "Utilisation",
+          "jitter": "Jitter", "delay.min": "Minimum delay", "delay.mean": "Mean delay",
+          "delay.p50": "Median delay", "delay.max": "Maximum delay"}
 # The options of a scenario whose values are settings, and the unit of a bare number.
 _OPTIONS = {"bw": ("Link rate", ""), "delay": ("Link delay", "ms"), "queue": ("Queue limit", "packets"),
-            "plr": ("Packet loss ratio", ""), "target": ("CoDel target", "ms"), "interval": ("CoDel interval", "ms"),
-            "segments": ("Flow size", "segments"), "smss": ("Segment size", "bytes"), "window": ("Receive window", "bytes"),
-            "ssthresh": ("Initial ssthresh", "bytes"), "rto": ("Retransmission timeout", "ms"), "gap": ("Packet spacing", "ns")}
-_WHOLE = {"flows": "all flows", "trains": "all trains", "injected": "single packets", "there": "all on the way there",
-          "back": "all on the way back", "all": "all packets"}
+            "plr": ("Packet loss ratio", ""), "target": ("CoDel target", "ms"),
+            "interval": ("CoDel interval", "ms"), "segments": ("Flow size", "segments"),
+            "smss": ("Segment size", "bytes"), "window": ("Receive window", "bytes"),
+            "ssthresh": ("Initial ssthresh", "bytes"), "rto": ("Retransmission timeout", "ms"),
+            "gap": ("Packet spacing", "ns")}
+_WHOLE = {"flows": "all flows", "trains": "all trains", "injected": "single packets",
+          "there": "all on the way there", "back": "all on the way back", "all": "all packets"}
 # The user's labels: for a setting, statistic or sender by its name, for a setting's value as `queue:codel`.
 Labels = Mapping[str, str]
 
@@ -232,7 +256,8 @@ def of_template(text: str, settings: Sequence[str]) -> dict[str, str]:
     """
     labels = {}
     for name in settings:
-        found = re.search(rf"(?:([a-z]+) )?[^\s{{]*\{{\{{-?\s*{re.escape(name)}\s*(\|[^}}]*)?-?\}}\}}([A-Za-z/]*)", text)
+        found = re.search(
+            rf"(?:([a-z]+) )?[^\s{{]*\{{\{{-?\s*{re.escape(name)}\s*(\|[^}}]*)?-?\}}\}}([A-Za-z/]*)", text)
         if found:
             words, unit = _OPTIONS.get(found[1] or "", ("", ""))
             time = re.search(r"\|\s*(s|ms|us)\s*$", found[2] or "")
@@ -268,7 +293,8 @@ def of_stat(stat: str, unit: str, labels: Labels = {}) -> str:
         words = f"Packets dropped ({stat[6:]})"
     else:
         words = of_setting(stat)
-    return words if words.startswith(("Packets", "Segments")) or unit in ("packets", "bytes") else quantity(words, unit)
+    return (words if words.startswith(("Packets", "Segments")) or unit in ("packets", "bytes")
+            else quantity(words, unit))
 
 
 def of_whom(of: str, labels: Labels = {}) -> str:

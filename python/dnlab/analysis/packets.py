@@ -17,13 +17,14 @@ UNKNOWN = "unknown"
 
 
 def sender_name(header: tuple[int, ...], is_injected: bool, names: Mapping[str, str]) -> str:
-    """Returns the name of a plain packet's sender: for an injected one the user's for its address, its address with port, or its
-    whole header; for a text, which doesn't tell, the header."""
+    """Returns the name of a plain packet's sender: for an injected one the user's for its address, its
+    address with port, or its whole header; for a text, which doesn't tell, the header."""
     if is_injected and not names:
         return INJECTED
     words = header_text(header)
     _, address, port, _, _ = words.split()
-    return next((names[key] for key in (address, f"{address}:{port}", words) if key in names), INJECTED) if is_injected else words
+    return (next((names[key] for key in (address, f"{address}:{port}", words) if key in names), INJECTED)
+            if is_injected else words)
 
 
 @dataclass
@@ -61,7 +62,8 @@ class Packets:
 
     @cached_property
     def retransmission(self) -> Flags:
-        """Returns whether a segment was sent before. Shape (packets,); False for packets that are no segments."""
+        """Returns whether a segment was sent before. Shape (packets,); False for packets that are no
+        segments."""
         rows = np.flatnonzero(self.kind == DATA)
         again = np.zeros(len(self), dtype=np.bool_)
         again[rows] = True
@@ -70,7 +72,8 @@ class Packets:
 
     @cached_property
     def is_new(self) -> Flags:
-        """Returns whether a packet was delivered with new data: a plain one, or a segment for the first time. Shape (packets,)."""
+        """Returns whether a packet was delivered with new data: a plain one, or a segment for the first time.
+        Shape (packets,)."""
         delivered = self.outcome == DELIVERED
         rows = np.flatnonzero(delivered & (self.kind == DATA))
         new: Flags = delivered & (self.kind == PLAIN)
@@ -88,11 +91,13 @@ class Packets:
     def senders(self) -> list[tuple[str, Ints]]:
         """Returns the senders, in the order of the first packet, with the packets of each."""
         parts = sorted(_parts(self.who), key=lambda part: int(part[0]))
-        return [(self.names[self.who[part[0]]] if self.who[part[0]] >= 0 else UNKNOWN, part) for part in parts]
+        return [(self.names[self.who[part[0]]] if self.who[part[0]] >= 0 else UNKNOWN, part)
+                for part in parts]
 
 
 def _order(values: "NDArray[np.integer[Any]]") -> Ints:
-    """Returns a stable order of values; values that are in order need no sort, and those of 16 bits only a fast one."""
+    """Returns a stable order of values; values that are in order need no sort, and those of 16 bits only a
+    fast one."""
     if len(values) < 2 or bool((values[1:] >= values[:-1]).all()):
         return np.arange(len(values))
     is_short = int(values.min()) >= 0 and int(values.max()) < 65536
@@ -110,7 +115,8 @@ def _parts(values: "NDArray[np.integer[Any]]") -> list[Ints]:
 
 @dataclass
 class Visits:
-    """A row for each visit of a packet to an instance, by packet and time; shapes (visits,). Unknown values are -1.
+    """A row for each visit of a packet to an instance, by packet and time; shapes (visits,). Unknown values
+    are -1.
 
     packet   int64  serial number
     pipe     int64  pipe * 256 + instance
@@ -132,7 +138,8 @@ class Visits:
 
 
 def packets_of(records: Records, given: Mapping[str, str] = {}) -> Packets:
-    """Returns the packets of an experiment, as far as the rows have them; `given` has the user's names for sources of injected ones."""
+    """Returns the packets of an experiment, as far as the rows have them; `given` has the user's names for
+    sources of injected ones."""
     count = records.counters.made
     made, ended, size, number, row = (np.full(count, -1, dtype=np.int64) for _ in range(5))
     fate = np.zeros(count, dtype=np.int8)
@@ -165,7 +172,8 @@ def _load(own: Rows, packet: Any, kind: NDArray[np.int8], flow: NDArray[np.int32
 
 def _senders(made: Rows, kind: NDArray[np.int8], flow: NDArray[np.int32],
              names: Mapping[str, str]) -> tuple[list[str], NDArray[np.int32]]:
-    """Returns the names of the senders, and the index of each packet's, by the rows that create packets; -1 if it is unknown."""
+    """Returns the names of the senders, and the index of each packet's, by the rows that create packets; -1
+    if it is unknown."""
     # A flow's number and direction; below 0 a train's number; else the place of a name.
     key = np.where(kind > PLAIN, flow.astype(np.int64) * 4 + kind, -1)
     plain = np.flatnonzero(made["kind"] <= MAKE_TRAIN)
@@ -177,7 +185,8 @@ def _senders(made: Rows, kind: NDArray[np.int8], flow: NDArray[np.int32],
         if others.any():
             headers, which = distinct(headers_at(made, plain[others]))
             is_injected = bool(source[others][0] != UNKNOWN_SOURCE)
-            codes = [found.setdefault(sender_name(tuple(one), is_injected, names), len(found)) for one in headers.tolist()]
+            codes = [found.setdefault(sender_name(tuple(one), is_injected, names), len(found))
+                     for one in headers.tolist()]
             key[packet[others]] = np.array(codes, dtype=np.int64)[which] * 4 + PLAIN
     lonely = (kind == PLAIN) & (key < 0)
     if lonely.any():
@@ -188,7 +197,8 @@ def _senders(made: Rows, kind: NDArray[np.int8], flow: NDArray[np.int32],
 
 
 def _codes(key: Ints) -> tuple[list[int], NDArray[np.int32]]:
-    """Returns the keys from 0 on, each once, in the order of the first, and the index of each one's, -1 for keys below 0."""
+    """Returns the keys from 0 on, each once, in the order of the first, and the index of each one's, -1 for
+    keys below 0."""
     first = np.full(int(key.max(initial=-1)) + 2, len(key), dtype=np.int64)
     first[key[::-1]] = np.arange(len(key))[::-1]
     first[-1] = len(key)
@@ -203,13 +213,14 @@ def _name(key: int, given: list[str]) -> str:
     if key < 0:
         return UNKNOWN
     number, kind = divmod(key, 4)
-    return (given[number] if kind == PLAIN else f"flow {number}" if kind == DATA else f"flow {number} acks" if kind == ACKNOWLEDGES
+    return (given[number] if kind == PLAIN else f"flow {number}" if kind == DATA else f"flow {number} acks"
+            if kind == ACKNOWLEDGES
             else f"train {number}")
 
 
 def distinct(headers: Ints) -> tuple[Ints, Ints]:
-    """Returns headers (protocol, source, its port, target, its port), each once, in the order of the first, and the index of each;
-    shapes (h, 5) and (n,).
+    """Returns headers (protocol, source, its port, target, its port), each once, in the order of the first,
+    and the index of each; shapes (h, 5) and (n,).
 
     >>> distinct(np.array([[6, 1, 2, 3, 4], [17, 1, 2, 3, 4], [6, 1, 2, 3, 4]]))[1].tolist()
     [0, 1, 0]
@@ -226,8 +237,8 @@ def distinct(headers: Ints) -> tuple[Ints, Ints]:
 
 
 def visits_of(records: Records, packets: Packets) -> Visits:
-    """Returns the visits of all packets to pipes, as far as the rows have them: without tracing, `arrive` is missing, a visit begins with
-    the finish, and its arrival is unknown."""
+    """Returns the visits of all packets to pipes, as far as the rows have them: without tracing, `arrive` is
+    missing, a visit begins with the finish, and its arrival is unknown."""
     arrives, finishes = records.pick(records.at(ARRIVE)), records.at(FINISH)
     comes = np.zeros(len(packets), dtype=np.bool_)
     comes[arrives["packet"]] = True
@@ -265,7 +276,8 @@ def _many_visits(records: Records) -> Visits:
     finish, left, arrival = (np.full(len(first), -1, dtype=np.int64) for _ in range(3))
     served = np.flatnonzero(inside & (kind == FINISH))
     finish[visit[served]] = moment[served]
-    # Assigned last to first, so that the first row after which a packet has left remains; a drop ends no visit that was left before.
+    # Assigned last to first, so that the first row after which a packet has left remains; a drop ends no
+    # visit that was left before.
     leaves = np.flatnonzero(inside & (kind >= PASS))[::-1]
     leaves = leaves[~((kind[leaves] >= DROP) & (finish[visit[leaves]] >= 0))]
     left[visit[leaves]] = moment[leaves]

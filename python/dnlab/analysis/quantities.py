@@ -1,4 +1,5 @@
-"""Quantities: units and how values are written, ranks, fairness, and means with intervals, which need scipy (Debian: python3-scipy)."""
+"""Quantities: units and how values are written, ranks, fairness, and means with intervals, which need scipy
+(Debian: python3-scipy)."""
 import importlib
 import math
 import re
@@ -13,7 +14,8 @@ from dnlab.errors import ResourceError
 # The base units are nanoseconds, bytes, bits per second and packets; a share is a fraction of 1.
 
 TIMES = {"ns": 1, "us": 10**3, "ms": 10**6, "s": 10**9}
-# The units of each kind of amount; '' means no unit. An index is Jain's, from 0 to 1; an ending is one of `ENDINGS`.
+# The units of each kind of amount; '' means no unit. An index is Jain's, from 0 to 1; an ending is one of
+# `ENDINGS`.
 UNITS: dict[str, dict[str, Fraction]] = {
     "time": {unit: Fraction(size) for unit, size in TIMES.items()},
     "size": {"bytes": Fraction(1)},
@@ -32,7 +34,8 @@ _AMOUNT = re.compile(r"([0-9]+(?:\.[0-9]+)?) ?([^0-9 .]*)")
 
 
 def amount_of(text: str, kind: str) -> tuple[Fraction, str]:
-    """Returns an amount in the base unit of its kind, and the unit in which it was written. Raises `ValueError` with the cause.
+    """Returns an amount in the base unit of its kind, and the unit in which it was written. Raises
+    `ValueError` with the cause.
 
     >>> amount_of("1.5ms", "time"), amount_of("5%", "share")
     ((Fraction(1500000, 1), 'ms'), (Fraction(1, 20), '%'))
@@ -62,15 +65,19 @@ def named(kind: str) -> str:
 
 def example(kind: str) -> str:
     """Returns an example of an amount, for a message."""
-    return {"time": "50ms", "size": "1500bytes", "rate": "9.5Mbit/s", "share": "5%", "count": "3", "index": "0.9",
+    return {"time": "50ms", "size": "1500bytes", "rate": "9.5Mbit/s", "share": "5%", "count": "3",
+            "index": "0.9",
             "ending": "end"}[kind]
 
 
 def shown(amount: Fraction, kind: str, unit: str = "", digits: int = 9) -> str:
-    """Returns an amount in a unit as text with at most `digits` decimals. With nine, times in whole nanoseconds are exact.
+    """Returns an amount in a unit as text with at most `digits` decimals. With nine, times in whole
+    nanoseconds are exact.
 
-    >>> shown(Fraction(1234567), "time", "ms"), shown(Fraction(1, 3), "share", "%"), shown(Fraction(1234567), "time", "ms", 3)
-    ('1.234567ms', '33.333333333%', '1.235ms')
+    >>> shown(Fraction(1234567), "time", "ms"), shown(Fraction(1234567), "time", "ms", 3)
+    ('1.234567ms', '1.235ms')
+    >>> shown(Fraction(1, 3), "share", "%")
+    '33.333333333%'
     """
     if kind == "ending":
         return ENDINGS[int(amount)]
@@ -96,8 +103,8 @@ KINDS: tuple[Kind, ...] = ("t", "bootstrap")
 
 
 def place(count: int, percentile: Percentile) -> int:
-    """Returns the index (from 0) of a percentile among `count` sorted values, by nearest rank: the smallest value that at least
-    `percentile` percent of the values do not exceed.
+    """Returns the index (from 0) of a percentile among `count` sorted values, by nearest rank: the smallest
+    value that at least `percentile` percent of the values do not exceed.
 
     >>> place(2, 50), place(3, 50), place(200, 99), place(1000, "99.9")
     (0, 1, 197, 998)
@@ -116,7 +123,8 @@ def percentile_name(percentile: Percentile) -> str:
 
 
 def jain(values: Sequence[float]) -> Optional[float]:
-    """Returns Jain's index of fairness: 1 if all values are equal, 1/n if only one is above 0, None if none is.
+    """Returns Jain's index of fairness: 1 if all values are equal, 1/n if only one is above 0, None if none
+    is.
 
     >>> jain([1, 1, 1, 1]), jain([1, 0, 0, 0])
     (1.0, 0.25)
@@ -127,8 +135,8 @@ def jain(values: Sequence[float]) -> Optional[float]:
 
 @dataclass(frozen=True)
 class Interval:
-    """A mean of `count` values, the half-width of its confidence interval, and the interval's ends; None if there are too few
-    values."""
+    """A mean of `count` values, the half-width of its confidence interval, and the interval's ends; None if
+    there are too few values."""
     count: int
     mean: Optional[float]
     half: Optional[float] = None
@@ -139,8 +147,8 @@ class Interval:
 def interval(values: Iterable[float], level: float = 95, kind: Kind = "t") -> Interval:
     """Returns the mean of independent values, with its confidence interval at `level` percent.
 
-    kind  `t` is Student's, for means that are close to normal; `bootstrap` resamples 9999 times (bias-corrected and
-          accelerated), with fixed random numbers
+    kind  `t` is Student's, for means that are close to normal; `bootstrap` resamples 9999 times
+          (bias-corrected and accelerated), with fixed random numbers
 
     >>> mean = interval([1.0, 2.0, 3.0])
     >>> mean.count, mean.mean, round(mean.half, 6), round(mean.low, 6), round(mean.high, 6)
@@ -153,7 +161,8 @@ def interval(values: Iterable[float], level: float = 95, kind: Kind = "t") -> In
         # Imported here, because only intervals need scipy.
         importlib.import_module("scipy.special")
     except ModuleNotFoundError:
-        raise ResourceError("scipy is missing, which intervals need (Debian: apt-get install python3-scipy)") from None
+        raise ResourceError(
+            "scipy is missing, which intervals need (Debian: apt-get install python3-scipy)") from None
     mean = math.fsum(known) / len(known)
     if min(known) == max(known):
         return Interval(len(known), mean, 0.0, mean, mean)
@@ -165,8 +174,8 @@ def interval(values: Iterable[float], level: float = 95, kind: Kind = "t") -> In
 
 
 def student(level: float, freedom: int) -> float:
-    """Returns the half-width around 0 that contains `level` (below 100) percent of Student's distribution with `freedom` degrees of
-    freedom. Equals `scipy.stats.t.ppf`, whose package takes half a second to load.
+    """Returns the half-width around 0 that contains `level` (below 100) percent of Student's distribution
+    with `freedom` degrees of freedom. Equals `scipy.stats.t.ppf`, whose package takes half a second to load.
 
     >>> round(student(95, 2), 6)
     4.302653
@@ -177,7 +186,8 @@ def student(level: float, freedom: int) -> float:
 
 
 def half_of(values: Sequence[float], level: float = 95) -> float:
-    """Returns the half-width of Student's confidence interval of the mean of two or more values, at `level` percent.
+    """Returns the half-width of Student's confidence interval of the mean of two or more values, at `level`
+    percent.
 
     >>> round(half_of([1.0, 2.0, 3.0]), 6)
     2.484138
@@ -188,7 +198,8 @@ def half_of(values: Sequence[float], level: float = 95) -> float:
 
 
 def drawn(values: Sequence[float], level: float) -> tuple[float, float]:
-    """Returns the ends of the bootstrap's confidence interval of the mean of two or more values; `level` is a fraction.
+    """Returns the ends of the bootstrap's confidence interval of the mean of two or more values; `level` is a
+    fraction.
 
     >>> low, high = drawn([1.0, 2.0, 3.0, 4.0], 0.95)
     >>> 1 <= low < 2.5 < high <= 4

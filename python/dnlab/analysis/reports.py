@@ -1,11 +1,13 @@
-"""Reports for scripts: `read` and `run` return a `Report`, whose experiments are read on demand, by several processes if there are many."""
+"""Reports for scripts: `read` and `run` return a `Report`, whose experiments are read on demand, by several
+processes if there are many."""
 import os
 import sys
 import warnings
 from collections.abc import Mapping
 from functools import cached_property
 from pathlib import Path
-from typing import TYPE_CHECKING, Any, BinaryIO, Callable, Iterable, Iterator, NamedTuple, Optional, Sequence, TypeVar, Union
+from typing import (TYPE_CHECKING, Any, BinaryIO, Callable, Iterable, Iterator, NamedTuple, Optional,
+                    Sequence, TypeVar, Union)
 
 from dnlab.analysis.metrics import PERCENTILES, columns_of, span_of
 from dnlab.analysis.names import columns_in, varied, with_names
@@ -44,7 +46,8 @@ def cores() -> int:
 
 
 def bytes_of(name: str) -> bytes:
-    """Returns the bytes of a file, or of standard input (`-`), decompressed if gzip. Raises `InputError` if they can't be read."""
+    """Returns the bytes of a file, or of standard input (`-`), decompressed if gzip. Raises `InputError` if
+    they can't be read."""
     with reading(name):
         return unpacked(sys.stdin.buffer.read() if name == "-" else Path(name).read_bytes())
 
@@ -62,9 +65,10 @@ def plans_of(names: Sequence[str]) -> Optional[dict[str, Plan]]:
     return plans if names else None
 
 
-def pieces_of(report: str, wanted: Sequence[str] = (), plans: Optional[Mapping[str, Plan]] = None) -> Iterator[Piece]:
-    """Yields the experiments of a report's file, or of standard input; those of rows have the names of the plans. Errors have the
-    file's name."""
+def pieces_of(report: str, wanted: Sequence[str] = (),
+              plans: Optional[Mapping[str, Plan]] = None) -> Iterator[Piece]:
+    """Yields the experiments of a report's file, or of standard input; those of rows have the names of the
+    plans. Errors have the file's name."""
     source: Union[str, BinaryIO] = sys.stdin.buffer if report == "-" else report
     missing = set(wanted)
     with reading(report):
@@ -80,8 +84,9 @@ def lacking(report: str, scenario: str, names: Sequence[str]) -> None:
     """Raises `InputError` for a report that lacks experiments of its scenario."""
     if names:
         more = f" and {len(names) - 1} more" if len(names) > 1 else ""
-        raise InputError(f"{report}: it has no experiment {names[0]}{more}, which {scenario} has: was it cut short? (--experiment"
-                     " reads those that it has)")
+        raise InputError(
+            f"{report}: it has no experiment {names[0]}{more}, which {scenario} has: was it cut short? "
+            "(--experiment reads those that it has)")
 
 
 class TooMany(InputError):
@@ -93,19 +98,21 @@ class TooMany(InputError):
         self.most = most
 
 
-def _task(function: "Callable[[View], T]", piece: Piece, plans: Optional[dict[str, Plan]], given: Inputs) -> T:
+def _task(function: "Callable[[View], T]", piece: Piece, plans: Optional[dict[str, Plan]],
+          given: Inputs) -> T:
     from dnlab.analysis.view import view_of
 
     return function(view_of(piece, plans, given.report, given.scenario()))
 
 
-def map_experiments(given: Inputs, function: "Callable[[View], T]", plans: Optional[dict[str, Plan]], wanted: Sequence[str] = (),
+def map_experiments(given: Inputs, function: "Callable[[View], T]", plans: Optional[dict[str, Plan]],
+                    wanted: Sequence[str] = (),
          workers: Optional[int] = None, tool: str = "dnlab", most: Optional[int] = None) -> Iterator[T]:
-    """Yields the results of a function for each experiment, in the report's order, using `workers` processes (by default all cores if the
-    report is long).
+    """Yields the results of a function for each experiment, in the report's order, using `workers` processes
+    (by default all cores if the report is long).
 
-    Another process must be able to import the function by name. A file with more than `most` experiments is refused before one is
-    read."""
+    Another process must be able to import the function by name. A file with more than `most` experiments is
+    refused before one is read."""
     # Imported here, because running and reading a scenario needs no processes.
     from dnlab.processes.process_pool import Progress
 
@@ -132,7 +139,8 @@ def map_experiments(given: Inputs, function: "Callable[[View], T]", plans: Optio
 
 def _by_processes(given: Inputs, function: "Callable[[View], T]", plans: Optional[dict[str, Plan]],
                   found: Iterable[Piece], workers: int) -> Iterator[T]:
-    """Yields results in order; early ones wait. Only a few jobs are submitted ahead, so that few texts are in memory."""
+    """Yields results in order; early ones wait. Only a few jobs are submitted ahead, so that few texts are in
+    memory."""
     from dnlab.processes.process_pool import ProcessPool
 
     done: dict[int, T] = {}
@@ -172,10 +180,12 @@ def _made_anew(report: bytes, scenarios: Sequence[bytes], given_names: Mapping[s
 
 
 class Report(Mapping[str, "Experiment"]):
-    """A mapping from names to experiments, which are read and checked on demand. One at a time stays in memory."""
+    """A mapping from names to experiments, which are read and checked on demand. One at a time stays in
+    memory."""
 
-    def __init__(self, report: Union[str, Path], scenario: Names = (), keep: Any = None, origin: Optional[Origin] = None,
-                 names: Optional[Mapping[str, str]] = None, plans: Optional[dict[str, Plan]] = None) -> None:
+    def __init__(self, report: Union[str, Path], scenario: Names = (), keep: Any = None,
+                 origin: Optional[Origin] = None, names: Optional[Mapping[str, str]] = None,
+                 plans: Optional[dict[str, Plan]] = None) -> None:
         files = [scenario] if isinstance(scenario, (str, Path)) else scenario
         self.given = Inputs(str(report), tuple(str(name) for name in files))
         # Objects that must live as long as the report: the file of a run without a name.
@@ -184,7 +194,8 @@ class Report(Mapping[str, "Experiment"]):
         self.origin: Optional[Origin] = origin
         # Names for senders of injected packets, by source.
         self._names = dict(names or {})
-        self.plans: Optional[dict[str, Plan]] = with_names(plans or plans_of(self.given.scenarios), self._names)
+        self.plans: Optional[dict[str, Plan]] = with_names(plans or plans_of(self.given.scenarios),
+                                                           self._names)
         self._last: "Optional[Experiment]" = None
         # The rows of a run are opened for the first table, which loads NumPy.
         if plans is None:
@@ -192,8 +203,9 @@ class Report(Mapping[str, "Experiment"]):
         if origin is None:
             self.origin = check_beside(self.given.report, self.plans, self.given.scenario())
         if not len(self):
-            warnings.warn(f"{self.given.report}: it is empty, and has no experiment: was the scenario empty, or all in"
-                          " comments?", stacklevel=3)
+            warnings.warn(
+                f"{self.given.report}: it is empty, and has no experiment: was the scenario empty, or "
+                "all in comments?", stacklevel=3)
 
     @cached_property
     def _pieces(self) -> dict[str, Piece]:
@@ -204,11 +216,13 @@ class Report(Mapping[str, "Experiment"]):
         for name in self._pieces:
             if self.plans is not None and name not in self.plans:
                 raise InputError(f"{self.given.scenario()}: it has no experiment {name}")
-        lacking(self.given.report, self.given.scenario(), [name for name in self.plans or {} if name not in self._pieces])
+        lacking(self.given.report, self.given.scenario(),
+                [name for name in self.plans or {} if name not in self._pieces])
 
     def __reduce__(self) -> "tuple[Any, tuple[bytes, list[bytes], dict[str, str]]]":
         """Makes pickling to another process or machine include the bytes of its files."""
-        return _made_anew, (bytes_of(self.given.report), [bytes_of(name) for name in self.given.scenarios], self._names)
+        return _made_anew, (bytes_of(self.given.report), [bytes_of(name) for name in self.given.scenarios],
+                            self._names)
 
     @cached_property
     def _varied(self) -> dict[str, str]:
@@ -221,7 +235,8 @@ class Report(Mapping[str, "Experiment"]):
 
         if self._last is None or self._last.name != name:
             if name not in self._pieces:
-                raise KeyError(f"{name}: there is no such experiment, only {', '.join(self._pieces) or 'none'}")
+                raise KeyError(
+                    f"{name}: there is no such experiment, only {', '.join(self._pieces) or 'none'}")
             piece = self._pieces[name]
             self._last = None
             view = view_of(piece, self.plans, self.given.report, self.given.scenario())
@@ -241,8 +256,9 @@ class Report(Mapping[str, "Experiment"]):
         return f"Report({self.given.report!r}, {len(self)} experiments)"
 
     def params(self, changed: bool = False) -> "pd.DataFrame":
-        """Returns a row per experiment, with a column per option of its pipes, flows and trains, as `pipe1_queue`, defaults included
-        (bit/s, ns). `changed` leaves out options that are the same in all. Needs the scenario."""
+        """Returns a row per experiment, with a column per option of its pipes, flows and trains, as
+        `pipe1_queue`, defaults included (bit/s, ns). `changed` leaves out options that are the same in all.
+        Needs the scenario."""
         from dnlab.analysis import results
 
         if self.plans is None:
@@ -250,12 +266,14 @@ class Report(Mapping[str, "Experiment"]):
         rows = [{"experiment": name, **columns_in(self.plans[name])} for name in self]
         columns = list(dict.fromkeys(name for row in rows for name in row))
         frame = results.of_rows(rows, columns).set_index("experiment")
-        return frame if not changed else frame[[name for name in frame if frame[name].nunique(dropna=False) > 1]]
+        return (frame if not changed
+                else frame[[name for name in frame if frame[name].nunique(dropna=False) > 1]])
 
     def summary(self, percentiles: Sequence[Percentile] = PERCENTILES, of: Sequence[str] = (),
                 experiments: Sequence[str] = (), workers: Optional[int] = None, begin: int = 0,
                 end: Optional[int] = None, names: Optional[Mapping[str, str]] = None) -> "pd.DataFrame":
-        """Returns the rows of `Experiment.summary`, for all experiments or those named. Several processes read long reports.
+        """Returns the rows of `Experiment.summary`, for all experiments or those named. Several processes
+        read long reports.
 
         `of` selects rows by name, such as "train *". `names` replaces those of `read`."""
         from dnlab.analysis import results
@@ -264,15 +282,18 @@ class Report(Mapping[str, "Experiment"]):
         patterns = [of] if isinstance(of, str) else of
         span = span_of(begin, end)
         plans = with_names(self.plans, names or {}, experiments)
-        rows = [row for one in summed(self.given, plans, experiments, percentiles, patterns, workers=workers, span=span)
+        rows = [row for one in summed(self.given, plans, experiments, percentiles, patterns, workers=workers,
+                                      span=span)
                 for row in one.rows]
         return results.of_rows(rows, columns_of(percentiles, span))
 
 
 def read(report: Union[str, Path], scenario: Names = (), names: Optional[Mapping[str, str]] = None) -> Report:
-    """Opens a report, a text or rows (`dnlab alone --format npy`), with its scenario or scenarios if you pass any.
+    """Opens a report, a text or rows (`dnlab alone --format npy`), with its scenario or scenarios if you pass
+    any.
 
     names  names for senders of injected packets, by address or address:port: {"10.0.0.1:1000": "mine"}
 
-    Raises `InputError` for an invalid name or a source without packets. Reading an experiment raises it if the scenario doesn't match."""
+    Raises `InputError` for an invalid name or a source without packets. Reading an experiment raises it if
+    the scenario doesn't match."""
     return Report(report, scenario, names=names)

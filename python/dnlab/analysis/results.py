@@ -66,10 +66,10 @@ class Experiment:
         counts, senders = self.counters, [name for name, _ in self.view.senders]
         dropped = ", ".join(f"{count} {cause}" for cause, count in counts.drops.items() if count) or "none"
         more = f" and {len(senders) - 8} more" if len(senders) > 8 else ""
-        return (f"Experiment {self.name}: `{self.ended.how}` at {self.ended.moment} ns, seed {self.seed}\n"
-                f"  packets: {counts.made} made, {counts.delivered} delivered, {counts.held} held; dropped: {dropped}\n"
-                f"  senders: {', '.join(senders[:8]) or 'none'}{more}\n"
-                f"  warnings: {self.view.marks() or 'none'}")
+        return (f"Experiment {self.name}: `{self.ended.how}` at {self.ended.moment} ns, seed {self.seed}\n  "
+                f"packets: {counts.made} made, {counts.delivered} delivered, {counts.held} held; dropped: "
+                f"{dropped}\n  senders: {', '.join(senders[:8]) or 'none'}{more}\n  warnings: "
+                f"{self.view.marks() or 'none'}")
 
     @property
     def name(self) -> str:
@@ -115,8 +115,9 @@ class Experiment:
         return self.view.notes
 
     def packets(self) -> pd.DataFrame:
-        """Returns a row per packet: made, delivered, delay (ns), bytes, sender, queue (the last one known), outcome (`held`, `delivered`,
-        or the cause of its drop), ended (ns, also for drops), kind, flow and number of its load, retransmission (sent before).
+        """Returns a row per packet: made, delivered, delay (ns), bytes, sender, queue (the last one known),
+        outcome (`held`, `delivered`, or the cause of its drop), ended (ns, also for drops), kind, flow and
+        number of its load, retransmission (sent before).
 
         A report that isn't traced has no made, delay and bytes (<NA>)."""
         table, visits = self.view.packets, self.view.visits
@@ -125,40 +126,46 @@ class Experiment:
         return pd.DataFrame({
             "made": whole(table.made), "delivered": whole(np.where(table.outcome == 1, table.ended, -1)),
             "delay": whole(table.delay), "bytes": whole(table.size), "sender": senders(table),
-            "queue": pipes_named(last), "outcome": named(table.outcome, OUTCOMES), "ended": whole(table.ended),
+            "queue": pipes_named(last), "outcome": named(table.outcome, OUTCOMES),
+            "ended": whole(table.ended),
             "kind": named(table.kind, KINDS), "flow": whole(table.flow), "number": whole(table.number),
             "retransmission": table.retransmission}, index=pd.RangeIndex(len(table), name="packet"))
 
     def visits(self) -> pd.DataFrame:
-        """Returns a row per visit of a packet to an instance: packet, queue, arrival, finish and exit (ns). Raises `InputError` for a
-        report that isn't traced."""
+        """Returns a row per visit of a packet to an instance: packet, queue, arrival, finish and exit (ns).
+        Raises `InputError` for a report that isn't traced."""
         self.view.must_be_traced("it has no visits")
         table = self.view.visits
-        return pd.DataFrame({"packet": table.packet, "queue": pipes_named(table.pipe), "arrival": whole(table.arrival),
-                             "finish": whole(table.finish), "exit": whole(table.exit)})
+        return pd.DataFrame({"packet": table.packet, "queue": pipes_named(table.pipe),
+                             "arrival": whole(table.arrival), "finish": whole(table.finish),
+                             "exit": whole(table.exit)})
 
     def windows(self) -> pd.DataFrame:
-        """Returns a row per `ack` and `expire` line and start of a flow: moment (ns), flow, event, cwnd and ssthresh (bytes)."""
+        """Returns a row per `ack` and `expire` line and start of a flow: moment (ns), flow, event, cwnd and
+        ssthresh (bytes)."""
         records = self.view.records
         rows = records.at(ACK, EXPIRE)
-        begun = pd.DataFrame([(moment, sends.number, 0, first_window(sends.smss), sends.ssthresh) for moment, sends
+        begun = pd.DataFrame([(moment, sends.number, 0, first_window(sends.smss), sends.ssthresh)
+                              for moment, sends
                               in self.view.sends.values() if sends.word == "flow"],
                              columns=["moment", "flow", "event", "cwnd", "ssthresh"], dtype="int64")
         columns = {name: records.take(column, rows) for name, column in
                    (("moment", "moment"), ("flow", "source"), ("cwnd", "number"), ("ssthresh", "more"))}
-        frame = pd.concat([begun, pd.DataFrame({**columns, "event": np.where(records.kind[rows] == ACK, 1, 2)})])
+        frame = pd.concat([begun,
+                           pd.DataFrame({**columns, "event": np.where(records.kind[rows] == ACK, 1, 2)})])
         frame["event"] = named(frame["event"], ("begin", "ack", "expire"))
         return frame.sort_values("moment", kind="stable", ignore_index=True)
 
     def queues(self) -> pd.DataFrame:
-        """Returns a row per change of an instance: moment (ns), queue, waiting (or in service), in_flight (in the delay line).
-        Raises `InputError` for a report that isn't traced."""
+        """Returns a row per change of an instance: moment (ns), queue, waiting (or in service), in_flight (in
+        the delay line). Raises `InputError` for a report that isn't traced."""
         self.view.must_be_traced("it has no queues")
         table = self.view.visits
         flies = table.finish >= 0
         served = np.where(flies, table.finish, table.exit)
         left = np.where(table.exit >= 0, table.exit, self.view.packets.ended[table.packet])
-        changes = pd.concat([pd.DataFrame({"pipe": table.pipe[of], "moment": moments[of], "waiting": waits, "in_flight": flying})
+        changes = pd.concat([pd.DataFrame({"pipe": table.pipe[of], "moment": moments[of], "waiting": waits,
+                                           "in_flight": flying})
                              for of, moments, waits, flying in (
                                  (table.arrival >= 0, table.arrival, 1, 0), (served >= 0, served, -1, 0),
                                  (flies, table.finish, 0, 1), (flies & (left >= 0), left, 0, -1))])
@@ -187,39 +194,48 @@ class Experiment:
         plan = self.view.plan.commands[:len(rows)] if self.view.plan else None
         return pd.DataFrame({
             "moment": records.take("moment", rows),
-            "text": [command.text for command in plan] if plan is not None else pd.array([None] * len(rows), "string"),
+            "text": [command.text for command in plan] if plan is not None
+            else pd.array([None] * len(rows), "string"),
             "line": whole([command.line for command in plan] if plan is not None else np.full(len(rows), -1)),
             "answer": named(refused.astype(np.int64), ("ok", "refused")),
-            "code": whole(np.where(refused, records.take("code", rows), -1))}, index=pd.RangeIndex(len(rows), name="command"))
+            "code": whole(np.where(refused, records.take("code", rows), -1))},
+                            index=pd.RangeIndex(len(rows), name="command"))
 
     def records(self) -> pd.DataFrame:
-        """Returns the report's records, by its lines or rows: word, moment, packet, queue, kind, flow, number, more."""
+        """Returns the report's records, by its lines or rows: word, moment, packet, queue, kind, flow,
+        number, more."""
         own, kind = self.view.records, self.view.records.kind
         every = np.arange(len(own))
         is_loaded, has_window = LOAD_OF[kind] > PLAIN, (kind == ACK) | (kind == EXPIRE)
         is_make, is_command = (kind >= MAKE_COMMAND) & (kind <= MAKE_ACK), kind <= REFUSED
-        is_drop, has_place = (kind >= DROP) & (kind <= DROP_ACK), ((kind >= ARRIVE) & (kind <= PASS)) | (kind == IDENTIFY)
+        is_drop, has_place = (kind >= DROP) & (kind <= DROP_ACK), ((kind >= ARRIVE) & (kind <= PASS)) | (
+            kind == IDENTIFY)
         has_packet = is_make | (LOAD_OF[kind] >= 0) | ((kind >= ARRIVE) & (kind <= PASS))
         source, number, code = (own.take(column, every) for column in ("source", "number", "code"))
         more = np.select([is_drop, kind == REFUSED, has_window, is_make],
                          [code - 1, code, own.take("more", every), own.take("size", every)], -1)
         return pd.DataFrame({
-            "word": named(WORD_OF[kind], WORDS[:-1]), "moment": whole(np.where(kind < RULE, own.take("moment", every), -1)),
+            "word": named(WORD_OF[kind], WORDS[:-1]),
+            "moment": whole(np.where(kind < RULE, own.take("moment", every), -1)),
             "packet": whole(np.where(has_packet, own.take("packet", every), -1)),
-            "queue": pipes_named(np.where(has_place, own.instances(every), -1)), "kind": named(LOAD_OF[kind], KINDS),
+            "queue": pipes_named(np.where(has_place, own.instances(every), -1)),
+            "kind": named(LOAD_OF[kind], KINDS),
             "flow": whole(np.where(is_loaded | has_window, source, -1)),
-            "number": whole(np.select([is_command, is_loaded | has_window], [source, number], -1)), "more": whole(more)},
-            index=pd.RangeIndex(own.number_of(0), own.number_of(0) + len(own), name="row" if own.first is not None else "line"))
+            "number": whole(np.select([is_command, is_loaded | has_window], [source, number], -1)),
+            "more": whole(more)},
+            index=pd.RangeIndex(own.number_of(0), own.number_of(0) + len(own),
+                                name="row" if own.first is not None else "line"))
 
     def summary(self, percentiles: Sequence[Percentile] = PERCENTILES, begin: int = 0,
                 end: Optional[int] = None) -> pd.DataFrame:
         """Returns the rows of a summary (docs/reference/tools.md), from `begin` until before `end` (ns)."""
         span = span_of(begin, end)
-        return of_rows(Tables(self.view, percentiles, self.varied, span=span).rows(), columns_of(percentiles, span))
+        return of_rows(Tables(self.view, percentiles, self.varied, span=span).rows(),
+                       columns_of(percentiles, span))
 
     def throughput(self, every: int) -> pd.DataFrame:
-        """Returns a row per sender and interval of `every` ns: sender, begin, end (ns), packets, bytes, rate (bit/s), useful (bytes, each
-        once), goodput (bit/s)."""
+        """Returns a row per sender and interval of `every` ns: sender, begin, end (ns), packets, bytes, rate
+        (bit/s), useful (bytes, each once), goodput (bit/s)."""
         rows = windows_of(self.view, every)
         return of_rows(rows, list(rows[0]) if rows else ["experiment", "sender", "begin", "end"])
 
@@ -227,19 +243,21 @@ class Experiment:
         """Returns a row per kind of drop: sender, cause, queue (<NA> if unknown), packets."""
         return of_rows(losses(self.view), ["experiment", "sender", "cause", "queue", "packets"])
 
-    def plot(self, what: Sequence[str] = ("window", "queue", "sojourn", "delivered", "drops"), acks: bool = False,
-             effective: bool = False, **design: Any) -> Any:
-        """Returns a matplotlib figure with a panel for each of `what`. Others are options of `tools/plot`, such as `title`,
-        `labels`, `size` (inches), `font`, `style` and `legend`."""
+    def plot(self, what: Sequence[str] = ("window", "queue", "sojourn", "delivered", "drops"),
+             acks: bool = False, effective: bool = False, **design: Any) -> Any:
+        """Returns a matplotlib figure with a panel for each of `what`. Others are options of `tools/plot`,
+        such as `title`, `labels`, `size` (inches), `font`, `style` and `legend`."""
         from dnlab.plot import pictures
         from dnlab.plot.style import Design
 
         return pictures.figure_of([self.view], what, effective, acks, Design(**design))
 
 
-def intervals(rows: pd.DataFrame, by: Union[str, Sequence[str]], columns: Union[str, Sequence[str]]) -> pd.DataFrame:
-    """Returns, for each group of rows that agree in `by`, in the order of their first rows, the number of values (`n`) of each of
-    `columns`, their `mean`, and the half-width of its 95 % confidence interval (`ci95`, Student's t)."""
+def intervals(rows: pd.DataFrame, by: Union[str, Sequence[str]],
+              columns: Union[str, Sequence[str]]) -> pd.DataFrame:
+    """Returns, for each group of rows that agree in `by`, in the order of their first rows, the number of
+    values (`n`) of each of `columns`, their `mean`, and the half-width of its 95 % confidence interval
+    (`ci95`, Student's t)."""
     keys = [by] if isinstance(by, str) else list(by)
     wanted = [columns] if isinstance(columns, str) else list(columns)
     found: dict[Any, dict[tuple[str, str], Any]] = {}
@@ -250,6 +268,7 @@ def intervals(rows: pd.DataFrame, by: Union[str, Sequence[str]], columns: Union[
             found[key].update({(name, part): getattr(made, field) for part, field in
                                (("n", "count"), ("mean", "mean"), ("ci95", "half"))})
     frame = pd.DataFrame.from_dict(found, orient="index")
-    frame.columns = pd.MultiIndex.from_tuples(frame.columns, names=(None, None)) if len(frame) else frame.columns
+    frame.columns = (pd.MultiIndex.from_tuples(frame.columns, names=(None, None)) if len(frame)
+                     else frame.columns)
     frame.index.names = keys if len(keys) > 1 else [keys[0]]
     return frame if len(wanted) > 1 or not len(frame) else frame[wanted[0]]

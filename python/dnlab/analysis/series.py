@@ -1,7 +1,7 @@
 """Data of an experiment for pictures: panels, each with its unit and its series.
 
-Times are in nanoseconds here; `pictures` scales them. A panel that needs unknown values has no series but `words`, which
-explain it.
+Times are in nanoseconds here; `pictures` scales them. A panel that needs unknown values has no series but
+`words`, which explain it.
 """
 import copy
 from dataclasses import dataclass
@@ -19,26 +19,29 @@ from dnlab.io.scenario_parts import DROP_CAUSES, first_window
 # With more lines, a panel is unreadable without colour. Windows are drawn for at most FLOWS flows.
 MOST = 8
 FLOWS = 16
-# A panel is about 750 dots wide. A series of more than four times this many times is thinned to this many intervals.
+# A panel is about 750 dots wide. A series of more than four times this many times is thinned to this many
+# intervals.
 STRETCHES = 1500
 
 Values = NDArray[np.float64]
 
 
 # The explanation of the spikes in a window.
-_INFLATION = ("In fast recovery cwnd grows by one segment with each duplicate acknowledgement (the spikes), and falls back to"
-              " ssthresh at its end.")
+_INFLATION = (
+    "In fast recovery cwnd grows by one segment with each duplicate acknowledgement (the spikes), and falls "
+    "back to ssthresh at its end.")
 
 
 class Series(NamedTuple):
     """A series of a panel.
 
-    `form` is `steps` (a value holds until the next), `level` (steps of a setting, such as a queue's limit), `points` or `marks`
-    (events), `share` (the fraction, 0 to 1, of values that are at most the one in `moments`) or `box` (`moments` are the minimum,
-    the 5th, 25th, 50th, 75th and 95th percentile, and the maximum).
+    `form` is `steps` (a value holds until the next), `level` (steps of a setting, such as a queue's limit),
+    `points` or `marks` (events), `share` (the fraction, 0 to 1, of values that are at most the one in
+    `moments`) or `box` (`moments` are the minimum, the 5th, 25th, 50th, 75th and 95th percentile, and the
+    maximum).
 
-    `moments` are int64, ns (for a share or box the values, ns or bit/s), in order; `values` have the same shape (n,). `under` is
-    the label of another line, whose colour it has."""
+    `moments` are int64, ns (for a share or box the values, ns or bit/s), in order; `values` have the same
+    shape (n,). `under` is the label of another line, whose colour it has."""
     label: str
     form: str
     moments: Ints
@@ -70,17 +73,19 @@ class Panel:
 
 def panel_of(view: View, what: str, span: Span = Span(), every: Optional[int] = None, effective: bool = False,
              acks: bool = False) -> Panel:
-    """Returns a panel of an experiment, by its name in `WHAT`, `MORE` or `ALIASES`, for a time range; long series are thinned.
+    """Returns a panel of an experiment, by its name in `WHAT`, `MORE` or `ALIASES`, for a time range; long
+    series are thinned.
 
-    `every` is the length of an interval of throughput, ns; by default a round number (1, 2 or 5 with zeros) for 50 or more.
-    `effective` adds the effective windows, and `acks` the senders of acknowledgements."""
+    `every` is the length of an interval of throughput, ns; by default a round number (1, 2 or 5 with zeros)
+    for 50 or more. `effective` adds the effective windows, and `acks` the senders of acknowledgements."""
     # Imported here, because they import this module.
     from dnlab.analysis import distributions
 
     view = view if acks else without_acks(view)
     what = ALIASES.get(what, what)
     makers: dict[str, Callable[[View], Panel]] = {
-        "window": lambda view: windows(view, FLOWS, effective), "queue": distributions.queues, "flight": distributions.flights,
+        "window": lambda view: windows(view, FLOWS, effective), "queue": distributions.queues,
+        "flight": distributions.flights,
         "sojourn": sojourns, "delivered": rates, "drops": drops}
     panel = makers[what](view) if what in makers else distributions.panel_of(view, what, span, every)
     if not panel.across and panel.series and span != Span():
@@ -101,7 +106,8 @@ def without_acks(view: View) -> View:
 
 
 def within(one: Series, span: Span) -> Series:
-    """Returns the part of a series in a time range; steps start with the value at its start, and hold to its end."""
+    """Returns the part of a series in a time range; steps start with the value at its start, and hold to its
+    end."""
     moments, values = one.moments, one.values
     end = int(moments[-1]) if span.end is None and len(moments) else span.end or 0
     begin, after = (int(np.searchsorted(moments, moment, side=side))  # type: ignore[call-overload]
@@ -116,8 +122,8 @@ def within(one: Series, span: Span) -> Series:
 
 
 def thinned(one: Series, stretches: int = STRETCHES) -> Series:
-    """Returns a series in which each interval of time keeps the first, minimum, maximum and last value, so that the picture looks the same;
-    a short series is unchanged."""
+    """Returns a series in which each interval of time keeps the first, minimum, maximum and last value, so
+    that the picture looks the same; a short series is unchanged."""
     if len(one.moments) <= 4 * stretches:
         return one
     begin, end = int(one.moments[0]), int(one.moments[-1])
@@ -131,7 +137,8 @@ def thinned(one: Series, stretches: int = STRETCHES) -> Series:
 
 
 def steps(view: View, label: str, moments: Ints, amounts: "Ints | int") -> Series:
-    """Returns the running sum of changes, from 0 to the experiment's last event; changes at one time are one step."""
+    """Returns the running sum of changes, from 0 to the experiment's last event; changes at one time are one
+    step."""
     if not len(moments):
         return Series(label, "steps", moments, moments)
     amounts = np.broadcast_to(np.asarray(amounts, dtype=np.int64), moments.shape)
@@ -149,7 +156,8 @@ def steps(view: View, label: str, moments: Ints, amounts: "Ints | int") -> Serie
 
 
 def most(view: View, panel_name: str, series: Sequence[Series], limit: Optional[int] = MOST) -> list[Series]:
-    """Returns the series with most steps or points if there are too many to tell apart; all if there is no limit."""
+    """Returns the series with most steps or points if there are too many to tell apart; all if there is no
+    limit."""
     series = [one for one in series if len(one.moments)]
     kept = list(series) if limit is None else fewest(series, limit)
     if len(kept) < len(series):
@@ -158,21 +166,25 @@ def most(view: View, panel_name: str, series: Sequence[Series], limit: Optional[
 
 
 def fewest(series: Sequence[Series], limit: int = MOST) -> list[Series]:
-    """Returns at most `limit` series: acknowledgements are left out first, then those with the fewest changes."""
+    """Returns at most `limit` series: acknowledgements are left out first, then those with the fewest
+    changes."""
     kept = sorted(range(len(series)),
-                  key=lambda place: (series[place].label.endswith(" acks"), -len(series[place].moments)))[:limit]
+                  key=lambda place: (series[place].label.endswith(" acks"),
+                                     -len(series[place].moments)))[:limit]
     return [series[place] for place in sorted(kept)]
 
 
 def too_many(panel_name: str, count: int, kept: int = MOST) -> Note:
     """Returns the note about lines that are left out."""
-    return Note(f"{panel_name} lines", f"{panel_name}: {count} lines are too many to be told apart, so {kept} are drawn:"
-                " those with most changes, acknowledgements last")
+    return Note(f"{panel_name} lines",
+                f"{panel_name}: {count} lines are too many to be told apart, so {kept} are drawn: those with "
+                "most changes, acknowledgements last")
 
 
 def windows(view: View, limit: Optional[int] = FLOWS, effective: bool = True) -> Panel:
-    """Returns cwnd and ssthresh of each flow, with losses and timeouts, and the effective window, which limits the bytes in flight, if the
-    flow's `window` is below cwnd. With a limit, only the 16 flows with most changes are shown, and no ssthresh above the axis."""
+    """Returns cwnd and ssthresh of each flow, with losses and timeouts, and the effective window, which
+    limits the bytes in flight, if the flow's `window` is below cwnd. With a limit, only the 16 flows with
+    most changes are shown, and no ssthresh above the axis."""
     # Which flows the panel shows is decided by --of.
     shown = {name for name, _ in view.senders}
     rows = view.records.at(ACK, EXPIRE)
@@ -184,7 +196,8 @@ def windows(view: View, limit: Optional[int] = FLOWS, effective: bool = True) ->
     cwnds = most(view, "window", [parts[0] for parts in found.values()], limit)
     kept = [parts for parts in found.values() if any(parts[0] is one for one in cwnds)]
     top = 1.1 * max(int(parts[0].values.max()) for parts in kept)
-    lines = [one if limit is None or not one.label.startswith("ssthresh") else one._replace(values=np.where(one.values > top, np.nan, one.values))
+    lines = [one if limit is None or not one.label.startswith("ssthresh")
+             else one._replace(values=np.where(one.values > top, np.nan, one.values))
              for parts in kept for one in parts if effective or not one.label.startswith("effective")]
     lines = [one for one in lines if len(one.moments) and not np.isnan(one.values).all()]
     sizes = {view.sends[f"flow {flow}"][1].smss for flow in found if f"flow {flow}" in view.sends}
@@ -193,13 +206,15 @@ def windows(view: View, limit: Optional[int] = FLOWS, effective: bool = True) ->
 
 
 def inflates(records: Records, rows: Ints) -> bool:
-    """Returns whether a flow enters fast recovery, by its windows: a third duplicate acknowledgement lowers ssthresh."""
+    """Returns whether a flow enters fast recovery, by its windows: a third duplicate acknowledgement lowers
+    ssthresh."""
     falls = np.diff(records.take("more", rows)) < 0
     return bool((falls & (records.kind[rows][1:] == ACK)).any())
 
 
 def flow_windows(view: View, flow: int, rows: Ints) -> list[Series]:
-    """Returns cwnd, the effective window where it is smaller, ssthresh, losses and timeouts of a flow; losses are drawn on cwnd."""
+    """Returns cwnd, the effective window where it is smaller, ssthresh, losses and timeouts of a flow; losses
+    are drawn on cwnd."""
     records = view.records
     moments, cwnd, ssthresh = (records.take(column, rows) for column in ("moment", "number", "more"))
     moment, sends = view.sends.get(f"flow {flow}", (0, None))
@@ -259,7 +274,8 @@ def rates(view: View, limit: Optional[int] = MOST) -> Panel:
 def drops(view: View) -> Panel:
     """Returns the drops by cause, cumulative."""
     table = view.packets
-    series = [steps(view, cause, table.ended[table.outcome == DROPPED + place], 1) for place, cause in enumerate(DROP_CAUSES)]
+    series = [steps(view, cause, table.ended[table.outcome == DROPPED + place], 1)
+              for place, cause in enumerate(DROP_CAUSES)]
     series = [one for one in series if len(one.moments)]
     return Panel("Drops by cause, cumulative", "packets", series, "" if series else "no packet was dropped",
                  quantity="Drops")

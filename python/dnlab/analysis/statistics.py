@@ -1,4 +1,5 @@
-"""The statistics that a sweep collects: those that the package has, and your own functions, which take a run."""
+"""The statistics that a sweep collects: those that the package has, and your own functions, which take a
+run."""
 import importlib.util
 import inspect
 import math
@@ -22,8 +23,8 @@ _WORD = re.compile(r"(.+\.py):([A-Za-z_][A-Za-z0-9_]*)")
 class CustomStat(str):
     """A statistic with the name of its function.
 
-    `call(run)` or `call(run, of)` takes the `dnlab.Experiment` and the name of a row, and returns a number, or None if unknown;
-    `unit` is `ns`, `bit/s` or any other.
+    `call(run)` or `call(run, of)` takes the `dnlab.Experiment` and the name of a row, and returns a number,
+    or None if unknown; `unit` is `ns`, `bit/s` or any other.
 
     >>> CustomStat("late", lambda run: 0.5), CustomStat("late", lambda run: 0.5).unit
     ('late', '')
@@ -40,7 +41,8 @@ class CustomStat(str):
         return _made_anew, (str(self), _spelled(self.call), self.unit)
 
     def of(self, view: "View", of: str) -> Optional[float]:
-        """Returns the value for a row's name. Raises `InputError` if the function raises, or returns no number."""
+        """Returns the value for a row's name. Raises `InputError` if the function raises, or returns no
+        number."""
         from dnlab.analysis.results import Experiment
 
         # A function of one argument applies to the whole run.
@@ -49,7 +51,9 @@ class CustomStat(str):
         try:
             found = self.call(*(Experiment(view), of)[:max(1, len(takes))])
         except Exception as fault:  # Any exception is reported with the experiment.
-            raise InputError(f"the statistic {self}: experiment {view.name}, {of}: {type(fault).__name__}: {fault}") from fault
+            raise InputError(
+                f"the statistic {self}: experiment {view.name}, {of}: "
+                f"{type(fault).__name__}: {fault}") from fault
         return number_of(found, f"the statistic {self}: experiment {view.name}, {of}")
 
 
@@ -78,7 +82,8 @@ def own_of(call: Callable[..., Any]) -> CustomStat:
 
 
 def own_in(word: str) -> Optional[CustomStat]:
-    """Returns the statistic of FILE.py:FUNCTION, or None for a word of another form. Raises `ValueError` if there is none."""
+    """Returns the statistic of FILE.py:FUNCTION, or None for a word of another form. Raises `ValueError` if
+    there is none."""
     found = _WORD.fullmatch(word)
     if found is None:
         return None
@@ -101,7 +106,8 @@ def _spelled(call: Callable[..., Any]) -> bytes:
     try:
         import cloudpickle
     except ModuleNotFoundError:
-        raise InputError("your own statistics need cloudpickle (Debian: apt-get install python3-cloudpickle)") from None
+        raise InputError(
+            "your own statistics need cloudpickle (Debian: apt-get install python3-cloudpickle)") from None
     module = sys.modules.get(getattr(call, "__module__", ""))
     is_ours = module is None or module.__name__.startswith("dnlab.")
     if module is not None and not is_ours and module.__name__ != "__main__":
@@ -118,10 +124,10 @@ def _made_anew(name: str, call: bytes, unit: str) -> CustomStat:
 
 
 USUAL = ("goodput", "delay.p50", "delay.p95", "lost")
-_UNITS = {"packets": "packets", "delivered": "packets", "in_flight": "packets", "retransmissions": "packets", "lost": "packets",
-          "bytes": "bytes", "useful": "bytes", "rate": "bit/s", "goodput": "bit/s", "time": "ns", "first": "ns",
-          "last": "ns", "fct": "ns", "jain": "", "utilisation": "", "jitter": "ns",
-          **{f"drops.{cause}": "packets" for cause in DROP_CAUSES}}
+_UNITS = {"packets": "packets", "delivered": "packets", "in_flight": "packets", "retransmissions": "packets",
+          "lost": "packets", "bytes": "bytes", "useful": "bytes", "rate": "bit/s", "goodput": "bit/s",
+          "time": "ns", "first": "ns", "last": "ns", "fct": "ns", "jain": "", "utilisation": "",
+          "jitter": "ns", **{f"drops.{cause}": "packets" for cause in DROP_CAUSES}}
 _DELAYS = ("min", "mean", "p50", "max")
 _KNOWN = (*_UNITS, *(f"delay.{name}" for name in _DELAYS))
 # As in the help.
@@ -145,7 +151,8 @@ def percentile_of(stat: str) -> Optional[str]:
 
 
 def stats_of(text: str) -> tuple[str, ...]:
-    """Returns the statistics of `--stat`. Raises `ValueError` for an unknown one, with the names that exist."""
+    """Returns the statistics of `--stat`. Raises `ValueError` for an unknown one, with the names that
+    exist."""
     found = tuple(own_in(word.strip()) or word.strip() for word in text.split(","))
     for word in found:
         if not isinstance(word, CustomStat):
@@ -158,12 +165,14 @@ def _known(word: str) -> None:
     if found:
         refuse_share(found[1])
     if word not in _KNOWN and percentile_of(word) is None:
-        raise ValueError(f"there is no statistic {word!r}; use one of {', '.join(STATS)} (N from 1 to 100, as delay.p95), or your own"
-                         " function, FILE.py:NAME")
+        raise ValueError(
+            f"there is no statistic {word!r}; use one of {', '.join(STATS)} (N from 1 to 100, as delay.p95), "
+            "or your own function, FILE.py:NAME")
 
 
 def stats_given(stats: Any) -> tuple[str, ...]:
-    """Returns the statistics of a call in Python: names separated by commas, your own functions, or a list of both."""
+    """Returns the statistics of a call in Python: names separated by commas, your own functions, or a list of
+    both."""
     several = stats if isinstance(stats, (list, tuple)) else [stats]
     found: list[str] = []
     for one in several:

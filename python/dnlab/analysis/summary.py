@@ -24,7 +24,8 @@ class Summed(NamedTuple):
 
 def sum_one(view: View, percentiles: Sequence[Percentile], shown: dict[str, str], patterns: Sequence[str],
             kind: str, every: int, span: Span = Span()) -> Summed:
-    """Returns the rows of one experiment: `summary` (for a time range), `windows` or `losses`. Runs in another process."""
+    """Returns the rows of one experiment: `summary` (for a time range), `windows` or `losses`. Runs in
+    another process."""
     if kind == "windows":
         rows = windows_of(view, every)
     elif kind == "losses":
@@ -32,7 +33,8 @@ def sum_one(view: View, percentiles: Sequence[Percentile], shown: dict[str, str]
     else:
         rows = Tables(view, percentiles, shown.get(view.name), span=span).rows()
     if kind != "summary":
-        own = {"seed": view.plan.seed if view.plan else None, "varied": shown.get(view.name), "ended": view.ended.how}
+        own = {"seed": view.plan.seed if view.plan else None, "varied": shown.get(view.name),
+               "ended": view.ended.how}
         rows = [{**row, **own} for row in rows]
     if patterns:
         rows = [row for row in rows if any(is_named(row["sender"], pattern) for pattern in patterns)]
@@ -40,32 +42,37 @@ def sum_one(view: View, percentiles: Sequence[Percentile], shown: dict[str, str]
 
 
 def summed(given: Inputs, plans: Optional[dict[str, Plan]], wanted: Sequence[str] = (),
-           percentiles: Sequence[Percentile] = PERCENTILES, patterns: Sequence[str] = (), kind: str = "summary",
-           every: int = 0, workers: Optional[int] = None, span: Span = Span()) -> Iterator[Summed]:
-    """Yields the rows and notes of each experiment of a report, in order. Raises `InputError` if the scenario isn't the report's."""
+           percentiles: Sequence[Percentile] = PERCENTILES, patterns: Sequence[str] = (),
+           kind: str = "summary", every: int = 0, workers: Optional[int] = None,
+           span: Span = Span()) -> Iterator[Summed]:
+    """Yields the rows and notes of each experiment of a report, in order. Raises `InputError` if the scenario
+    isn't the report's."""
     shown = varied(plans) if plans else {}
     one = partial(sum_one, percentiles=tuple(percentiles), shown=shown, patterns=tuple(patterns), kind=kind,
                   every=every, span=span)
-    return whole(given, plans, wanted, map_experiments(given, one, plans, wanted, workers, "summary"), lambda made: made.name)
+    return whole(given, plans, wanted, map_experiments(given, one, plans, wanted, workers, "summary"),
+                 lambda made: made.name)
 
 
 def whole(given: Inputs, plans: Optional[dict[str, Plan]], wanted: Sequence[str], found: Iterable[T],
           name_of: Callable[[T], str]) -> Iterator[T]:
     """Yields the results for a report's experiments, in order.
 
-    Raises `InputError` before the first if the record next to the report has another scenario, and after the last if the report
-    lacks an experiment of its scenario (unless only some are wanted)."""
+    Raises `InputError` before the first if the record next to the report has another scenario, and after the
+    last if the report lacks an experiment of its scenario (unless only some are wanted)."""
     check_beside(given.report, plans, given.scenario())
     names = set()
     for made in found:
         names.add(name_of(made))
         yield made
-    lacking(given.report, given.scenario(), [] if wanted or plans is None else [name for name in plans if name not in names])
+    lacking(given.report, given.scenario(),
+            [] if wanted or plans is None else [name for name in plans if name not in names])
 
 
 def grouped(rows: Sequence[Row], by: Sequence[str], columns: Sequence[str]) -> list[Row]:
-    """Returns a row for each group of rows: for each column the number of values (`n`), their mean, and the half-width of its 95 %
-    confidence interval. Groups are in the order of their first row, and always include the sender."""
+    """Returns a row for each group of rows: for each column the number of values (`n`), their mean, and the
+    half-width of its 95 % confidence interval. Groups are in the order of their first row, and always include
+    the sender."""
     keys = [*by, *([] if "sender" in by else ["sender"])]
     groups: dict[tuple[object, ...], list[Row]] = {}
     for row in rows:
@@ -83,7 +90,8 @@ def grouped(rows: Sequence[Row], by: Sequence[str], columns: Sequence[str]) -> l
 
 
 def tell(tool: str, notes: Iterable[tuple[str, Note]], total: int) -> None:
-    """Prints the notes of experiments on standard error: each kind once, with the number of experiments that have it."""
+    """Prints the notes of experiments on standard error: each kind once, with the number of experiments that
+    have it."""
     kinds: dict[str, list[tuple[str, Note]]] = {}
     for name, note in notes:
         kinds.setdefault(note.kind, []).append((name, note))
@@ -95,5 +103,6 @@ def tell(tool: str, notes: Iterable[tuple[str, Note]], total: int) -> None:
         elif len(names) == 1:
             said = f"experiment {name}: {note.text} (and {len(found) - 1} more like it)"
         else:
-            said = f"{len(names)} of {total} experiments: {KINDS.get(kind, kind)}; the first is {name}: {note.text}"
+            said = (f"{len(names)} of {total} experiments: {KINDS.get(kind, kind)}; the first is "
+                    f"{name}: {note.text}")
         say(tool, said)

@@ -21,16 +21,18 @@ _MOST_WINDOWS = 10**6
 
 
 def windows_of(view: View, every: int) -> list[Row]:
-    """Returns each sender's deliveries in intervals of `every` ns, from 0 on; the last one ends with the experiment.
+    """Returns each sender's deliveries in intervals of `every` ns, from 0 on; the last one ends with the
+    experiment.
 
-    Columns: experiment, sender, begin, end (ns), packets and bytes delivered, rate (bit/s), useful bytes (each once) and
-    goodput (bit/s). Raises `InputError` for too many rows."""
+    Columns: experiment, sender, begin, end (ns), packets and bytes delivered, rate (bit/s), useful bytes
+    (each once) and goodput (bit/s). Raises `InputError` for too many rows."""
     table = view.packets
     until = max(view.ended.moment, 1)
     count = -(-until // every)
     if count * len(view.senders) > _MOST_WINDOWS:
-        raise InputError(f"experiment {view.name}: {count} intervals of {every} ns for each of {len(view.senders)} senders are"
-                     f" more than {_MOST_WINDOWS} rows: choose a longer interval")
+        raise InputError(
+            f"experiment {view.name}: {count} intervals of {every} ns for each of {len(view.senders)} "
+            f"senders are more than {_MOST_WINDOWS} rows: choose a longer interval")
     begins = np.arange(count, dtype=np.int64) * every
     ends = np.minimum(begins + every, until)
     rows: list[Row] = []
@@ -43,10 +45,12 @@ def windows_of(view: View, every: int) -> list[Row]:
         useful_in, is_known = bytes_in, told and not view.is_injected[packets].any()
         if told and int(table.kind[packets[0]]) != PLAIN:
             once = delivered[table.is_new[delivered]]
-            useful_in = _sums(np.minimum(table.ended[once] // every, count - 1), table.size[once] - HEADER, count)
+            useful_in = _sums(np.minimum(table.ended[once] // every, count - 1), table.size[once] - HEADER,
+                              count)
         for k in range(count):
             time = int(ends[k] - begins[k])
-            rows.append({"experiment": view.name, "sender": name, "begin": int(begins[k]), "end": int(ends[k]),
+            rows.append({"experiment": view.name, "sender": name, "begin": int(begins[k]),
+                         "end": int(ends[k]),
                          "packets": int(packets_in[k]), "bytes": int(bytes_in[k]) if told else None,
                          "rate": int(bytes_in[k]) * 8 * 10**9 // time if told else None,
                          "useful": int(useful_in[k]) if is_known else None,
@@ -60,7 +64,8 @@ def _sums(at: Ints, values: Ints, count: int) -> Ints:
 
 
 def losses(view: View) -> list[Row]:
-    """Returns drops by sender, cause and pipe (None if no line has it): experiment, sender, cause, pipe, packets."""
+    """Returns drops by sender, cause and pipe (None if no line has it): experiment, sender, cause, pipe,
+    packets."""
     table = view.packets
     rows: list[Row] = []
     for name, packets in view.senders:
@@ -70,21 +75,24 @@ def losses(view: View) -> list[Row]:
             own = pipe[table.outcome[dropped] == code]
             for value, count in zip(*np.unique(own, return_counts=True)):
                 rows.append({"experiment": view.name, "sender": name, "cause": DROP_CAUSES[cause],
-                             "queue": instance_name(int(value)) if value >= 0 else None, "packets": int(count)})
+                             "queue": instance_name(int(value)) if value >= 0 else None,
+                             "packets": int(count)})
     return rows
 
 
 def dropping_pipes(view: View, packets: Ints) -> Ints:
-    """Returns the pipes that dropped packets, which are those where they waited, by their last visits; -1 if no line has it."""
+    """Returns the pipes that dropped packets, which are those where they waited, by their last visits; -1 if
+    no line has it."""
     visits = view.visits
     found = np.full(len(view.packets), -1, dtype=np.int64)
-    found[visits.packet] = np.where((visits.finish < 0) & (visits.exit == view.packets.ended[visits.packet]), visits.pipe, -1)
+    found[visits.packet] = np.where((visits.finish < 0) & (visits.exit == view.packets.ended[visits.packet]),
+                                    visits.pipe, -1)
     return found[packets]
 
 
 def spread(times: Optional[Ints], percentiles: Sequence[Percentile], with_mean: bool = False) -> Row:
-    """Returns minimum, percentiles by nearest rank, and maximum, optionally with the mean; None if there are no times or one is unknown.
-    Of three times the 50th percentile is the second, the 99th the third:
+    """Returns minimum, percentiles by nearest rank, and maximum, optionally with the mean; None if there are
+    no times or one is unknown. Of three times the 50th percentile is the second, the 99th the third:
 
     >>> spread(np.array([30, 10, 26], dtype=np.int64), (50, 99), with_mean=True)
     {'min': 10, 'p50': 26, 'p99': 30, 'max': 30, 'mean': 22.0}
@@ -101,14 +109,16 @@ def spread(times: Optional[Ints], percentiles: Sequence[Percentile], with_mean: 
     return found
 
 
-# The weight of the newest difference in the jitter of RFC 3550; those before the last few thousand weigh less than 2^-180.
+# The weight of the newest difference in the jitter of RFC 3550; those before the last few thousand weigh less
+# than 2^-180.
 _NEWEST = 1 / 16
 _HEARD = 2000
 
 
 def jitter(times: Ints) -> Optional[float]:
-    """Returns the interarrival jitter after the last packet, ns (RFC 3550, section 6.4.1): J + (|D| - J) / 16 for each difference D of
-    two one-way delays in the order of arrival. None for fewer than two, or if one is unknown. Shape (n,).
+    """Returns the interarrival jitter after the last packet, ns (RFC 3550, section 6.4.1): J + (|D| - J) / 16
+    for each difference D of two one-way delays in the order of arrival. None for fewer than two, or if one is
+    unknown. Shape (n,).
 
     >>> jitter(np.array([10, 26, 26], dtype=np.int64))
     0.9375
@@ -120,7 +130,8 @@ def jitter(times: Ints) -> Optional[float]:
 
 
 def span(firsts: Ints, lasts: Ints, size: Optional[int]) -> Row:
-    """Returns the first and last time, the time between, and the bit/s over it, rounded down. 16000 bits in 12 ms:
+    """Returns the first and last time, the time between, and the bit/s over it, rounded down. 16000 bits in
+    12 ms:
 
     >>> span(np.array([0, 5_000_000]), np.array([12_000_000, 11_000_000]), 2000)
     {'first': 0, 'last': 12000000, 'time': 12000000, 'rate': 1333333}
@@ -144,11 +155,11 @@ def sum_of(sizes: Ints) -> Optional[int]:
 
 @dataclass
 class Tables:
-    """Creates the rows of an experiment. `varied` are the settings that differ between experiments, and `with_mean` adds the `mean`
-    one-way delay to rows of packets and pipes.
+    """Creates the rows of an experiment. `varied` are the settings that differ between experiments, and
+    `with_mean` adds the `mean` one-way delay to rows of packets and pipes.
 
-    With a `span`, rows have what happened in it: packets created, delivered and dropped in it, those in flight at its end, and
-    rates over its whole length."""
+    With a `span`, rows have what happened in it: packets created, delivered and dropped in it, those in
+    flight at its end, and rates over its whole length."""
     view: View
     percentiles: Sequence[Percentile] = PERCENTILES
     varied: Optional[str] = None
@@ -175,7 +186,8 @@ class Tables:
         return {"experiment": self.view.name,
                 "seed": plan.seed if plan else None, "budget_packets": plan.budget if plan else None,
                 "budget_steps": plan.steps if plan else None, "params": plan.settings() if plan else None,
-                "varied": self.varied, "refused": len(self.view.refused), "codes": codes_of(self.view.refused),
+                "varied": self.varied, "refused": len(self.view.refused),
+                "codes": codes_of(self.view.refused),
                 "ended": ended.how, "ended_at": ended.moment, "end": ended.end,
                 **({} if self.span.is_whole() else {"from": self.span.begin, "to": self.until()})}
 
@@ -199,9 +211,11 @@ class Tables:
         return delivered
 
     def packets(self, of: str, packets: Ints) -> Row:
-        """Returns a row of packets: bytes, last and rate are of deliveries, first is the creation of the first packet."""
+        """Returns a row of packets: bytes, last and rate are of deliveries, first is the creation of the
+        first packet."""
         # The packets of one direction are often those of its only sender.
-        known = next((row for own, row in self._made if len(own) == len(packets) and bool((own == packets).all())), None)
+        known = next((row for own, row in self._made if len(own) == len(packets)
+                      and bool((own == packets).all())), None)
         if known is None:
             known = self._packets(packets)
             self._made.append((packets, known))
@@ -226,20 +240,22 @@ class Tables:
         return {**self.packets(of, packets), **self.useful(packets), **self.progress(of, packets)}
 
     def useful(self, packets: Ints) -> Row:
-        """Returns the bytes that arrived, each once, and their rate: for a flow without headers, for a train all packets. For injected
-        packets only their program knows which data was new."""
+        """Returns the bytes that arrived, each once, and their rate: for a flow without headers, for a train
+        all packets. For injected packets only their program knows which data was new."""
         table = self.view.packets
         kinds = table.kind[packets]
         packets = packets[(kinds == DATA) | (kinds == PLAIN)]
         delivered = self.arrived(packets)
-        if not len(packets) or self.view.is_injected[packets].any() or (len(delivered) and int(table.size[delivered].min()) < 0):
+        if (not len(packets) or self.view.is_injected[packets].any()
+            or (len(delivered) and int(table.size[delivered].min()) < 0)):
             return {}
         once = delivered[table.is_new[delivered]]
         size = int(table.size[once].sum()) - HEADER * int(np.count_nonzero(table.kind[once] == DATA))
         return {"useful": size, "goodput": self.over(table.made[packets], table.ended[once], size)["rate"]}
 
     def progress(self, of: str, packets: Ints) -> Row:
-        """Returns for a flow the number of retransmissions, and the time from its command to its last missing byte."""
+        """Returns for a flow the number of retransmissions, and the time from its command to its last missing
+        byte."""
         table = self.view.packets
         if int(table.kind[packets[0]]) != DATA or not self.view.is_told:
             return {}
@@ -266,27 +282,30 @@ class Tables:
         is_served, now = finish >= 0, self.span
         served, gone = visits[is_served & now.has(finish)], visits[is_served & (left >= 0) & now.has(left)]
         size = sum_of(packets.size[table.packet[served]])
-        held = is_served & ~now.is_over(finish) & (((left < 0) & (packets.outcome[packet] == HELD)) | now.is_over(left))
+        held = is_served & ~now.is_over(finish) & (((left < 0) & (packets.outcome[packet] == HELD))
+                                                   | now.is_over(left))
         arrival = table.arrival[gone]
         times = np.where(arrival < 0, -1, table.exit[gone] - arrival)
         lost = packets.outcome[packet[~is_served & (left >= 0) & now.has(left)]].astype(np.int64) - DROPPED
         causes = np.bincount(lost[lost >= 0], minlength=len(DROP_CAUSES)).tolist()
         known = DROP_CAUSES if self.view.is_told else ()
         known_span = self.over(table.arrival[served], table.finish[served], size)
-        return {"sender": of, "packets": len(served), "delivered": len(gone), "in_flight": int(np.count_nonzero(held)),
+        return {"sender": of, "packets": len(served), "delivered": len(gone),
+                "in_flight": int(np.count_nonzero(held)),
                 "bytes": size, **known_span, "utilisation": self.utilisation(of, known_span, size),
                 **{cause: count if cause in known else None for cause, count in zip(DROP_CAUSES, causes)},
                 **spread(times, self.percentiles, self.with_mean)}
 
     def utilisation(self, of: str, known: Row, size: Optional[int]) -> Optional[float]:
-        """Returns what an instance served divided by what its rate could have carried from the first arrival to the last finish; None
-        without a rate, or if unknown."""
+        """Returns what an instance served divided by what its rate could have carried from the first arrival
+        to the last finish; None without a rate, or if unknown."""
         if size is None or not known["time"]:
             return None
         could, begin, end = 0, known["first"], known["last"]
         if not self.span.is_whole():
             begin, end = self.span.begin, self.until()
-        changes = [change for change in self.view.changes.get(int(of.split()[1].split(".")[0]), []) if change.config]
+        changes = [change
+                   for change in self.view.changes.get(int(of.split()[1].split(".")[0]), []) if change.config]
         for change, following in zip(changes, [*changes[1:], None]):
             assert change.config is not None
             until = end if following is None else min(following.moment, end)
@@ -302,10 +321,12 @@ class Tables:
         back = self.view.is_back
         fair = {"jain": self.fairness()}
         if back.all() or not back.any():
-            return [{**self.packets("all", packets), **(self.useful(packets) if len(packets) else {}), **fair}]
+            return [{**self.packets("all", packets), **(self.useful(packets) if len(packets) else {}),
+                     **fair}]
         there = {**self.packets("there", packets[~back]), **self.useful(packets[~back]), **fair}
         behind = self.packets("back", packets[back])
-        sums = {column: there[column] + behind[column] for column in ("packets", "delivered", "in_flight", *DROP_CAUSES)}
+        sums = {column: there[column] + behind[column]
+                for column in ("packets", "delivered", "in_flight", *DROP_CAUSES)}
         return [there, behind, {"sender": "all", **sums, **fair}]
 
     def fairness(self) -> Optional[float]:

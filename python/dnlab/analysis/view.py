@@ -1,4 +1,5 @@
-"""An experiment of a report, or of a run of programs, joined with its scenario if there is one, and its warnings."""
+"""An experiment of a report, or of a run of programs, joined with its scenario if there is one, and its
+warnings."""
 from dataclasses import dataclass, field
 from functools import cached_property
 from pathlib import Path
@@ -24,8 +25,8 @@ __all__ = ["KINDS", "NOT_TRACED", "Ended", "Note", "View", "flows_of", "view_of"
 
 
 class Ended(NamedTuple):
-    """How an experiment ended: `end` or `spent`, at which time, and the time of the scenario's `end` (ns, None if the scenario isn't
-    known)."""
+    """How an experiment ended: `end` or `spent`, at which time, and the time of the scenario's `end` (ns,
+    None if the scenario isn't known)."""
     how: str
     moment: int
     end: Optional[int]
@@ -48,7 +49,8 @@ class View:
         self.shared: list[Note] = []
         self.done: list[tuple[int, Command]] = done_of(self.records, self.plan)
         # Trains that share a header, which only rows tell apart.
-        self.alike = find_senders(self.records, self.plan, self.shared) if self.plan is not None else frozenset[str]()
+        self.alike = (find_senders(self.records, self.plan, self.shared) if self.plan is not None
+                      else frozenset[str]())
         self.packets: Packets = packets_of(self.records, self.plan.names if self.plan is not None else {})
         # Whether creation time, size and sender of every packet are known, which tracing has.
         self.is_told = bool((self.packets.row >= 0).all())
@@ -70,7 +72,8 @@ class View:
 
     @cached_property
     def ended(self) -> Ended:
-        return Ended("spent" if self.records.is_spent() else "end", self.records.last(), self.plan.end() if self.plan else None)
+        return Ended("spent" if self.records.is_spent() else "end", self.records.last(),
+                     self.plan.end() if self.plan else None)
 
     @cached_property
     def last(self) -> int:
@@ -96,7 +99,8 @@ class View:
 
     @cached_property
     def is_injected(self) -> Flags:
-        """Returns for each packet whether a program injected it, so that only the program knows its content. Shape (packets,)."""
+        """Returns for each packet whether a program injected it, so that only the program knows its content.
+        Shape (packets,)."""
         names = np.array([not name.startswith("train ") for name in self.packets.names] + [True])
         found: Flags = (self.packets.kind == PLAIN) & names[self.packets.who]
         return found
@@ -106,14 +110,15 @@ class View:
 
     @cached_property
     def is_back(self) -> Flags:
-        """Returns for each packet whether it goes back: acknowledgements, and packets from flows' receivers to their senders. Shape
-        (packets,)."""
+        """Returns for each packet whether it goes back: acknowledgements, and packets from flows' receivers
+        to their senders. Shape (packets,)."""
         back: NDArray[np.bool_] = self.packets.kind == ACKNOWLEDGES
         flows = [sends for _, sends in self.sends.values() if sends.word == "flow"]
         sources, targets = {one.source for one in flows}, {one.target for one in flows}
         for name, packets in self.senders:
             _, sends = self.sends.get(name, (0, None))
-            if sends and sends.word == "train" and sends.source in targets - sources and sends.target in sources:
+            if (sends and sends.word == "train" and sends.source in targets - sources
+                and sends.target in sources):
                 back[packets] = True
         return back
 
@@ -128,12 +133,14 @@ class View:
         return found
 
     def marks(self, of: str = "") -> str:
-        """Returns the warnings of a row, separated by spaces: those of the experiment, and those of a sender."""
+        """Returns the warnings of a row, separated by spaces: those of the experiment, and those of a
+        sender."""
         words = [note.mark for note in self.notes if note.mark and (not note.of or not of or of == note.of)]
         return " ".join(dict.fromkeys(words))
 
     def must_be_traced(self, what: str) -> None:
-        """Raises `InputError`, with the command that makes a traced report, if this one isn't traced; `what` is what it lacks."""
+        """Raises `InputError`, with the command that makes a traced report, if this one isn't traced; `what`
+        is what it lacks."""
         if not self.is_told:
             raise InputError(f"experiment {self.name}: {what}: {NOT_TRACED.text}")
 
@@ -172,8 +179,8 @@ def plan_of_run(folder: Path) -> Plan:
 
 
 def view_of_run(folder: Path, program: str, names: Optional[Mapping[str, str]] = None) -> View:
-    """Returns the experiment of a run. If its report isn't traced, the program runs the transcript again. Raises `UnfitError`, and
-    `ProgramError` if the program fails."""
+    """Returns the experiment of a run. If its report isn't traced, the program runs the transcript again.
+    Raises `UnfitError`, and `ProgramError` if the program fails."""
     plan = plan_of_run(folder)
     plan = plan._replace(names=names) if names else plan
     try:
@@ -188,20 +195,24 @@ def view_of_run(folder: Path, program: str, names: Optional[Mapping[str, str]] =
     except ParseError as fault:
         raise UnfitError(REPORT, str(fault)) from None
     if view.counters != told.counters:
-        raise UnfitError(REPORT, f"its counters are not those of {TRANSCRIPT}, which has other commands or was run by another program")
+        raise UnfitError(REPORT,
+                         f"its counters are not those of {TRANSCRIPT}, which has other commands or was run "
+                         "by another program")
     view.folder = folder
     return view
 
 
 def run_again(folder: Path, program: str, plan: Plan) -> Records:
-    """Returns the records of a run by running its transcript: as rows, or by a session if it is too long for that."""
+    """Returns the records of a run by running its transcript: as rows, or by a session if it is too long for
+    that."""
     text = (folder / TRANSCRIPT).read_bytes()
     is_short = len(text) <= MOST_BYTES
     words = ["alone", "--format", "npy"] if is_short else ["live"]
     with TempDir() as room:
         made = room.path / "made"
         with open(made, "wb") as out:
-            done = subprocesses.run([program, *words], text if is_short else traced(text), out, most_report(text))
+            done = subprocesses.run([program, *words], text if is_short else traced(text), out,
+                                    most_report(text))
         if done.status:
             raise ProgramError(done.status, f"dnlab {' '.join(words)} < {folder / TRANSCRIPT}: {done.said()}")
         if not is_short:

@@ -17,7 +17,8 @@ if TYPE_CHECKING:
     from dnlab.analysis.metrics import Span
 
 T = TypeVar("T")
-# Characters that control a terminal: C0 and C1 except tab and line feed, and those that change the direction of text.
+# Characters that control a terminal: C0 and C1 except tab and line feed, and those that change the direction
+# of text.
 _STEERING = re.compile("[\x00-\x08\x0b-\x1f\x7f-\x9f\u200e\u200f\u2028-\u202e\u2066-\u2069]")
 
 
@@ -31,7 +32,8 @@ def escaped(text: str) -> str:
 
 
 class _Shown:
-    """A text stream that escapes control characters; `direct` is the stream itself, for output that moves the cursor on purpose."""
+    """A text stream that escapes control characters; `direct` is the stream itself, for output that moves the
+    cursor on purpose."""
 
     def __init__(self, direct: TextIO) -> None:
         self.direct = direct
@@ -45,8 +47,8 @@ class _Shown:
 
 
 def _fill() -> None:
-    """Opens those of 0, 1 and 2 that are closed, so that no file gets their numbers. Reading from 0 and writing to 1 or 2 then
-    fail."""
+    """Opens those of 0, 1 and 2 that are closed, so that no file gets their numbers. Reading from 0 and
+    writing to 1 or 2 then fail."""
     for number, mode in ((0, os.O_WRONLY), (1, os.O_RDONLY), (2, os.O_WRONLY)):
         try:
             os.fstat(number)
@@ -68,12 +70,14 @@ def guarded() -> Iterator[None]:
         yield
     finally:
         # Streams that were closed stay guarded, for Python's own flush at exit.
-        sys.stdin, sys.stdout, sys.stderr = before[0] or sys.stdin, before[1] or sys.stdout, before[2] or sys.stderr
+        sys.stdin, sys.stdout = before[0] or sys.stdin, before[1] or sys.stdout
+        sys.stderr = before[2] or sys.stderr
 
 
 class Parser(argparse.ArgumentParser):
-    """A parser whose help shows the names of the installed commands (or the paths in a checkout of the repository), and whose errors
-    name only required arguments. `offered` has the words that a shell completes after an option without `choices`."""
+    """A parser whose help shows the names of the installed commands (or the paths in a checkout of the
+    repository), and whose errors name only required arguments. `offered` has the words that a shell completes
+    after an option without `choices`."""
 
     def __init__(self, **how: Any) -> None:
         super().__init__(**how)
@@ -88,22 +92,25 @@ class Parser(argparse.ArgumentParser):
 
 
 class _Complete(argparse.Action):
-    """Prints what a shell can complete: the values of an option or, without one, all options, each with its help after a tab."""
+    """Prints what a shell can complete: the values of an option or, without one, all options, each with its
+    help after a tab."""
 
-    def __call__(self, parser: argparse.ArgumentParser, _: argparse.Namespace, value: Any, option: object = None) -> NoReturn:
+    def __call__(self, parser: argparse.ArgumentParser, _: argparse.Namespace, value: Any,
+                 option: object = None) -> NoReturn:
         assert isinstance(parser, Parser)
         named = parser._option_string_actions.get(value)
         if value:
             found = [*parser.offered.get(value, named and named.choices or ())]
         else:
             found = [f"{name}\t{parser._get_formatter()._expand_help(one)}" for one in parser._actions
-                     for name in one.option_strings if name.startswith("--") and one.help != argparse.SUPPRESS]
+                     for name in one.option_strings if name.startswith("--")
+                     and one.help != argparse.SUPPRESS]
         print("\n".join(found))
         parser.exit()
 
 
 def as_installed(text: str) -> str:
-    """Returns a help text with the names of the installed commands, unless the package is in its repository."""
+    """Returns a help text with the names of the installed commands, unless this is the repository."""
     return text if is_repository() else renamed(text)
 
 
@@ -118,7 +125,8 @@ def renamed(text: str) -> str:
 
 def parser_of(name: str, about: str, more: str) -> Parser:
     """Returns a parser whose help ends with an example and the exit statuses."""
-    parser = Parser(prog=f"tools/{name}" if is_repository() else f"dnlab-{name}", description=about, epilog=more,
+    prog = f"tools/{name}" if is_repository() else f"dnlab-{name}"
+    parser = Parser(prog=prog, description=about, epilog=more,
                     formatter_class=argparse.RawDescriptionHelpFormatter)
     parser.add_argument("--version", action="version", version=f"dnlab-{name} {__version__}")
     # No abbreviation of another option begins so.
@@ -138,8 +146,8 @@ def writing(name: str) -> Iterator[None]:
 def listed(words: Iterable[str], between: str = ", ", indent: int = 10) -> str:
     """Returns words as lines of a help text, each line indented except the first, which follows other text.
 
-    >>> listed(["flow"] * 20)
-    'flow, flow, flow, flow, flow, flow, flow, flow, flow, flow, flow,\\n          flow, flow, flow, flow, flow, flow, flow, flow, flow'
+    >>> listed(["flow 1", "flow 2", "flow 3"] * 3 + ["all"])
+    'flow 1, flow 2, flow 3, flow 1, flow 2, flow 3, flow 1, flow 2, flow\\n          3, all'
     """
     room = " " * indent
     return textwrap.fill(between.join(words), 80, initial_indent=room, subsequent_indent=room).lstrip()
@@ -148,7 +156,8 @@ def listed(words: Iterable[str], between: str = ", ", indent: int = 10) -> str:
 def add_texts(parser: argparse.ArgumentParser, is_optional: bool = False) -> None:
     """Adds the report, its scenarios and `--experiment`."""
     how = {"nargs": "?"} if is_optional else {}
-    parser.add_argument("report", metavar="REPORT", help="a report, or - for standard input", **how)  # type: ignore[arg-type]
+    parser.add_argument("report", metavar="REPORT", help="a report, or - for standard input",
+                        **how)  # type: ignore[arg-type]
     parser.add_argument("scenarios", metavar="SCENARIO", nargs="*",
                         help="its scenario, or - for standard input; several if the report has several")
     parser.add_argument("--experiment", action="append", default=[], metavar="NAME",
@@ -166,7 +175,8 @@ def add_span(parser: argparse.ArgumentParser) -> None:
     """Adds `--from` and `--to`, the time range to measure."""
     parser.add_argument("--from", dest="begin", type=moment_of, default=0, metavar="TIME",
                         help="ignore what happened earlier, as 5s, to leave out the warm-up [0]")
-    parser.add_argument("--to", dest="end", type=moment_of, metavar="TIME", help="ignore what happened later [the end]")
+    parser.add_argument("--to", dest="end", type=moment_of, metavar="TIME",
+                        help="ignore what happened later [the end]")
 
 
 def checked_span(parser: argparse.ArgumentParser, given: argparse.Namespace) -> "Span":
@@ -228,7 +238,8 @@ def time_of(text: str) -> int:
     found = re.fullmatch(r"([0-9]+(?:\.[0-9]+)?)(ns|us|ms|s)", text)
     time = Fraction(found[1]) * TIMES[found[2]] if found else Fraction(0)
     if time < 1 or time.denominator != 1:
-        raise argparse.ArgumentTypeError(f"{text!r} is not a time in whole nanoseconds, such as 100ms, 20us or 1s")
+        raise argparse.ArgumentTypeError(
+            f"{text!r} is not a time in whole nanoseconds, such as 100ms, 20us or 1s")
     return int(time)
 
 
@@ -274,8 +285,9 @@ def size_of(text: str) -> tuple[float, float]:
     found = re.fullmatch(r"([0-9]+(?:\.[0-9]+)?)x([0-9]+(?:\.[0-9]+)?)(in|cm|mm)", text)
     size = [float(one) * _INCHES[found[3]] for one in found.groups()[:2]] if found else [0, 0]
     if not all(1 <= one <= _MOST_INCHES for one in size):
-        raise argparse.ArgumentTypeError(f"{text!r} is not a size from 1 to {_MOST_INCHES} inches: write WIDTHxHEIGHT with in, cm or mm, as"
-                                         " 16x9cm")
+        raise argparse.ArgumentTypeError(
+            f"{text!r} is not a size from 1 to {_MOST_INCHES} inches: write WIDTHxHEIGHT with in, cm "
+            "or mm, as 16x9cm")
     return size[0], size[1]
 
 
@@ -287,12 +299,13 @@ def label_of(text: str) -> tuple[str, str]:
     """
     name, equals, label = text.partition("=")
     if not equals or not name or not label:
-        raise argparse.ArgumentTypeError(f"{text!r}: expected NAME=TEXT, as 'rate=Link rate (Mbit/s)' or 'train 9=the call'")
+        raise argparse.ArgumentTypeError(
+            f"{text!r}: expected NAME=TEXT, as 'rate=Link rate (Mbit/s)' or 'train 9=the call'")
     return name, label
 
 
 def matching(pattern: str, what: str) -> Callable[[str], str]:
-    """Returns a converter that accepts what matches a pattern; for other texts it reports what was expected."""
+    """Returns a converter that accepts what matches a pattern, else says what was expected."""
     def read(text: str) -> str:
         if not re.fullmatch(pattern, text):
             raise argparse.ArgumentTypeError(f"{text!r}{what}")
@@ -308,13 +321,17 @@ def add_design(parser: argparse.ArgumentParser, named: str) -> None:
     parser.add_argument("--title", metavar="TEXT", help="the title above the picture; '' for none")
     parser.add_argument("--label", action="append", default=[], type=label_of, metavar="NAME=TEXT",
                         help=f"the text shown for {named} (repeatable)")
-    parser.add_argument("--size", type=size_of, metavar="WxH", help="width and height with their unit, as 16x9cm or 6x4in")
-    font = matching(r"[^,]+(,[0-9]+(\.[0-9]+)?)?", ": expected a family, points or both, as 'DejaVu Serif', 12 or serif,12")
+    parser.add_argument("--size", type=size_of, metavar="WxH",
+                        help="width and height with their unit, as 16x9cm or 6x4in")
+    font = matching(r"[^,]+(,[0-9]+(\.[0-9]+)?)?",
+                    ": expected a family, points or both, as 'DejaVu Serif', 12 or serif,12")
     parser.add_argument("--font", type=font, metavar="FONT",
                         help="a family, points or both, as 'DejaVu Serif', 12 or serif,12 [9 points]")
-    parser.add_argument("--style", metavar="NAME", help="a matplotlib style sheet, by name or file, as ggplot or grayscale")
+    parser.add_argument("--style", metavar="NAME",
+                        help="a matplotlib style sheet, by name or file, as ggplot or grayscale")
     parser.add_argument("--legend", choices=LEGENDS, default="right",
-                        help="where the legend is: to the right of the axes, inside them where it hides least, or nowhere [right]")
+                        help="where the legend is: to the right of the axes, inside them where it hides "
+                             "least, or nowhere [right]")
 
 
 def design_of(given: argparse.Namespace) -> Any:
@@ -328,4 +345,5 @@ def design_of(given: argparse.Namespace) -> Any:
 
 def is_designed(given: argparse.Namespace) -> bool:
     """Returns whether an option changes how the picture looks."""
-    return bool(given.label or given.size or given.font or given.style) or given.title is not None or given.legend != "right"
+    return (bool(given.label or given.size or given.font or given.style) or given.title is not None
+            or given.legend != "right")

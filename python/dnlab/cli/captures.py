@@ -8,7 +8,8 @@ from fnmatch import fnmatchcase
 from typing import TYPE_CHECKING, BinaryIO, Callable, Iterable, Iterator, Sequence
 
 from dnlab.analysis.reports import Inputs, pieces_of, plans_of
-from dnlab.cli.arguments import add_of, add_texts, matching, moment_of, parse_files, parser_of, time_of, writing
+from dnlab.cli.arguments import (add_of, add_texts, matching, moment_of, parse_files, parser_of, time_of,
+                                 writing)
 from dnlab.cli.ipfw import traffic_of
 from dnlab.errors import InputError, ProgramError, ResourceError
 from dnlab.io.files import whole_file
@@ -52,8 +53,10 @@ def pcap_words(given: Sequence[str]) -> argparse.Namespace:
     parser = parser_of("pcap", PCAP_ABOUT, PCAP_EXAMPLE)
     add_texts(parser)
     add_of(parser, "only packets of these senders, as 'flow 1', 'flow 1 acks', 'train *' (repeatable) [all]")
-    parser.add_argument("--at", choices=("sender", "receiver"), default="sender", help="where to capture [sender]")
-    parser.add_argument("--out", metavar="FILE", help="the output file, - for standard output [NAME.pcap for each experiment]")
+    parser.add_argument("--at", choices=("sender", "receiver"), default="sender",
+                        help="where to capture [sender]")
+    parser.add_argument("--out", metavar="FILE",
+                        help="the output file, - for standard output [NAME.pcap for each experiment]")
     return parse_files(parser, list(given))
 
 
@@ -67,7 +70,9 @@ def selected_packets(view: "View", patterns: Sequence[str]) -> "Flags":
         known.append(name)
         found[packets] |= any(fnmatchcase(name, pattern) for pattern in patterns)
     if patterns and not found.any():
-        raise InputError(f"experiment {view.name}: no sender matches {' or '.join(patterns)}; the senders are {', '.join(known)}")
+        raise InputError(
+            f"experiment {view.name}: no sender matches {' or '.join(patterns)}; the senders are "
+            f"{', '.join(known)}")
     return found
 
 
@@ -98,7 +103,9 @@ def pcap(words_given: Sequence[str]) -> int:
     if given.out:
         pieces = list(pieces)
         if len(pieces) > 1:
-            raise InputError(f"{given.report}: it has several experiments, but {given.out} holds one: choose it with --experiment")
+            raise InputError(
+                f"{given.report}: it has several experiments, but {given.out} holds one: choose it "
+                "with --experiment")
     texts = Inputs(given.report, tuple(given.scenarios))
     for piece in whole(texts, plans, given.experiment, pieces, lambda one: one.name):
         total += 1
@@ -142,18 +149,29 @@ def replay_words(given: Sequence[str]) -> argparse.Namespace:
     parser = parser_of("replay", REPLAY_ABOUT, REPLAY_EXAMPLE)
     parser.add_argument("files", nargs="+", metavar="FILE", help="a capture, or a table of arrivals")
     link = parser.add_mutually_exclusive_group(required=True)
-    link.add_argument("--link", metavar="WORDS", help="the pipe for all packets, as 'bw 10Mbit/s delay 20 queue 100 codel'")
-    link.add_argument("--scenario", metavar="FILE", help="pipes and rules, each with its time, or a scenario that has them")
+    link.add_argument("--link", metavar="WORDS",
+                      help="the pipe for all packets, as 'bw 10Mbit/s delay 20 queue 100 codel'")
+    link.add_argument("--scenario", metavar="FILE",
+                      help="pipes and rules, each with its time, or a scenario that has them")
     out = parser.add_mutually_exclusive_group(required=True)
-    out.add_argument("--out", metavar="FILE", action="append", type=matching(r"-|(?s:.*)\.(pcap|csv)", " must end in .pcap (a capture) or .csv (a table)"),
-                     help="the output of the link: FILE.pcap or FILE.csv, or - for a capture on standard output (repeatable)")
-    out.add_argument("--inject", metavar="FILE", help="write a scenario with the packets as `inject` lines; run nothing")
-    parser.add_argument("--large", choices=("refuse", "cut", "split"), default="refuse", help="what to do with packets above 1500 bytes [refuse]")
-    parser.add_argument("--align", action="store_true", help="start all files at the same time, whatever their clocks say")
-    parser.add_argument("--tail", type=time_of, default=10 * 10**9, metavar="TIME", help="how long to wait for the last packets [10s]")
-    parser.add_argument("--begin", type=moment_of, default=0, metavar="TIME", help="the time of the first packet on the link [0]")
+    out.add_argument("--out", metavar="FILE", action="append",
+                     type=matching(r"-|(?s:.*)\.(pcap|csv)",
+                                   " must end in .pcap (a capture) or .csv (a table)"),
+                     help="the output of the link: FILE.pcap or FILE.csv, or - for a capture on standard "
+                          "output (repeatable)")
+    out.add_argument("--inject", metavar="FILE",
+                     help="write a scenario with the packets as `inject` lines; run nothing")
+    parser.add_argument("--large", choices=("refuse", "cut", "split"), default="refuse",
+                        help="what to do with packets above 1500 bytes [refuse]")
+    parser.add_argument("--align", action="store_true",
+                        help="start all files at the same time, whatever their clocks say")
+    parser.add_argument("--tail", type=time_of, default=10 * 10**9, metavar="TIME",
+                        help="how long to wait for the last packets [10s]")
+    parser.add_argument("--begin", type=moment_of, default=0, metavar="TIME",
+                        help="the time of the first packet on the link [0]")
     parser.add_argument("--seed", type=int, default=1, help="of losses [1]")
-    parser.add_argument("--budget", type=int, default=65535, help="maximum number of packets in flight [65535]")
+    parser.add_argument("--budget", type=int, default=65535,
+                        help="maximum number of packets in flight [65535]")
     found = parser.parse_args(list(given))
     if len(set(found.out or ())) < len(found.out or ()):
         parser.error("--out: at most one capture and one table, with different names")
@@ -168,8 +186,10 @@ def link_of(given: argparse.Namespace, head: str) -> list[tuple[int, str]]:
     text = "".join([head + "\n", *(f"@{moment} {command}\n" for moment, command in commands), "@0 end\n"])
     fault = Judged(text.encode("ascii", "replace")).fault if given.link.isprintable() else (2, "badcharacter")
     if fault:
-        raise InputError("--link: " + ("an option is wrong" if fault[0] == 2 else "the experiment's seed or budget is wrong")
-                     + f" ({fault[1]}): expected options of `pipe config`, as 'bw 10Mbit/s delay 20 queue 100'")
+        raise InputError("--link: " + ("an option is wrong" if fault[0] == 2
+                                       else "the experiment's seed or budget is wrong")
+                     + f" ({fault[1]}): expected options of `pipe config`, as 'bw 10Mbit/s "
+                       "delay 20 queue 100'")
     return commands
 
 
@@ -181,7 +201,8 @@ def arrivals_of(given: argparse.Namespace, left: "Omissions") -> "tuple[int, Ite
     found = arrivals.fitting(arrivals.merged(files, given.align), given.large, left)
     first = next(found, None)
     if first is None:
-        raise InputError(f"{', '.join(given.files)}: no TCP or UDP packet over IPv4" + (f" ({left.told()})" if left else ""))
+        raise InputError(f"{', '.join(given.files)}: no TCP or UDP packet over IPv4"
+                         + (f" ({left.told()})" if left else ""))
     return first.moment, itertools.chain([first], found)
 
 
@@ -204,7 +225,8 @@ def run(given: argparse.Namespace, head: str, left: "Omissions") -> str:
 
         try:
             with live() as session:
-                held = sessions.replay(session, given.seed, given.budget, link, packets, begin - given.begin, given.tail, tell)
+                held = sessions.replay(session, given.seed, given.budget, link, packets, begin - given.begin,
+                                       given.tail, tell)
         except ProgramError as failed:
             raise ResourceError(str(failed)) from None
     return sessions.tally_of(counts, held)

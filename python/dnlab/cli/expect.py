@@ -10,14 +10,15 @@ from pathlib import Path
 from typing import Iterator, NamedTuple, Optional, Sequence
 from xml.etree import ElementTree
 
-from dnlab.analysis.bounds import FAILING, FORM, Bound, Failing, Judged, allowed_of, bound_of, bounds_in, failing, judge, percentiles_for
+from dnlab.analysis.bounds import FORM, Bound, Judged, bound_of, bounds_in, judge, percentiles_for
 from dnlab.analysis.metrics import WORDS, Span
 from dnlab.analysis.names import names_of, with_names
 from dnlab.analysis.quantities import UNITS, named
 from dnlab.analysis.reports import Inputs, Report, bytes_of, plans_of
-from dnlab.cli.arguments import (add_names, add_span, add_texts, add_workers, checked, checked_span, escaped, listed, parse_files,
-                                 parser_of)
-from dnlab.errors import DIFFERS, MACHINE, InputError, ProgramError, ResourceError, reading
+from dnlab.cli.arguments import (Parser, add_names, add_span, add_texts, add_workers, checked, checked_span,
+                                 escaped, listed, parse_files, parser_of)
+from dnlab.errors import (DIFFERS, FAILING, MACHINE, Failing, InputError, ProgramError, ResourceError,
+                          allowed_of, failing, reading)
 from dnlab.io.files import whole_file
 
 # XML 1.0 allows no other control characters, not even as references.
@@ -42,17 +43,20 @@ def _cases(judged: Sequence[Judged], failed: Sequence[Failing]) -> Iterator[_Cas
 
 
 def junit(judged: Sequence[Judged], failed: Sequence[Failing]) -> bytes:
-    """Returns the verdict as JUnit XML: a test suite with a test case for each bound and for each run that fails by itself."""
+    """Returns the verdict as JUnit XML: a test suite with a test case for each bound and for each run that
+    fails by itself."""
     cases = list(_cases(judged, failed))
     failures = sum(1 for case in cases if case.failed)
-    suite = ElementTree.Element("testsuite", name="dnlab-expect", tests=str(len(cases)), failures=str(failures), errors="0", skipped="0")
+    suite = ElementTree.Element("testsuite", name="dnlab-expect", tests=str(len(cases)),
+                                failures=str(failures), errors="0", skipped="0")
     for case in cases:
         found = ElementTree.SubElement(suite, "testcase", classname=_xml(case.group), name=_xml(case.name))
         for name, value in (("file", case.file), ("line", case.line)):
             if value is not None:
                 found.set(name, _xml(str(value)))
         if case.failed:
-            ElementTree.SubElement(found, "failure", message=_xml(case.failed)).text = _xml(f"{case.name}: {case.failed}")
+            ElementTree.SubElement(found, "failure",
+                                   message=_xml(case.failed)).text = _xml(f"{case.name}: {case.failed}")
     top = ElementTree.Element("testsuites")
     top.append(suite)
     ElementTree.indent(top)
@@ -68,8 +72,10 @@ def github_annotations(judged: Sequence[Judged], failed: Sequence[Failing]) -> I
     """Returns a GitHub Actions workflow command for each failure, with its file and line if known."""
     for case in _cases(judged, failed):
         if case.failed:
-            place = [f"{name}={_property(str(value))}" for name, value in (("file", case.file), ("line", case.line)) if value is not None]
-            yield f"::error {','.join([*place, 'title=dnlab-expect'])}::{_data(f'{case.name}: {case.failed}')}"
+            place = [f"{name}={_property(str(value))}"
+                     for name, value in (("file", case.file), ("line", case.line)) if value is not None]
+            yield ("::error "
+                   f"{','.join([*place, 'title=dnlab-expect'])}::{_data(f'{case.name}: {case.failed}')}")
 
 
 def _data(text: str) -> str:
@@ -116,7 +122,8 @@ def words(given: Sequence[str]) -> argparse.Namespace:
     parser = parser_of("expect", __doc__ or "", EXAMPLE)
     is_run = any(word == "--run" or word.startswith("--run=") for word in given)
     add_texts(parser, is_run)
-    parser.add_argument("--run", metavar="SCENARIO", help="run this scenario and judge its report, instead of REPORT")
+    parser.add_argument("--run", metavar="SCENARIO",
+                        help="run this scenario and judge its report, instead of REPORT")
     add_names(parser)
     parser.add_argument("--bounds", action="append", default=[], metavar="FILE",
                         help="a file of bounds (repeatable); bounds can also be arguments, each in quotes")
@@ -125,39 +132,47 @@ def words(given: Sequence[str]) -> argparse.Namespace:
     parser.add_argument("--allow", action="append", default=[], type=checked(allowed_of), metavar="MARK,..",
                         help=f"don't fail for this: {', '.join(FAILING)}")
     parser.offered["--allow"] = FAILING
-    parser.add_argument("-q", "--quiet", action="store_true", help="print only what fails")
-    parser.add_argument("--junit", metavar="FILE", help="also write the verdict as JUnit's XML")
-    parser.add_argument("--github", action="store_true", help="also print annotations for GitHub Actions, with file and line")
-    parser.add_argument("--color", choices=("auto", "always", "never"), default="auto",
-                        help="colour the verdicts [on a terminal, unless NO_COLOR is set]")
-    parser.add_argument("--json", action="store_true", help="print a JSON object, with values in ns, bytes, bit/s, or as fractions")
+    _add_forms(parser)
     add_span(parser)
     add_workers(parser)
-    said = [word for before, word in zip(["", *given], given) if is_bound(word, before)]
-    found = parse_files(parser, [word for before, word in zip(["", *given], given) if not is_bound(word, before)])
+    pairs = list(zip(["", *given], given))
+    said = [word for before, word in pairs if is_bound(word, before)]
+    found = parse_files(parser, [word for before, word in pairs if not is_bound(word, before)])
     found.said = said
     found.allow = [word for words in found.allow for word in words]
-    if found.run == "-":
-        parser.error("argument --run: a file is required, since it is read twice")
-    if is_run and found.report is not None:
-        parser.error("--run replaces REPORT and SCENARIO: leave them out")
-    if found.json and found.github:
-        parser.error("--json and --github can't be combined")
-    if found.all and found.first:
-        parser.error("--all and --first can't be combined")
     checked_span(parser, found)
-    if not said and not found.bounds:
-        parser.error(f"no bound is given; a bound is {FORM}")
-    if [found.report, *found.scenarios, *found.bounds].count("-") > 1:
-        parser.error("standard input can be only one of the files")
+    wrong = ((found.run == "-", "argument --run: a file is required, since it is read twice"),
+             (is_run and found.report is not None, "--run replaces REPORT and SCENARIO: leave them out"),
+             (found.json and found.github, "--json and --github can't be combined"),
+             (found.all and found.first, "--all and --first can't be combined"),
+             (not said and not found.bounds, f"no bound is given; a bound is {FORM}"),
+             ([found.report, *found.scenarios, *found.bounds].count("-") > 1,
+              "standard input can be only one of the files"))
+    for is_wrong, why in wrong:
+        if is_wrong:
+            parser.error(why)
     return found
 
 
-def is_bound(word: str, before: str = "") -> bool:
-    """Returns whether an argument is meant as a bound, right or wrong, and not as a file or as the value of `--name`.
+def _add_forms(parser: Parser) -> None:
+    parser.add_argument("-q", "--quiet", action="store_true", help="print only what fails")
+    parser.add_argument("--junit", metavar="FILE", help="also write the verdict as JUnit's XML")
+    parser.add_argument("--github", action="store_true",
+                        help="also print annotations for GitHub Actions, with file and line")
+    parser.add_argument("--color", choices=("auto", "always", "never"), default="auto",
+                        help="colour the verdicts [on a terminal, unless NO_COLOR is set]")
+    parser.add_argument("--json", action="store_true",
+                        help="print a JSON object, with values in ns, bytes, bit/s, or as fractions")
 
-    >>> is_bound("all: drops < 3"), is_bound("all: drops 3"), is_bound("runs/report.txt"), is_bound("--bounds=a")
-    (True, True, False, False)
+
+def is_bound(word: str, before: str = "") -> bool:
+    """Returns whether an argument is meant as a bound, right or wrong, and not as a file or as the value of
+    `--name`.
+
+    >>> is_bound("all: drops < 3"), is_bound("all: drops 3")
+    (True, True)
+    >>> is_bound("runs/report.txt"), is_bound("--bounds=a")
+    (False, False)
     >>> is_bound("10.0.0.1:1000=mine", "--name")
     False
     """
@@ -183,7 +198,8 @@ def show(judged: Sequence[Judged], failed: Sequence[Failing], given: argparse.Na
         print(json.dumps({"holds": holds, "bounds": [one.record() for one in judged],
                           "failing": [one.record() for one in failed]}, indent=1))
         return
-    is_coloured = given.color == "always" or given.color == "auto" and sys.stdout.isatty() and not os.environ.get("NO_COLOR")
+    is_coloured = (given.color == "always" or given.color == "auto" and sys.stdout.isatty()
+                   and not os.environ.get("NO_COLOR"))
     lines = [(one.line(), one.holds) for one in judged] + [(run.line(), False) for run in failed]
     for line, holds in lines:
         if not (given.quiet and holds):
@@ -200,11 +216,13 @@ def show_line(line: str, holds: bool, is_coloured: bool) -> None:
         return
     verdict, space, rest = line.partition(" ")
     # The stream escapes control characters on a terminal, but not what is written to `direct`.
-    print(f"\x1b[{32 if holds else 31}m{verdict}\x1b[0m{space}{escaped(rest)}", file=getattr(sys.stdout, "direct", sys.stdout))
+    print(f"\x1b[{32 if holds else 31}m{verdict}\x1b[0m{space}{escaped(rest)}",
+          file=getattr(sys.stdout, "direct", sys.stdout))
 
 
 def run_scenario(given: argparse.Namespace) -> Report:
-    """Runs the scenario of `--run` and returns its report, which becomes the report to judge and lives as long as the result."""
+    """Runs the scenario of `--run` and returns its report, which becomes the report to judge and lives as
+    long as the result."""
     # Imported here, because only --run needs a program.
     from dnlab.sweeps.runs import run
 
@@ -212,7 +230,8 @@ def run_scenario(given: argparse.Namespace) -> Report:
         with reading(given.run):
             report = run(Path(given.run))
     except ProgramError as failed:
-        raise (ResourceError if failed.status == MACHINE else InputError)(f"{given.run}: {failed.said}") from None
+        raise (ResourceError if failed.status == MACHINE
+               else InputError)(f"{given.run}: {failed.said}") from None
     given.report, given.scenarios = report.given.report, [given.run]
     return report
 
@@ -234,5 +253,6 @@ def main(words_given: Sequence[str]) -> int:
     notes = [(one.name, note) for one in found for note in one.notes]
     failed = failing(notes, given.allow)
     show(judged, failed, given)
-    tell("expect", [(name, note) for name, note in notes if not any(note.text == one.said for one in failed)], len(found))
+    tell("expect", [(name, note) for name, note in notes if not any(note.text == one.said for one in failed)],
+         len(found))
     return DIFFERS if failed or not all(one.holds for one in judged) else 0

@@ -53,10 +53,13 @@ def prefix_of(text: str) -> tuple[str, str]:
     name, _, prefix = text.partition("=")
     try:
         # The name may be put into a script.
-        if not re.fullmatch(r"[A-Za-z][A-Za-z0-9_.:-]{0,31}", name) or (prefix != "any" and not ipaddress.IPv4Network(prefix, strict=False)):
+        if (not re.fullmatch(r"[A-Za-z][A-Za-z0-9_.:-]{0,31}", name)
+            or (prefix != "any" and not ipaddress.IPv4Network(prefix, strict=False))):
             raise ValueError
     except ValueError:
-        raise argparse.ArgumentTypeError(f"{text!r}: expected an interface and the addresses behind it, as em1=10.0.1.0/24 or em1=any") from None
+        raise argparse.ArgumentTypeError(
+            f"{text!r}: expected an interface and the addresses behind it, as "
+            "em1=10.0.1.0/24 or em1=any") from None
     return name, prefix
 
 
@@ -70,16 +73,23 @@ def address_of(text: str) -> str:
 def from_ipfw_words(given: Sequence[str]) -> argparse.Namespace:
     parser = parser_of("from-ipfw", FROM_IPFW_ABOUT, FROM_IPFW_EXAMPLE)
     parser.add_argument("file", metavar="FILE", help="a script or a listing, or - for standard input")
-    parser.add_argument("--if", action="append", default=[], type=prefix_of, metavar="NAME=PREFIX", dest="behind",
+    parser.add_argument("--if", action="append", default=[], type=prefix_of, metavar="NAME=PREFIX",
+                        dest="behind",
                         help="the addresses behind an interface, a prefix or `any` (repeatable)")
     parser.add_argument("--me", type=address_of, metavar="ADDRESS", help="the address that `me` stands for")
-    parser.add_argument("--flatten", action="store_true", help="send to the pipes of queues and schedulers instead; weights are lost")
-    parser.add_argument("--drop-unmatchable", action="store_true", help="leave out rules, as for icmp, that match no packet here")
-    parser.add_argument("--lenient", action="store_true", help="write refused lines as comments, and the rest")
+    parser.add_argument("--flatten", action="store_true",
+                        help="send to the pipes of queues and schedulers instead; weights are lost")
+    parser.add_argument("--drop-unmatchable", action="store_true",
+                        help="leave out rules, as for icmp, that match no packet here")
+    parser.add_argument("--lenient", action="store_true",
+                        help="write refused lines as comments, and the rest")
     parser.add_argument("--all", action="store_true", help="print each line, with its translation")
-    parser.add_argument("--traffic", metavar="FILE", help="commands that send, each with its time, or a scenario that has them")
-    parser.add_argument("--moment", type=moment_of, default=0, metavar="TIME", help="the time of the first line [0]")
-    parser.add_argument("--end", type=moment_of, metavar="TIME", help="when the experiment ends [10 s after the last command]")
+    parser.add_argument("--traffic", metavar="FILE",
+                        help="commands that send, each with its time, or a scenario that has them")
+    parser.add_argument("--moment", type=moment_of, default=0, metavar="TIME",
+                        help="the time of the first line [0]")
+    parser.add_argument("--end", type=moment_of, metavar="TIME",
+                        help="when the experiment ends [10 s after the last command]")
     parser.add_argument("--name", default="imported", help="the experiment's name [imported]")
     parser.add_argument("--seed", type=int, default=1, help="the experiment's [1]")
     parser.add_argument("--budget", type=int, default=1000, help="maximum number of packets in flight [1000]")
@@ -146,9 +156,13 @@ def from_ipfw(words_given: Sequence[str]) -> int:
     text = scenario_text(given, imported)
     print_translations(imported.became, given.all)
     counts = imported.tally()
-    say("from-ipfw", f"{given.file}: {len(imported.became)} lines: " + ", ".join(f"{count} {kind}" for kind, count in counts.items()))
+    say("from-ipfw",
+        f"{given.file}: {len(imported.became)} lines: "
+        + ", ".join(f"{count} {kind}" for kind, count in counts.items()))
     if counts[REFUSED] and not given.lenient:
-        raise InputError("nothing was written, because lines were refused; --lenient writes the rest, with these as comments")
+        raise InputError(
+            "nothing was written, because lines were refused; --lenient writes the rest, with "
+            "these as comments")
     write(text, given.out)
     return 0
 
@@ -182,11 +196,14 @@ def to_ipfw_words(given: Sequence[str]) -> argparse.Namespace:
     parser = parser_of("to-ipfw", TO_IPFW_ABOUT, TO_IPFW_EXAMPLE)
     add_scenario(parser)
     which = parser.add_mutually_exclusive_group()
-    which.add_argument("--if", action="append", default=[], type=prefix_of, metavar="NAME=PREFIX", dest="behind",
+    which.add_argument("--if", action="append", default=[], type=prefix_of, metavar="NAME=PREFIX",
+                       dest="behind",
                        help="the addresses behind an interface of the router (repeatable)")
     which.add_argument("--host", action="store_true", help="the packets start or end on this machine")
-    parser.add_argument("--timed", action="store_true", help="also write later commands, with `sleep` between them")
-    parser.add_argument("--iperf", action="store_true", help="write iperf3 commands for the senders, as comments")
+    parser.add_argument("--timed", action="store_true",
+                        help="also write later commands, with `sleep` between them")
+    parser.add_argument("--iperf", action="store_true",
+                        help="write iperf3 commands for the senders, as comments")
     return parser.parse_args(list(given))
 
 
@@ -247,7 +264,8 @@ def hosts_of(text: str) -> list[str]:
         begin = int(ipaddress.IPv4Address(first))
         end = int(ipaddress.IPv4Address(last or first))
     except ValueError:
-        raise argparse.ArgumentTypeError(f"{text!r} is not a range of addresses such as 10.0.0.1-10.0.0.9") from None
+        raise argparse.ArgumentTypeError(
+            f"{text!r} is not a range of addresses such as 10.0.0.1-10.0.0.9") from None
     if not 0 <= end - begin < _MOST_HOSTS:
         raise argparse.ArgumentTypeError(f"{text!r}: 1 to {_MOST_HOSTS} addresses, the lowest first")
     return [str(ipaddress.IPv4Address(one)) for one in range(begin, end + 1)]
@@ -259,9 +277,12 @@ device_of = matching(r"[A-Za-z0-9_.:@-]{1,15}", " is not an interface such as et
 def to_tc_words(given: Sequence[str]) -> argparse.Namespace:
     parser = parser_of("to-tc", TO_TC_ABOUT, TO_TC_EXAMPLE)
     add_scenario(parser)
-    parser.add_argument("--dev", required=True, type=device_of, metavar="NAME", help="the interface where the packets leave")
-    parser.add_argument("--in", type=device_of, metavar="NAME", dest="enter", help="the interface where they come in")
-    parser.add_argument("--hosts", type=hosts_of, default=[], metavar="A-B", help="the hosts that get a class each if a pipe has a mask")
+    parser.add_argument("--dev", required=True, type=device_of, metavar="NAME",
+                        help="the interface where the packets leave")
+    parser.add_argument("--in", type=device_of, metavar="NAME", dest="enter",
+                        help="the interface where they come in")
+    parser.add_argument("--hosts", type=hosts_of, default=[], metavar="A-B",
+                        help="the hosts that get a class each if a pipe has a mask")
     return parser.parse_args(list(given))
 
 
@@ -271,6 +292,9 @@ def to_tc(words_given: Sequence[str]) -> int:
     try:
         setting = setting_of(plan, False)
     except InputError as fault:
-        raise InputError(f"{given.scenario}: {fault}: put the settings of one time into an experiment of their own") from None
-    write(tc_export.script_of(setting, Place(given.dev, given.enter, tuple(given.hosts)), given.scenario), given.out)
+        raise InputError(
+            f"{given.scenario}: {fault}: put the settings of one time into an "
+            "experiment of their own") from None
+    write(tc_export.script_of(setting, Place(given.dev, given.enter, tuple(given.hosts)), given.scenario),
+          given.out)
     return 0

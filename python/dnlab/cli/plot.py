@@ -1,4 +1,5 @@
-"""Draws a report over time: windows, queues, one-way delays, drops; as a picture, or as a page for a browser."""
+"""Draws a report over time: windows, queues, one-way delays, drops; as a picture, or as a page for a
+browser."""
 import argparse
 from functools import partial
 from typing import TYPE_CHECKING, Iterator, NamedTuple, Optional, Sequence
@@ -6,9 +7,8 @@ from typing import TYPE_CHECKING, Iterator, NamedTuple, Optional, Sequence
 from dnlab.analysis.metrics import ALIASES, MORE, WHAT, Span, is_named
 from dnlab.analysis.names import names_of, with_names
 from dnlab.analysis.reports import Inputs, TooMany, map_experiments, plans_of
-from dnlab.cli.arguments import (
-    add_design, add_names, add_of, add_texts, add_workers, design_of, moment_of, parser_of, picture, parse_files, time_of, words_in,
-    writing)
+from dnlab.cli.arguments import (add_design, add_names, add_of, add_texts, add_workers, design_of, moment_of,
+                                 parser_of, picture, parse_files, time_of, words_in, writing)
 from dnlab.errors import InputError, Note
 
 if TYPE_CHECKING:
@@ -88,12 +88,15 @@ def words(given: Sequence[str]) -> argparse.Namespace:
     add_of(parser, "only these senders, as 'flow 1' or 'train *' (not in queue, flight, drops; repeatable)")
     parser.add_argument("--from", type=moment_of, default=0, dest="begin", metavar="TIME",
                         help="start of the time axis, as 500ms [0s]")
-    parser.add_argument("--to", type=moment_of, dest="end", metavar="TIME", help="end of the time axis [the last event]")
+    parser.add_argument("--to", type=moment_of, dest="end", metavar="TIME",
+                        help="end of the time axis [the last event]")
     parser.add_argument("--bin", type=time_of, metavar="TIME",
-                        help="length of an interval of throughput [a round number, for 50 intervals or more; fewer if there are few packets]")
+                        help="length of an interval of throughput [a round number, for 50 intervals or more; "
+                             "fewer if there are few packets]")
     parser.add_argument("--overlay", action="store_true", help="all experiments in one column of panels")
     parser.add_argument("--effective", action="store_true", help="draw effective windows too, as wide bands")
-    parser.add_argument("--acks", action="store_true", help="draw acknowledgements too, and pipes that carry nothing else")
+    parser.add_argument("--acks", action="store_true",
+                        help="draw acknowledgements too, and pipes that carry nothing else")
     parser.add_argument("--out", type=picture, default="plot.svg", metavar="FILE",
                         help="the output file, .svg, .png or .pdf [plot.svg]")
     add_design(parser, "a sender, a pipe or an experiment, as 'train 9=the call'")
@@ -109,7 +112,8 @@ def words(given: Sequence[str]) -> argparse.Namespace:
     return found
 
 
-def draw_one(view: "View", what: Sequence[str], span: Span, every: Optional[int], patterns: Sequence[str], effective: bool,
+def draw_one(view: "View", what: Sequence[str], span: Span, every: Optional[int], patterns: Sequence[str],
+             effective: bool,
              acks: bool) -> Drawn:
     """Returns the panels of one experiment. Runs in another process."""
     from dnlab.analysis.series import panel_of
@@ -121,7 +125,9 @@ def draw_one(view: "View", what: Sequence[str], span: Span, every: Optional[int]
         view.senders = [(name, packets) for name, packets in view.senders
                         if any(is_named(name, pattern) for pattern in patterns)]
         if not view.senders:
-            view.more_notes.append(Note("senders", f"--of {' '.join(map(repr, patterns))}: no sender matches; the senders are {', '.join(names)}"))
+            view.more_notes.append(Note("senders",
+                                        f"--of {' '.join(map(repr, patterns))}: no sender matches; the "
+                                        f"senders are {', '.join(names)}"))
     panels = [panel_of(view, one, span, every, effective, acks) for one in what]
     for panel in panels if patterns else []:
         panel.series = [one for one in panel.series if not one.label.startswith("through ")]
@@ -147,9 +153,13 @@ def draw(given: argparse.Namespace) -> list[Drawn]:
     except TooMany as many:
         advice = "choose some with --only a,b"
         if not given.overlay:
-            advice += ", or draw them over one another with --overlay; tools/summary and tools/sweep compare more in numbers"
+            advice += (
+                ", or draw them over one another with --overlay; tools/summary and tools/sweep compare "
+                "more in numbers")
         where = "in one panel" if given.overlay else "side by side"
-        raise InputError(f"{given.report}: {many.count} experiments are too many {where} ({most} at most): {advice}") from None
+        raise InputError(
+            f"{given.report}: {many.count} experiments are too many {where} ({most} at "
+            f"most): {advice}") from None
     if not drawn:
         raise InputError(f"{given.report}: it has no experiment, so there is nothing to draw")
     return drawn
@@ -212,7 +222,8 @@ def view_words(given: Sequence[str]) -> argparse.Namespace:
     parser = parser_of("view", VIEW_ABOUT, VIEW_EXAMPLE)
     add_texts(parser)
     parser.add_argument("--out", default="view.html", metavar="FILE", help="what is written [view.html]")
-    parser.add_argument("--single", action="store_true", help="with plotly's script (8 MB) within: one file to pass on")
+    parser.add_argument("--single", action="store_true",
+                        help="with plotly's script (8 MB) within: one file to pass on")
     add_workers(parser)
     return parse_files(parser, list(given))
 
@@ -238,7 +249,8 @@ def view(words_given: Sequence[str]) -> int:
     def experiments() -> "Iterator[page.Drawn]":
         plans = plans_of(given.scenarios)
         texts = Inputs(given.report, tuple(given.scenarios))
-        made = map_experiments(texts, page_of_one, plans, given.experiment, given.workers, "view", _MOST_EXPERIMENTS)
+        made = map_experiments(texts, page_of_one, plans, given.experiment, given.workers, "view",
+                               _MOST_EXPERIMENTS)
         for found, own in whole(texts, plans, given.experiment, made, lambda one: str(one[0].head["name"])):
             names.append(found.head["name"])
             notes.extend((names[-1], note) for note in own)

@@ -1,4 +1,5 @@
-"""Words of `dnlab` that its program doesn't know: a file's name, since a proved program opens none, `check --json`, and their help.
+"""Words of `dnlab` that its program doesn't know: a file's name, since a proved program opens none, `check
+--json`, and their help.
 
     python3 program.py PROGRAM WORDS..    what ./dnlab and the installed dnlab call where there are such words
 """
@@ -65,7 +66,8 @@ def call_of(words: Sequence[str]) -> Call:
         before = word
     if len(files) > 1:
         raise Wrong(f"{words[0]} reads one file, so {files[1]} is one too many")
-    return Call(kept if words[:1] and words[0] in READS else [*words], None if files in ([], ["-"]) else files[0], is_json)
+    return Call(kept if words[:1] and words[0] in READS else [*words],
+                None if files in ([], ["-"]) else files[0], is_json)
 
 
 def open_as_input(file: str) -> None:
@@ -91,13 +93,15 @@ def write_out(text: str) -> None:
 def print_json(program: str, words: Sequence[str]) -> int:
     """Prints what `check --explain` says as JSON; gives its status."""
     more = [] if "--explain" in words else ["--explain"]
-    done = subprocess.run([program, *words, *more], stdout=subprocess.PIPE, stderr=subprocess.PIPE, check=False)
+    done = subprocess.run([program, *words, *more], stdout=subprocess.PIPE, stderr=subprocess.PIPE,
+                          check=False)
     said = done.stderr.decode(errors="replace")
     if done.returncode not in (0, 1, 5):
         sys.stderr.write(said)
         return done.returncode if done.returncode > 0 else 3
     rows = [json.dumps(one._asdict()) for one in findings(said)]
-    write_out("[" + "".join(f"{',' if k else ''}\n {row}" for k, row in enumerate(rows)) + ("\n]\n" if rows else "]\n"))
+    write_out("[" + "".join(f"{',' if k else ''}\n {row}" for k, row in enumerate(rows))
+              + ("\n]\n" if rows else "]\n"))
     return done.returncode
 
 
@@ -115,7 +119,8 @@ def print_help(program: str, words: Sequence[str]) -> int:
 
 
 def main(program: str, words: Sequence[str]) -> int:
-    """Does what some words ask for; gives the status, unless it becomes the program. In a clone it is the one that ./dnlab starts."""
+    """Does what some words ask for; gives the status, unless it becomes the program. In a clone it is the one
+    that ./dnlab starts."""
     try:
         if programs.is_repository():
             program = programs.program()
@@ -142,7 +147,8 @@ def main(program: str, words: Sequence[str]) -> int:
 
 
 def start() -> NoReturn:
-    """Runs the program with the arguments of this process. This is the script `dnlab` of an installed package."""
+    """Runs the program with the arguments of this process. This is the script `dnlab` of an installed
+    package."""
     try:
         sys.exit(main(programs.carried() or programs.program(), sys.argv[1:]))
     except ProgramError as failed:

@@ -12,7 +12,8 @@ from dnlab.errors import ParseError, ProgramError, cause_of
 from dnlab.io.files import origin_of, unpacked, whole_file, with_name, write_beside
 from dnlab.io.scenario import Judged, read
 from dnlab.io.scenario_parts import MOST_BYTES, MOST_EXPERIMENTS, Plan
-from dnlab.io.scenario_text import Fault, Part, experiments_in, heading_fault, lines_in, repeated, shares, texts_of
+from dnlab.io.scenario_text import (Fault, Part, experiments_in, heading_fault, lines_in, repeated, shares,
+                                    texts_of)
 from dnlab.processes import subprocesses
 from dnlab.processes.process_pool import ProcessPool, Progress
 from dnlab.processes.subprocesses import TempDir
@@ -48,19 +49,25 @@ or write failed. If a signal ends it, the status is that signal's."""
 def parser_of_words() -> argparse.ArgumentParser:
     parser = parser_of("spread", __doc__ or "", EXAMPLE)
     parser.allow_abbrev = False
-    parser.add_argument("scenarios", metavar="SCENARIO", nargs="+", help="a scenario, or - for standard input")
+    parser.add_argument("scenarios", metavar="SCENARIO", nargs="+",
+                        help="a scenario, or - for standard input")
     parser.add_argument("--parts", type=int, default=16, metavar="N",
                         help="number of parts [16], at most the number of experiments")
     parser.add_argument("--jobs", type=int, metavar="J",
-                        help="parts to run at once: on each machine [its cores], or in the array [as Slurm grants]")
+                        help="parts to run at once: on each machine [its cores], or in the array "
+                             "[as Slurm grants]")
     engine = parser.add_mutually_exclusive_group()
-    engine.add_argument("--ssh", metavar="HOSTS", help="machines, in the form of parallel's --sshlogin: 4/alpha,beta")
+    engine.add_argument("--ssh", metavar="HOSTS",
+                        help="machines, in the form of parallel's --sshlogin: 4/alpha,beta")
     engine.add_argument("--slurm", action="store_true", help="run as a Slurm array; needs --out or --work")
     parser.add_argument("--program", metavar="PATH", help="path of dnlab on the other machines [as here]")
     parser.add_argument("--out", metavar="REPORT", help="the report's file [standard output]")
-    parser.add_argument("--work", metavar="FOLDER", help="folder for the parts [REPORT.parts, or a temporary one]")
-    parser.add_argument("--trace", action="store_true", help="trace all packets, which delays and queues need")
-    parser.add_argument("--format", choices=("text", "npy"), default="text", help="write lines (text), or rows for NumPy (npy, traced) [text]")
+    parser.add_argument("--work", metavar="FOLDER",
+                        help="folder for the parts [REPORT.parts, or a temporary one]")
+    parser.add_argument("--trace", action="store_true",
+                        help="trace all packets, which delays and queues need")
+    parser.add_argument("--format", choices=("text", "npy"), default="text",
+                        help="write lines (text), or rows for NumPy (npy, traced) [text]")
     parser.add_argument("--resume", action="store_true", help="reuse the finished parts in the folder")
     return parser
 
@@ -108,8 +115,8 @@ def text_of(name: str) -> bytes:
 
 
 def count_commands(program: str, text: bytes) -> "Fault | tuple[int, int]":
-    """Returns the number of experiments and commands, as counted by `dnlab check`, or the fault. Raises `RunFailedError` for any other
-    answer."""
+    """Returns the number of experiments and commands, as counted by `dnlab check`, or the fault. Raises
+    `RunFailedError` for any other answer."""
     done = subprocesses.run([program, "check"], text)
     said = done.said()
     number, _, cause = said[5:].partition(": ")
@@ -123,9 +130,10 @@ def count_commands(program: str, text: bytes) -> "Fault | tuple[int, int]":
     return int(fields[1]), int(fields[2])
 
 
-def check_text(program: str, text: bytes, parts: Sequence[Part], names: set[str]) -> "Fault | tuple[int, int]":
-    """Like `count_commands`, for a scenario of any length, which is checked in as many pieces as the program's limits require. An experiment
-    name that another file has is also a fault."""
+def check_text(program: str, text: bytes, parts: Sequence[Part],
+               names: set[str]) -> "Fault | tuple[int, int]":
+    """Like `count_commands`, for a scenario of any length, which is checked in as many pieces as the
+    program's limits require. An experiment name that another file has is also a fault."""
     if len(text) <= MOST_BYTES and len(parts) <= MOST_EXPERIMENTS:
         found = count_commands(program, text)
         return first_fault(found, repeated(parts, names))
@@ -159,7 +167,8 @@ def first_fault(found: "Fault | tuple[int, int]", again: Optional[Part]) -> "Fau
 
 
 def experiments_of(args: argparse.Namespace, program: str) -> list[Part]:
-    """Returns the experiments of all files. Raises `RunFailedError` with the line of a fault, after the file's name if there are several."""
+    """Returns the experiments of all files. Raises `RunFailedError` with the line of a fault, after the
+    file's name if there are several."""
     everything: list[Part] = []
     names: set[str] = set()
     for name in args.scenarios:
@@ -171,7 +180,9 @@ def experiments_of(args: argparse.Namespace, program: str) -> list[Part]:
             raise RunFailedError(1, said if len(args.scenarios) == 1 else f"{name}: {said}")
         own = len(parts), sum(part.commands for part in parts)
         if own != found:
-            raise RunFailedError(3, f"spread: {program} counts {found[0]} experiments and {found[1]} commands, but spread counts others\n")
+            raise RunFailedError(3,
+                                 f"spread: {program} counts {found[0]} experiments and {found[1]} commands, "
+                                 "but spread counts others\n")
         everything += parts
     return everything
 
@@ -187,7 +198,8 @@ def report_fault(whole: str, text: str) -> Optional[str]:
         for piece in pieces(whole, names=list(plans)):
             name = f"experiment {piece.name}"
             try:
-                # pieces() counts lines of the whole report, but the message has the line in one experiment; that of rows has the row.
+                # pieces() counts lines of the whole report, but the message has the line in one experiment;
+                # that of rows has the row.
                 View(piece.read(), plans[piece.name])
             except ParseError as refused:
                 if piece.line < 0:
@@ -199,7 +211,8 @@ def report_fault(whole: str, text: str) -> Optional[str]:
 
 
 def check_reports(how: RunOptions, jobs: Sequence[Job], folder: Path) -> None:
-    """Reads the reports of all parts as the other tools do. A report that cannot belong to its scenario is a failed part."""
+    """Reads the reports of all parts as the other tools do. A report that cannot belong to its scenario is a
+    failed part."""
     from dnlab.analysis.reports import cores
 
     wrong: dict[int, str] = {}
@@ -219,7 +232,8 @@ def check_reports(how: RunOptions, jobs: Sequence[Job], folder: Path) -> None:
 
 
 class Plans(Mapping[str, Plan]):
-    """The experiments of all files by name. Each is read on demand, because all of them together can take much memory."""
+    """The experiments of all files by name. Each is read on demand, because all of them together can take
+    much memory."""
 
     def __init__(self, parts: Sequence[Part]) -> None:
         self.texts = {part.name: part.text for part in parts}
@@ -238,8 +252,9 @@ def run_unfinished(how: RunOptions, program: str, jobs: Sequence[Job], folder: P
     """Runs the unfinished parts, and shows the progress."""
     progress: Optional[Progress] = None
     if how.work is not None:
-        subprocesses.set_message(lambda: f"{progress.done if progress else 0} of {len(jobs)} parts are kept in {folder}; the same command"
-                             " with --resume runs the others")
+        subprocesses.set_message(
+            lambda: f"{progress.done if progress else 0} of {len(jobs)} parts are kept in {folder}; the same "
+            "command with --resume runs the others")
     groups = run_parts(how, program, jobs, folder)
     # The first group was finished before, so it does not count for the estimated time.
     with Progress("spread", len(jobs), len(next(groups)), "parts") as progress:
@@ -248,7 +263,8 @@ def run_unfinished(how: RunOptions, program: str, jobs: Sequence[Job], folder: P
 
 
 def spread(args: argparse.Namespace, named: Optional[str] = None) -> None:
-    """Runs the scenarios in parts, with the named program or that of `dnlab.programs.program`. Raises `RunFailedError` if it fails."""
+    """Runs the scenarios in parts, with the named program or that of `dnlab.programs.program`. Raises
+    `RunFailedError` if it fails."""
     try:
         program = named or program_of()
     except ProgramError as failed:
@@ -257,12 +273,14 @@ def spread(args: argparse.Namespace, named: Optional[str] = None) -> None:
         how, everything = options_of(args), experiments_of(args, program)
     with TempDir() as passing:
         folder = Path(args.work or passing.path).absolute()
-        jobs = [Job(folder, number, [part.name for part in share], b"".join(part.text for part in share), args.format == "npy")
+        jobs = [Job(folder, number, [part.name for part in share], b"".join(part.text for part in share),
+                    args.format == "npy")
                 for number, share in enumerate(shares(everything, args.parts), 1)]
         with with_name(folder):
             run_unfinished(how, program, jobs, folder)
             check_reports(how, jobs, folder)
-        made = origin_of(Plans(everything), program, ["dnlab-spread", *args.given]) if args.out is not None else None
+        made = (origin_of(Plans(everything), program, ["dnlab-spread", *args.given])
+                if args.out is not None else None)
         if made is not None and (args.ssh or args.slurm):
             # Of a program on other machines only the command line is known.
             made = made._replace(program="", version="")

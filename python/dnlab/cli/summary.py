@@ -11,8 +11,8 @@ from dnlab.analysis.metrics import PERCENTILES, Row, Span, columns_of, times_of
 from dnlab.analysis.names import names_of, with_names
 from dnlab.analysis.quantities import FOR_PEOPLE, Percentile
 from dnlab.analysis.reports import Inputs, plans_of
-from dnlab.cli.arguments import (add_names, add_of, add_percentiles, add_span, add_texts, add_workers, checked_span, parse_files,
-                                 parser_of, time_of, words_in)
+from dnlab.cli.arguments import (add_names, add_of, add_percentiles, add_span, add_texts, add_workers,
+                                 checked_span, parse_files, parser_of, time_of, words_in)
 from dnlab.errors import Note
 from dnlab.io.scenario_parts import DROP_CAUSES
 from dnlab.programs import say
@@ -63,7 +63,8 @@ def ended_of(row: Row, exact: bool) -> str:
 
 
 def lines_of(cells: Sequence[Sequence[str]], left: Sequence[int]) -> str:
-    """Returns cells as lines of text, the first the heading. Columns in `left` are left-aligned, the others right-aligned."""
+    """Returns cells as lines of text, the first the heading. Columns in `left` are left-aligned, the others
+    right-aligned."""
     widths = [max(len(line[place]) for line in cells) for place in range(len(cells[0]))]
     lines = []
     for line in cells:
@@ -74,20 +75,20 @@ def lines_of(cells: Sequence[Sequence[str]], left: Sequence[int]) -> str:
 
 
 def table(rows: Sequence[Row], percentiles: Sequence[Percentile] = PERCENTILES, exact: bool = False) -> str:
-    """Returns the rows of a summary as a table. Times are in ms; fractions have three decimals unless `exact`; all drops share one
-    column."""
+    """Returns the rows of a summary as a table. Times are in ms; fractions have three decimals unless
+    `exact`; all drops share one column."""
     times = times_of(percentiles)
-    names = ["experiment", "sender", *_COUNTS, "time", "rate", "drops", *times, "goodput", "retransmissions", "fct", "jain", "ended",
-             "warnings"]
+    names = ["experiment", "sender", *_COUNTS, "time", "rate", "drops", *times, "goodput", "retransmissions",
+             "fct", "jain", "ended", "warnings"]
     cells = [[heading(name) for name in names]]
     for row in rows:
-        cells.append([row["experiment"], row["sender"],
-                      *(plain(row[name]) for name in _COUNTS),
+        cells.append([row["experiment"], row["sender"], *(plain(row[name]) for name in _COUNTS),
                       milliseconds(row["time"], exact), plain(row["rate"]), loss_of(row),
-                      *(milliseconds(row[name], exact) for name in times), plain(row["goodput"]), plain(row["retransmissions"]),
-                      milliseconds(row["fct"], exact), plain(row["jain"], exact), ended_of(row, exact),
-                      row["warnings"] or "-"])
-    return lines_of(cells, [names.index(name) for name in ("experiment", "sender", "drops", "ended", "warnings")])
+                      *(milliseconds(row[name], exact) for name in times), plain(row["goodput"]),
+                      plain(row["retransmissions"]), milliseconds(row["fct"], exact),
+                      plain(row["jain"], exact), ended_of(row, exact), row["warnings"] or "-"])
+    return lines_of(cells,
+                    [names.index(name) for name in ("experiment", "sender", "drops", "ended", "warnings")])
 
 
 def heading(name: str) -> str:
@@ -107,16 +108,19 @@ def _shown(name: str, value: object, exact: bool) -> str:
 
 
 def bare_table(rows: Sequence[Row], exact: bool = False) -> str:
-    """Returns any rows with their own column names; times, and means of times, are in ms and rounded as in `table`."""
+    """Returns any rows with their own column names; times, and means of times, are in ms and rounded as in
+    `table`."""
     names = list(rows[0])
-    cells = [[heading(name) for name in names], *([_shown(name, row[name], exact) for name in names] for row in rows)]
+    cells = [[heading(name) for name in names],
+             *([_shown(name, row[name], exact) for name in names] for row in rows)]
     texts = [place for place, name in enumerate(names) if all(isinstance(row[name], str) for row in rows)]
     return lines_of(cells, texts)
 
 
 def estimated(row: Row, exact: bool = False) -> str:
-    """Returns a mean with its confidence interval, in units for people: two significant digits of the interval's half-width, or nine
-    decimals if `exact`. Bootstrap intervals are shown by their ends, since they are not symmetric about the mean.
+    """Returns a mean with its confidence interval, in units for people: two significant digits of the
+    interval's half-width, or nine decimals if `exact`. Bootstrap intervals are shown by their ends, since
+    they are not symmetric about the mean.
 
     >>> row = {"unit": "ns", "mean": 31270001.0, "low": 31190001.0, "high": 31350001.0, "method": "t"}
     >>> estimated(row), estimated(row, exact=True)
@@ -139,8 +143,8 @@ def estimated(row: Row, exact: bool = False) -> str:
 
 
 def sweep_table(rows: Sequence[Row], settings: Sequence[str], exact: bool = False) -> str:
-    """Returns the rows of a sweep as a table: one line per setting, one column per sender and statistic, times in ms. Warnings are
-    at the end of their line."""
+    """Returns the rows of a sweep as a table: one line per setting, one column per sender and statistic,
+    times in ms. Warnings are at the end of their line."""
     columns = {(row["sender"], row["stat"]): FOR_PEOPLE.get(row["unit"], (row["unit"], 1))[0] for row in rows}
     lines: dict[tuple[str, ...], dict[tuple[str, str], str]] = {}
     marks: dict[tuple[str, ...], dict[str, None]] = {}
@@ -153,7 +157,9 @@ def sweep_table(rows: Sequence[Row], settings: Sequence[str], exact: bool = Fals
     left = list(range(len(settings)))
     if any(marks.values()):
         left.append(len(names))
-        cells = [line + [words] for line, words in zip(cells, ("warnings", *(" ".join(own) or "-" for own in marks.values())))]
+        cells = [line + [words]
+                 for line, words in zip(cells,
+                                        ("warnings", *(" ".join(own) or "-" for own in marks.values())))]
     return lines_of(cells, left)
 
 
@@ -212,16 +218,19 @@ def words(given: Sequence[str]) -> argparse.Namespace:
     add_percentiles(parser)
     kind = parser.add_mutually_exclusive_group()
     kind.add_argument("--every", type=time_of, metavar="TIME",
-                      help="print what arrived in each interval of this length, as 100ms, 20us or 1s, instead of the summary")
-    kind.add_argument("--losses", action="store_true", help="print drops by sender, cause and pipe, instead of the summary")
+                      help="print what arrived in each interval of this length, as 100ms, 20us or 1s, "
+                           "instead of the summary")
+    kind.add_argument("--losses", action="store_true",
+                      help="print drops by sender, cause and pipe, instead of the summary")
     kind.add_argument("--by", type=words_in, default=[], metavar="COLUMN,..",
-                      help="group rows by `sender` and these columns (varied, params, experiment, seed ..): mean and half-"
-                      "width of the 95 %% interval (ci95)")
+                      help="group rows by `sender` and these columns (varied, params, experiment, seed ..): "
+                           "mean and half-width of the 95 %% interval (ci95)")
     parser.add_argument("--columns", type=words_in, default=[], metavar="COLUMN,..",
-                        help="only these columns, after experiment and sender; with --by: the columns whose means are printed"
-                        " [the one-way delays and goodput]")
+                        help="only these columns, after experiment and sender; with --by: the columns whose "
+                             "means are printed [the one-way delays and goodput]")
     add_span(parser)
-    parser.add_argument("--exact", action="store_true", help="print all digits of times and fractions [three decimals]")
+    parser.add_argument("--exact", action="store_true",
+                        help="print all digits of times and fractions [three decimals]")
     add_workers(parser)
     form = parser.add_mutually_exclusive_group()
     form.add_argument("--csv", action="store_true", help="print CSV, with a heading")
@@ -260,8 +269,8 @@ def main(words_given: Sequence[str]) -> int:
     notes: list[tuple[str, Note]] = []
     total = 0
     plans = with_names(plans_of(given.scenarios), names_of(given.names), given.experiment)
-    for one in summed(Inputs(given.report, tuple(given.scenarios)), plans, given.experiment, given.percentiles,
-                      given.of, kind, given.every or 0, given.workers, span):
+    for one in summed(Inputs(given.report, tuple(given.scenarios)), plans, given.experiment,
+                      given.percentiles, given.of, kind, given.every or 0, given.workers, span):
         rows += one.rows
         notes += [(one.name, note) for note in one.notes]
         total += 1
@@ -270,7 +279,8 @@ def main(words_given: Sequence[str]) -> int:
     elif given.columns:
         rows = [{name: row[name] for name in ("experiment", "sender", *given.columns)} for row in rows]
     is_chosen = bool(given.by or given.columns)
-    names = columns_of(given.percentiles, span) if kind == "summary" and not is_chosen else list(rows[0]) if rows else []
+    names = (columns_of(given.percentiles, span) if kind == "summary" and not is_chosen else list(rows[0])
+             if rows else [])
     if given.csv:
         print_csv(rows, names, sys.stdout)
     elif given.json:
@@ -281,5 +291,7 @@ def main(words_given: Sequence[str]) -> int:
         sys.stdout.write(bare_table(rows, given.exact))
     tell("summary", notes, total)
     if not total:
-        say("summary", f"{given.report}: it is empty, and has no experiment: was the scenario empty, or all in comments?")
+        say("summary",
+            f"{given.report}: it is empty, and has no experiment: was the scenario empty, or "
+            "all in comments?")
     return 0

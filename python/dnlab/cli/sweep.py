@@ -26,9 +26,12 @@ if TYPE_CHECKING:
 
 def check_packages(given: argparse.Namespace) -> None:
     """Raises `ResourceError` if a package that a requested file needs is missing."""
-    is_parquet = given.parquet is not None or any(str(name).endswith(".parquet") for name in (given.each, given.long))
+    is_parquet = (given.parquet is not None
+                  or any(str(name).endswith(".parquet") for name in (given.each, given.long)))
     if is_parquet and importlib.util.find_spec("pyarrow") is None:
-        raise ResourceError("pyarrow is missing, so Parquet can't be written (pip install pyarrow); --csv and --json work without it")
+        raise ResourceError(
+            "pyarrow is missing, so Parquet can't be written (pip install pyarrow); --csv and --json "
+            "work without it")
     if given.plot is not None and importlib.util.find_spec("matplotlib") is None:
         raise ResourceError("matplotlib is missing (Debian: apt-get install python3-matplotlib)")
 
@@ -42,9 +45,11 @@ def records_of(frame: pd.DataFrame) -> list[dict[str, Any]]:
 
 
 def write(frame: pd.DataFrame, name: str, form: str, settings: Sequence[str] = ()) -> None:
-    """Writes a table to a file, completely or not at all; - is standard output. In CSV, settings are written as they were given."""
+    """Writes a table to a file, completely or not at all; - is standard output. In CSV, settings are written
+    as they were given."""
     if form == "csv":
-        frame = frame.assign(**{one: [as_written(value) for value in frame[one]] for one in settings}).astype(dict.fromkeys(settings, object))
+        frame = frame.assign(**{one: [as_written(value) for value in frame[one]]
+                                for one in settings}).astype(dict.fromkeys(settings, object))
     if name == "-":
         (print_json(records_of(frame), sys.stdout) if form == "json"
          else print_csv(records_of(frame), list(frame.columns), sys.stdout))
@@ -85,18 +90,20 @@ def write_all(made: Sweep, table: pd.DataFrame, given: argparse.Namespace) -> No
         from dnlab.plot import curves, style
 
         look = look_of(given, made.setting_labels())
-        figure = curves.figure_of(table, made.settings, look, made.long() if look.kind in ("ecdf", "box") else None)
+        figure = curves.figure_of(table, made.settings, look,
+                                  made.long() if look.kind in ("ecdf", "box") else None)
         with writing(given.plot):
             style.save(figure, given.plot)
 
 
 def differences_table(made: Sweep, given: argparse.Namespace) -> str:
-    """Returns how the values of a setting differ, as a table with a line for each value and each combination of the other
-    settings."""
+    """Returns how the values of a setting differ, as a table with a line for each value and each combination
+    of the other settings."""
     along, base = pair_in(given.pairs)
     rows = records_of(made.compare(along, base, given.ci, given.interval))
     others = [name for name in made.settings if name != along]
-    return sweep_table([{**row, along: f"{plain(row[along])} - {plain(row['base'])}"} for row in rows], [*others, along],
+    return sweep_table([{**row, along: f"{plain(row[along])} - {plain(row['base'])}"} for row in rows],
+                       [*others, along],
                        given.exact)
 
 
@@ -109,13 +116,16 @@ def print_seeds_needed(made: Sweep, table: pd.DataFrame, within: float) -> None:
     if len(short):
         worst = short.loc[short["needed"].astype(float).idxmax()]
         of = ", ".join([str(worst["sender"]), *(f"{name}={worst[name]}" for name in made.settings)])
-        say("sweep", f"--within {within:.3g}: {len(short)} of {len(table)} means need more than the {seeds} seeds of this sweep; the"
-              f" most, {worst['needed']}, {worst['stat']} of {of}")
+        say("sweep",
+            f"--within {within:.3g}: {len(short)} of {len(table)} means need more than the {seeds} seeds of "
+            f"this sweep; the most, {worst['needed']}, {worst['stat']} of {of}")
     else:
-        say("sweep", f"--within {within:.3g}: {seeds} seeds are enough for {len(known)} of {len(table)} means")
+        say("sweep",
+            f"--within {within:.3g}: {seeds} seeds are enough for {len(known)} of {len(table)} means")
     if untold:
-        say("sweep", f"--within {within:.3g}: the number of seeds is unknown for {untold} of {len(table)} means: they have a value under"
-              " fewer than two seeds, are 0, or need more than 10^6 seeds")
+        say("sweep",
+            f"--within {within:.3g}: the number of seeds is unknown for {untold} of {len(table)} means: they "
+            "have a value under fewer than two seeds, are 0, or need more than 10^6 seeds")
 
 
 def print_notes(made: Sweep, table: pd.DataFrame) -> None:
@@ -130,11 +140,14 @@ def print_notes(made: Sweep, table: pd.DataFrame) -> None:
         first, others = fewer[0], len(fewer) - 1
         of = ", ".join(f"{name}={plain(first[name])}" for name in made.settings)
         more = f"; {others} more means lack values" if others > 1 else "; one more mean lacks values" * others
-        say("sweep", f"{first['stat']} of {first['sender']} has no value in {seeds - first['n']} of {seeds} experiments with {of}{more}")
+        say("sweep",
+            f"{first['stat']} of {first['sender']} has no value in {seeds - first['n']} of {seeds} "
+            f"experiments with {of}{more}")
     for said in filter(None, [made.changeless(), *hints_of(rows, made.settings)]):
         say("sweep", said)
     if made.kept.damaged:
-        say("sweep", f"{made.kept.damaged} results in {made.kept.path} were damaged; these experiments were run again")
+        say("sweep",
+            f"{made.kept.damaged} results in {made.kept.path} were damaged; these experiments were run again")
     kept = f"{len(made.cases) - made.ran} were kept" + (f" in {made.kept.path}" if made.kept.path else "")
     say("sweep", f"{len(made.cases)} experiments: {made.ran} were run, {kept}")
 
@@ -148,13 +161,14 @@ def sweep_of(given: argparse.Namespace) -> tuple[Sweep, str | None]:
     if is_of_programs(given):
         from dnlab.sweeps.backends import ProgramSweep
 
-        return ProgramSweep(given.run or given.template, dict(given.set), given.seeds, asks, given.run is not None,
-                            given.workers, given.allow, span), None
+        return ProgramSweep(given.run or given.template, dict(given.set), given.seeds, asks,
+                            given.run is not None, given.workers, given.allow, span), None
     source: Any = given.template
     kept = given.kept if given.kept is not None else f"{source}.kept"
     if source == "-":
         source, kept = sys.stdin.read() + "\n", given.kept
-    return Sweep(source, dict(given.set), given.seeds, asks, None if given.dry_run else kept, given.workers, given.on, given.program,
+    return Sweep(source, dict(given.set), given.seeds, asks, None if given.dry_run else kept, given.workers,
+                 given.on, given.program,
                  anew=given.anew, allow=given.allow, parts=given.parts, span=span), kept
 
 
@@ -171,7 +185,8 @@ def check_options(given: argparse.Namespace, made: Sweep) -> None:
                      [(ask.of, stat) for ask in made.asks for stat in ask.stats], look_of(given))
     if given.pairs is not None:
         along, base = pair_in(given.pairs)
-        compared(pd.DataFrame([{**case.settings, "sender": "", "seed": case.seed, "warnings": ""} for case in made.cases]),
+        compared(pd.DataFrame([{**case.settings, "sender": "", "seed": case.seed, "warnings": ""}
+                               for case in made.cases]),
                  made.settings, [], along, base)
 
 
@@ -201,8 +216,10 @@ def progress_text(made: Sweep, kept: str | None) -> str:
     """Returns how many experiments are done, and where their results are."""
     done = f"{len(made.found)} of {len(made.cases)} experiments"
     if any(isinstance(stat, CustomStat) for stat in made.stats()):
-        return f"{done} were done; results of your own functions are not kept, so the same command starts again"
-    return f"{done} are kept in {kept}; the same command continues" if kept is not None else f"{done} were done; none is kept"
+        return (f"{done} were done; results of your own functions are not kept, so the same "
+                "command starts again")
+    return (f"{done} are kept in {kept}; the same command continues" if kept is not None
+            else f"{done} were done; none is kept")
 
 
 def main(words_given: Sequence[str]) -> int:

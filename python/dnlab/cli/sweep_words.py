@@ -6,8 +6,8 @@ from typing import Any, Mapping, Optional, Sequence
 from dnlab.analysis.quantities import KINDS
 from dnlab.errors import STOPPING
 from dnlab.analysis.statistics import STATS, USUAL, StatRequest, stats_of
-from dnlab.cli.arguments import (Parser, add_design, add_span, add_workers, checked, checked_span, count_of, design_of,
-                                 is_designed, listed, parser_of, picture, words_in)
+from dnlab.cli.arguments import (Parser, add_design, add_span, add_workers, checked, checked_span, count_of,
+                                 design_of, is_designed, listed, parser_of, picture, words_in)
 from dnlab.sweeps.engines import DASK
 from dnlab.sweeps.grid import seeds_of, setting_of, value_of
 
@@ -110,12 +110,16 @@ PICTURES = ("means", "tradeoff", "ecdf", "box")
 
 def add_look(parser: argparse.ArgumentParser) -> None:
     """Adds the options for the picture and its layout."""
-    parser.add_argument("--plot", type=picture, metavar="FILE", help="the picture to write, .svg, .png or .pdf")
+    parser.add_argument("--plot", type=picture, metavar="FILE",
+                        help="the picture to write, .svg, .png or .pdf")
     parser.add_argument("--kind", choices=PICTURES, default="means",
-                        help="what it shows: means with their intervals over a setting, one statistic against another,"
-                        " or the distribution of the values of the seeds (ECDF, box plot) [means]")
-    parser.add_argument("--along", metavar="NAME", help="the setting on the horizontal axis [the first with several values]")
-    parser.add_argument("--rows", metavar="NAME", help="a row of panels for each value of this setting [one row for each statistic]")
+                        help="what it shows: means with their intervals over a setting, one statistic "
+                             "against another, or the distribution of the values of the seeds (ECDF, "
+                             "box plot) [means]")
+    parser.add_argument("--along", metavar="NAME",
+                        help="the setting on the horizontal axis [the first with several values]")
+    parser.add_argument("--rows", metavar="NAME",
+                        help="a row of panels for each value of this setting [one row for each statistic]")
     parser.add_argument("--columns", metavar="NAME", help="a column of panels for each value of this setting")
     parser.add_argument("--log", type=words_in, default=[], metavar="x,y", help="logarithmic axes")
     add_design(parser, "a setting, a value of it (queue:codel=CoDel), a statistic or a sender")
@@ -126,40 +130,33 @@ def look_of(given: argparse.Namespace, known: Mapping[str, str] = {}) -> Any:
     from dnlab.plot.style import Look
 
     made = design_of(given)
-    return Look(made.title, {**known, **made.labels}, made.size, made.font, made.style, made.legend, given.along, given.rows,
-                given.columns, given.log, given.kind)
+    return Look(made.title, {**known, **made.labels}, made.size, made.font, made.style, made.legend,
+                given.along, given.rows, given.columns, given.log, given.kind)
 
 
 def parser_of_words() -> Parser:
     parser = parser_of("sweep", ABOUT, EXAMPLE)
     parser.add_argument("template", metavar="TEMPLATE", nargs="?",
-                        help="the template's file, or - for standard input; FILE.yaml is a hosts file (see tools/hosts)")
-    parser.add_argument("--run", metavar="COMMAND", help="instead of TEMPLATE: a command line with {{ settings }} that"
-                        " leaves transcript.txt and report.txt in its current folder")
-    parser.add_argument("--set", action="append", default=[], type=checked(setting_of), metavar="NAME=VALUE,..",
+                        help="the template's file, or - for standard input; FILE.yaml is a hosts file "
+                             "(see tools/hosts)")
+    parser.add_argument("--run", metavar="COMMAND",
+                        help="instead of TEMPLATE: a command line with {{ settings }} that leaves "
+                             "transcript.txt and report.txt in its current folder")
+    parser.add_argument("--set", action="append", default=[], type=checked(setting_of),
+                        metavar="NAME=VALUE,..",
                         help="a setting and its values (repeatable; all combinations are run)")
     parser.add_argument("--seeds", type=checked(seeds_of), default=[1], metavar="A-B,C",
                         help="the seeds to run each setting with [1]")
-    parser.add_argument("--of", action=Asked, dest="asks", default=[], metavar="NAME", help="the sender or pipe to measure (repeatable)")
+    parser.add_argument("--of", action=Asked, dest="asks", default=[], metavar="NAME",
+                        help="the sender or pipe to measure (repeatable)")
     parser.add_argument("--stat", action=Asked, dest="asks", type=checked(stats_of), metavar="STAT,..",
                         help="the statistics of the --of before it")
     parser.offered["--stat"] = STATS
     add_span(parser)
-    parser.add_argument("--ci", type=level_of, default=95, metavar="LEVEL", help="confidence level of the intervals, in percent [95]")
-    parser.add_argument("--interval", choices=KINDS, default="t",
-                        help="Student's t, or the bootstrap for values that are far from normal [t]")
-    parser.add_argument("--exact", action="store_true",
-                        help="print means and intervals with nine decimals [two digits of the interval's half-width]")
-    for form, more in ("csv", ", or - for standard output"), ("json", ", or - too"), ("parquet", " (it needs pyarrow)"):
-        parser.add_argument(f"--{form}", metavar="FILE", help=f"the table, with one row per setting, sender and statistic{more}")
-    parser.add_argument("--each", metavar="FILE", help="one row per experiment and sender, as .csv, .json or .parquet")
-    parser.add_argument("--long", metavar="FILE", help="one row per experiment, sender and statistic, in the same formats")
-    parser.add_argument("--pairs", metavar="NAME[=VALUE]", help="compare the values of this setting with VALUE [the"
-                        " first], seed by seed, and print the differences with their intervals; --csv and the others have the means")
-    parser.add_argument("--within", type=share_of, metavar="PERCENT",
-                        help="estimate how many seeds you need for an interval of at most +-PERCENT of the mean, as 5%%")
+    _add_tables(parser)
     add_look(parser)
-    parser.add_argument("--dry-run", action="store_true", help="print the scenario of the first experiment, and run nothing")
+    parser.add_argument("--dry-run", action="store_true",
+                        help="print the scenario of the first experiment, and run nothing")
     parser.add_argument("--kept", metavar="FILE", help="the file that caches results [TEMPLATE.kept]")
     parser.add_argument("--anew", action="store_true", help="run all experiments again, whatever is cached")
     add_workers(parser, "all cores")
@@ -169,9 +166,35 @@ def parser_of_words() -> Parser:
     return parser
 
 
+def _add_tables(parser: Parser) -> None:
+    parser.add_argument("--ci", type=level_of, default=95, metavar="LEVEL",
+                        help="confidence level of the intervals, in percent [95]")
+    parser.add_argument("--interval", choices=KINDS, default="t",
+                        help="Student's t, or the bootstrap for values that are far from normal [t]")
+    parser.add_argument("--exact", action="store_true",
+                        help="print means and intervals with nine decimals [two digits of the "
+                             "interval's half-width]")
+    forms = ("csv", ", or - for standard output"), ("json", ", or - too"), ("parquet", " (it needs pyarrow)")
+    for form, more in forms:
+        parser.add_argument(f"--{form}", metavar="FILE",
+                            help=f"the table, with one row per setting, sender and statistic{more}")
+    parser.add_argument("--each", metavar="FILE",
+                        help="one row per experiment and sender, as .csv, .json or .parquet")
+    parser.add_argument("--long", metavar="FILE",
+                        help="one row per experiment, sender and statistic, in the same formats")
+    parser.add_argument("--pairs", metavar="NAME[=VALUE]",
+                        help="compare the values of this setting with VALUE [the first], seed by seed, and "
+                             "print the differences with their intervals; --csv and the others "
+                             "have the means")
+    parser.add_argument("--within", type=share_of, metavar="PERCENT",
+                        help="estimate how many seeds you need for an interval of at most +-PERCENT of "
+                             "the mean, as 5%%")
+
+
 def _add_others(parser: Parser) -> None:
-    parser.add_argument("--on", metavar="HOSTS", help="run on other machines, as 4/alpha,beta (see tools/spread --ssh),"
-                        " as an array of `slurm`, or with `dask ADDRESS`")
+    parser.add_argument("--on", metavar="HOSTS",
+                        help="run on other machines, as 4/alpha,beta (see tools/spread --ssh), as an array "
+                             "of `slurm`, or with `dask ADDRESS`")
     parser.add_argument("--program", metavar="PATH", help="path of dnlab on the other machines")
     parser.add_argument("--parts", type=count_of, metavar="N",
                         help="with --on: number of parts [parts of about a minute, with ssh 10 s]")
@@ -197,11 +220,15 @@ def is_of_programs(found: argparse.Namespace) -> bool:
 
 
 def check_source(parser: argparse.ArgumentParser, found: argparse.Namespace) -> None:
-    """Reports a usage error unless there is exactly one source, and for options that don't go with programs."""
+    """Reports a usage error unless there is exactly one source, and for options that don't go with
+    programs."""
     if (found.run is None) == (found.template is None):
-        parser.error("give TEMPLATE or --run COMMAND" if found.run is None else "--run COMMAND replaces TEMPLATE: leave one out")
+        parser.error("give TEMPLATE or --run COMMAND" if found.run is None
+                     else "--run COMMAND replaces TEMPLATE: leave one out")
     if is_of_programs(found) and (found.on or found.kept or found.anew):
-        parser.error("--on, --kept and --anew don't go with programs: they run on this machine, and their results are not cached")
+        parser.error(
+            "--on, --kept and --anew don't go with programs: they run on this machine, and their results "
+            "are not cached")
 
 
 def words(given: Sequence[str]) -> argparse.Namespace:
@@ -230,14 +257,17 @@ def words(given: Sequence[str]) -> argparse.Namespace:
         name = getattr(found, option)
         if name is not None and name.rsplit(".", 1)[-1] not in ("csv", "json", "parquet"):
             parser.error(f"--{option} {name}: the name must end in .csv, .json or .parquet")
-    if not found.plot and (found.along or found.rows or found.columns or found.log or found.kind != "means" or is_designed(found)):
-        parser.error("--kind, --along, --rows, --columns, --log, --title, --label, --size, --font, --style and --legend go with"
-                     " --plot")
+    if (not found.plot and (found.along or found.rows or found.columns or found.log or found.kind != "means"
+                            or is_designed(found))):
+        parser.error(
+            "--kind, --along, --rows, --columns, --log, --title, --label, --size, --font, --style and "
+            "--legend go with --plot")
     return found
 
 
 def pair_in(text: str) -> tuple[str, Any]:
-    """Returns the parts of `--pairs`: a setting, and the value that the others are compared with (None: the first).
+    """Returns the parts of `--pairs`: a setting, and the value that the others are compared with (None: the
+    first).
 
     >>> pair_in("queue=10"), pair_in("disc")
     (('queue', 10), ('disc', None))

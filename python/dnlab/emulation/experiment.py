@@ -1,4 +1,5 @@
-"""The parts of a hosts file: amounts, hosts, processes and settings; and the check of its network by the program."""
+"""The parts of a hosts file: amounts, hosts, processes and settings; and the check of its network by the
+program."""
 import datetime
 import hashlib
 import ipaddress
@@ -151,7 +152,8 @@ def words_of(text: str) -> list[str]:
 
 # Times are whole nanoseconds; moments count from time 0 of the scenario. Memory is in MiB.
 
-# 2027-01-01T00:00:00Z: certificates that machines have when this version is published must already be valid then.
+# 2027-01-01T00:00:00Z: certificates that machines have when this version is published must already be valid
+# then.
 START_DATE = 1798761600 * 10**9
 
 
@@ -217,9 +219,9 @@ class Settings:
     """What simulated time costs, and what the guest is: part of an experiment, as its seed is.
 
     `syscall_ns` and `clock_read_ns` are the costs of a system call and of a clock read. One in `reads` clock
-    reads is a system call. A poll without other work since the previous poll costs twice as much as that one, up to
-    2^(`polls` - 1) system calls; if `polls` is 0, all cost the same.
-    `limit_s` is the longest run in seconds of real time. `jitter_ns` bounds the random delay of each start.
+    reads is a system call. A poll without other work since the previous poll costs twice as much as that one,
+    up to 2^(`polls` - 1) system calls; if `polls` is 0, all cost the same. `limit_s` is the longest run in
+    seconds of real time. `jitter_ns` bounds the random delay of each start.
     """
     syscall_ns: int = 1000
     clock_read_ns: int = 0
@@ -275,9 +277,10 @@ class NetworkError(InputError):
 def check_network(experiment: Experiment) -> list[str]:
     """Returns warnings about lines of `network`, each with its line of the file.
 
-    Raises `NetworkError` with the file's line for the first line that is not a command or would be refused, and
-    `ProgramError` if `dnlab` cannot be started."""
-    done = subprocesses.run([program(), "check", "--explain"], experiment.scenario().encode("ascii", "replace"))
+    Raises `NetworkError` with the file's line for the first line that is not a command or would be refused,
+    and `ProgramError` if `dnlab` cannot be started."""
+    done = subprocesses.run([program(), "check", "--explain"],
+                            experiment.scenario().encode("ascii", "replace"))
     said = done.errors.decode(errors="replace")
     if done.status not in (0, 1):
         raise ProgramError(3, f"dnlab check ended with status {done.status}: {said.strip()}")

@@ -1,5 +1,6 @@
-"""Writes the plan for the guest, starts the guest, or the link process if the clock is `wall`, and ends it at a limit or a signal. A
-shell of a run has a terminal of its own: what you type goes to it, and what it writes is shown."""
+"""Writes the plan for the guest, starts the guest, or the link process if the clock is `wall`, and ends it at
+a limit or a signal. A shell of a run has a terminal of its own: what you type goes to it, and what it writes
+is shown."""
 import array
 import fcntl
 import os
@@ -113,8 +114,8 @@ def empty_folder(out: Path, is_forced: bool) -> None:
         if not is_forced:
             raise InputError(f"{out} is not empty; name another folder by --out, or overwrite it by --force")
         if not (out / PLAN).is_file():
-            raise InputError(f"{out} is not the folder of a run, so --force does not remove it; name another by"
-                         " --out")
+            raise InputError(
+                f"{out} is not the folder of a run, so --force does not remove it; name another by --out")
         for it in out.iterdir():
             shutil.rmtree(it) if it.is_dir() and not it.is_symlink() else it.unlink()
     out.mkdir(parents=True, exist_ok=True)
@@ -143,12 +144,14 @@ def run_simulated(experiment: Experiment, kernel: Kernel, out: Path, limit_s: in
 
 
 def run_by_wall_clock(kernel: Kernel, out: Path, limit_s: int, terminal: "Optional[Terminal]" = None) -> Ran:
-    """Runs the link process and the programs on this machine; if an ordinary user runs it, in a user namespace.
+    """Runs the link process and the programs on this machine; if an ordinary user runs it, in a user
+    namespace.
 
     A shell among the programs has a terminal."""
     if not os.access(_TUN, os.R_OK | os.W_OK):
-        raise ResourceError(f"{_TUN} cannot be opened, so there are no devices for the hosts: run as root, or type:"
-                      f" chmod 666 {_TUN}")
+        raise ResourceError(
+            f"{_TUN} cannot be opened, so there are no devices for the hosts: run as root, or type: "
+            f"chmod 666 {_TUN}")
     words = [str(kernel.file("link")), LINK, PLAN]
     if os.geteuid() != 0:
         words = ["unshare", "-Urm", *words]
@@ -238,7 +241,8 @@ def _cpu() -> Iterator[int]:
     time.sleep(0.03)
     idle = {cpu: ticks - before.get(cpu, ticks) for cpu, ticks in _idle().items()}
     allowed = sorted(os.sched_getaffinity(0), key=lambda cpu: (-idle.get(cpu, 0), cpu))
-    # A CPU is claimed by a socket's name, which the end of this process frees. A name that begins with a byte 0 is no file (unix(7)).
+    # A CPU is claimed by a socket's name, which the end of this process frees. A name that begins with a byte
+    # 0 is no file (unix(7)).
     with socket.socket(socket.AF_UNIX, socket.SOCK_DGRAM) as claim:
         for chosen in [*allowed, allowed[0]]:
             with suppress(OSError):

@@ -7,9 +7,9 @@ from functools import partial
 from pathlib import Path
 from typing import Callable, NamedTuple
 
-from dnlab.emulation.experiment import (
-    Ending, Experiment, Host, NetworkLine, Process, Settings, address_of, date_of, memory_of, positive_time_of, signal_of, time_of,
-    whole_number, words_of)
+from dnlab.emulation.experiment import (Ending, Experiment, Host, NetworkLine, Process, Settings, address_of,
+                                        date_of, memory_of, positive_time_of, signal_of, time_of,
+                                        whole_number, words_of)
 from dnlab.emulation.yaml_nodes import Value, root_of
 
 Found = dict[str, Value]
@@ -208,7 +208,8 @@ _OWN_FILES = ("transcript.txt", "report.txt", "summary.json")
 
 
 def read(path: Path) -> Experiment:
-    """Returns the experiment of a file. Raises `InputError` if it is faulty, `OSError` if it cannot be read."""
+    """Returns the experiment of a file. Raises `InputError` if it is faulty, `OSError` if it cannot be
+    read."""
     return experiment_of(path.read_bytes(), str(path), path.parent)
 
 

@@ -64,12 +64,14 @@ def _find_kernel() -> Kernel:
     if named:
         folder = Path(named)
         if not _is_whole(folder):
-            raise ResourceError(f"{folder}, which DNLAB_KERNEL names, has not {', '.join(FILES)}: name a folder that"
-                                " hosts/kernel/build has filled")
+            raise ResourceError(
+                f"{folder}, which DNLAB_KERNEL names, has not {', '.join(FILES)}: name a folder that "
+                "hosts/kernel/build has filled")
         return Kernel(folder.resolve(), hashlib.sha256((folder / "linux").read_bytes()).hexdigest(), None)
     if not BUILD.is_file():
-        raise ResourceError("the sources of the guest's kernel are not here: run tools/hosts of the repository, or"
-                      " name a folder with a built kernel by the environment variable DNLAB_KERNEL")
+        raise ResourceError(
+            "the sources of the guest's kernel are not here: run tools/hosts of the repository, or name a "
+            "folder with a built kernel by the environment variable DNLAB_KERNEL")
     cache = cache_folder()
     sources = _fingerprint()
     note = cache / f"at-{hashlib.sha256(str(ROOT).encode()).hexdigest()[:16]}.json"
@@ -156,7 +158,8 @@ def library_in(prefix: Path) -> tuple[Path, bool | None]:
     In the repository it is made below `prefix`; else it is the installed one, of which that is not known."""
     if not is_repository():
         if not any(place.is_file() for place in _ARCHIVES):
-            raise ResourceError(f"{_ARCHIVES[0]} is missing: install dnlab with its library for C (Debian: libdnlab-dev)")
+            raise ResourceError(
+                f"{_ARCHIVES[0]} is missing: install dnlab with its library for C (Debian: libdnlab-dev)")
         return _INSTALLED, None
     words = [str(ROOT / "tools" / "library"), str(prefix)]
     if subprocesses.run(words).status == 0:

@@ -1,4 +1,5 @@
-"""Runs hosts files: the guest, what its processes left, the comparison with `dnlab alone`, and the verdict; and a shell behind a link."""
+"""Runs hosts files: the guest, what its processes left, the comparison with `dnlab alone`, and the verdict;
+and a shell behind a link."""
 import itertools
 import json
 import os
@@ -8,7 +9,8 @@ from pathlib import Path
 from typing import Any, Iterator, NamedTuple, Optional
 
 from dnlab.emulation import guest
-from dnlab.emulation.experiment import Ending, Experiment, Host, NetworkLine, Process, NetworkError, check_network
+from dnlab.emulation.experiment import (Ending, Experiment, Host, NetworkLine, Process, NetworkError,
+                                        check_network)
 from dnlab.emulation.guest import Ran, Terminal, seconds_done
 from dnlab.emulation.kernel_cache import Kernel
 from dnlab.errors import DIFFERS, INPUT, MACHINE, InputError, ProgramError
@@ -171,8 +173,9 @@ def print_verdict(experiment: Experiment, ran: Ran, out: Path, options: Options)
         say("hosts", f"{describe_outcome(one, out)}")
     unsettled = known.get("spins_unsettled", 0)
     if unsettled:
-        say("hosts", f"programs that ran without a system call were interrupted {unsettled} times by real time:"
-              " another run may differ")
+        say("hosts",
+            f"programs that ran without a system call were interrupted {unsettled} times by real time: "
+            "another run may differ")
     is_late = options.clock == "wall" and _is_late(known, options)
     moment = max((one.end.moment for one in found if one.end), default=0)
     print(f"{options.name}: {moment / 1e9:.3f} s in {ran.wall_s:.2f} s; packets: {known.get('injected', 0)},"
@@ -218,8 +221,8 @@ _LIMIT_S = 10**6
 def experiment_of(link: str, shell: str, terminal: str) -> Experiment:
     """Returns an experiment for a shell on the host `client`, behind a link to the host `server`.
 
-    The link has these options of `pipe config` in each direction; raises `InputError` if they are invalid. The shell opens a
-    terminal by its name, which becomes its controlling terminal."""
+    The link has these options of `pipe config` in each direction; raises `InputError` if they are invalid.
+    The shell opens a terminal by its name, which becomes its controlling terminal."""
     lines = (f"pipe 1 config {link}", f"pipe 2 config {link}", "add 100 pipe 1 ip from 10.0.0.1 to any",
              "add 200 pipe 2 ip from any to 10.0.0.1")
     words = ("-c", 'exec "$0" < "$1" > "$1" 2>&1', shell, terminal)
@@ -260,7 +263,8 @@ def run(experiment: Experiment, kernel: Kernel, out: Path, options: Options) -> 
     # Why a host could not be set up as the file has it: a sysctl, a setup line, a user.
     refused = lines_in(out / guest.FAILED)
     if refused:
-        return _end(f"{experiment.file}: {refused[0]} (before time 0; see {options.name}/{guest.CONSOLE})", INPUT)
+        return _end(f"{experiment.file}: {refused[0]} (before time 0; see {options.name}/{guest.CONSOLE})",
+                    INPUT)
     broken = run_fault(experiment, ran, out, options)
     if broken:
         return _end(broken, MACHINE)

@@ -63,7 +63,8 @@ def ends_of(packet: Arrival) -> Ends:
 
 
 def received(path: Path, address: str) -> Iterator[Arrival]:
-    """Returns the packets of a capture that were delivered to an address. Raises `InputError` if it is not a capture."""
+    """Returns the packets of a capture that were delivered to an address. Raises `InputError` if it is not a
+    capture."""
     if not path.is_file():
         raise InputError(f"{path} is missing: name the folder of a run")
     return (packet for packet in arrivals.of_file(str(path), Omissions()) if packet.target == address)
@@ -132,8 +133,9 @@ def summary_of(folder: Path) -> dict[str, Any]:
         raise InputError(f"{folder}/{SUMMARY} is not there or is not a summary: name the folder of a run that"
                      " ended") from None
     if version != VERSION:
-        raise InputError(f"{folder}/{SUMMARY} is of version {version}, and this program reads version {VERSION}:"
-                     " run the file again")
+        raise InputError(
+            f"{folder}/{SUMMARY} is of version {version}, and this program reads version {VERSION}: run "
+            "the file again")
     return found
 
 
@@ -153,8 +155,8 @@ def rows(folder: Path) -> list[Row]:
 
 
 def _joined(folder: Path, names: dict[str, str]) -> tuple[View, dict[Ends, Pair]]:
-    """Joins the report with the transcript; packets are labelled by the number of their pair. Raises `InputError` if one of them is
-    incomplete."""
+    """Joins the report with the transcript; packets are labelled by the number of their pair. Raises
+    `InputError` if one of them is incomplete."""
     pairs: dict[Ends, Pair] = {}
     numbers: dict[Pair, str] = {}
     labels: dict[str, str] = {}

@@ -1,7 +1,7 @@
 """Reads YAML with the line of each value, so that every fault has one.
 
-An `InputError` begins with `FILE:LINE: `, the line counted from 1. The text of a value is taken as it is written:
-`no` is a word and `1:30` is not a number of seconds.
+An `InputError` begins with `FILE:LINE: `, the line counted from 1. The text of a value is taken as it is
+written: `no` is a word and `1:30` is not a number of seconds.
 """
 import difflib
 from dataclasses import dataclass
@@ -162,8 +162,9 @@ def root_of(file: str, text: bytes) -> Value:
                      " UTF-8") from None
     except yaml.reader.ReaderError as fault:
         line = text.decode()[:fault.position].count("\n") + 1
-        raise InputError(f"{file}:{line}: the character #x{_code(fault.character):04x} is not allowed in YAML;"
-                     " expected a text") from None
+        raise InputError(
+            f"{file}:{line}: the character #x{_code(fault.character):04x} is not allowed in YAML; "
+            "expected a text") from None
     except yaml.MarkedYAMLError as fault:
         mark = fault.problem_mark or fault.context_mark
         cause = " ".join(word for word in (fault.context, fault.problem) if word)
@@ -173,7 +174,8 @@ def root_of(file: str, text: bytes) -> Value:
                 else f" (begun on line {begun}); expected its end" if begun else "; expected YAML")
         raise InputError(f"{file}:{mark.line + 1 if mark else 1}: {cause}{hint}") from None
     except RecursionError:
-        raise InputError(f"{file}:1: values are nested too deeply; expected general, network and hosts") from None
+        raise InputError(
+            f"{file}:1: values are nested too deeply; expected general, network and hosts") from None
     if len(documents) != 1:
         line = documents[1].start_mark.line + 1 if documents else 1
         cause = "a second document begins" if documents else "the file is empty"

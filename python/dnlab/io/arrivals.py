@@ -1,7 +1,8 @@
-"""Arriving packets for a link: from a capture (pcap, pcapng; Debian: python3-dpkt) or a table of arrivals (CSV).
+"""Arriving packets for a link: from a capture (pcap, pcapng; Debian: python3-dpkt) or a table of arrivals
+(CSV).
 
-A link accepts TCP and UDP over IPv4, 40 to 1500 bytes. Other packets are left out and counted; shorter ones count as 40 bytes;
-longer ones are refused, cut or split, as requested.
+A link accepts TCP and UDP over IPv4, 40 to 1500 bytes. Other packets are left out and counted; shorter ones
+count as 40 bytes; longer ones are refused, cut or split, as requested.
 """
 import csv
 import heapq
@@ -26,12 +27,13 @@ _LINKS = {113: (14, 0x0800, 16), 276: (0, 0x0800, 20)}
 _COLUMNS = ("moment", "seconds", "size", "protocol", "source", "source_port", "target", "target_port")
 _NUMBERS = {6: "tcp", 17: "udp"}
 # How a capture begins: pcapng, and pcap in both orders of bytes.
-_NEW, _BIG, _LITTLE = b"\n\r\r\n", (b"\xa1\xb2\xc3\xd4", b"\xa1\xb2\x3c\x4d"), (b"\xd4\xc3\xb2\xa1", b"\x4d\x3c\xb2\xa1")
+_NEW, _BIG, _LITTLE = b"\n\r\r\n", (b"\xa1\xb2\xc3\xd4",
+                                    b"\xa1\xb2\x3c\x4d"), (b"\xd4\xc3\xb2\xa1", b"\x4d\x3c\xb2\xa1")
 
 
 class Arrival(NamedTuple):
-    """A packet: its time in ns (since 1970 in a capture), source and target, its size in bytes with the IP header, and its captured bytes:
-    from IP on, and the link header before it (both empty in a table)."""
+    """A packet: its time in ns (since 1970 in a capture), source and target, its size in bytes with the IP
+    header, and its captured bytes: from IP on, and the link header before it (both empty in a table)."""
     moment: int
     protocol: str
     source: str
@@ -65,14 +67,16 @@ class Omissions(Counter[str]):
 
 
 def of_file(path: str, left: Omissions) -> Iterator[Arrival]:
-    """Yields the packets of a capture or a table, in order of time. Raises `InputError` with the packet or line."""
+    """Yields the packets of a capture or a table, in order of time. Raises `InputError` with the packet or
+    line."""
     try:
         with reading(path), open(path, "rb") as file:
             magic = file.peek(4)[:4]
             if magic == _NEW or magic in _BIG + _LITTLE:
                 yield from _in_order(_captured(file, magic == _NEW, path, left), path)
             else:
-                yield from _in_order(_tabled(io.TextIOWrapper(file, encoding="utf-8", newline=""), path), path)
+                yield from _in_order(_tabled(io.TextIOWrapper(file, encoding="utf-8", newline=""), path),
+                                     path)
     except UnicodeDecodeError:
         raise InputError(f"{path}: it is neither a capture (pcap or pcapng) nor CSV") from None
 
@@ -94,8 +98,9 @@ def _in_order(arrivals: Iterator[Arrival], path: str) -> Iterator[Arrival]:
     last = 0
     for number, one in enumerate(arrivals, 1):
         if one.moment < last:
-            raise InputError(f"{path}: packet {number} came {last - one.moment} ns before the packet {_DISORDER} places earlier: sort"
-                         " it (a capture with reordercap)")
+            raise InputError(
+                f"{path}: packet {number} came {last - one.moment} ns before the packet {_DISORDER} places "
+                "earlier: sort it (a capture with reordercap)")
         heapq.heappush(waiting, (one.moment, number, one))
         if len(waiting) > _DISORDER:
             last, _, first = heapq.heappop(waiting)
@@ -105,7 +110,8 @@ def _in_order(arrivals: Iterator[Arrival], path: str) -> Iterator[Arrival]:
 
 
 class _Whole:
-    """A file for dpkt to read. A packet that is cut off raises an error, where dpkt would accept the rest as a packet."""
+    """A file for dpkt to read. A packet that is cut off raises an error, where dpkt would accept the rest as
+    a packet."""
 
     def __init__(self, file: BinaryIO, header: int) -> None:
         self._file, self._header = file, header
@@ -149,7 +155,9 @@ def _start(link: int, frame: bytes) -> Optional[int]:
         return 4
     if link in (12, 14, RAW, 228):
         return 0
-    raise ValueError(f"its link (number {link} of libpcap) is not supported: Ethernet, Linux cooked capture, loopback and raw IP are")
+    raise ValueError(
+        f"its link (number {link} of libpcap) is not supported: Ethernet, Linux cooked capture, loopback "
+        "and raw IP are")
 
 
 def _packet(moment: int, link: int, frame: bytes, left: Omissions) -> Optional[Arrival]:
@@ -166,19 +174,22 @@ def _packet(moment: int, link: int, frame: bytes, left: Omissions) -> Optional[A
     size = packet.len or len(kept)
     if size < LEAST:
         left[f"below {LEAST} bytes, sent as {LEAST}"] += 1
-    return Arrival(moment, protocol, socket.inet_ntoa(packet.src), packet.data.sport, socket.inet_ntoa(packet.dst), packet.data.dport,
-                   size, kept[:size], frame[:begin])
+    return Arrival(moment, protocol, socket.inet_ntoa(packet.src), packet.data.sport,
+                   socket.inet_ntoa(packet.dst), packet.data.dport, size, kept[:size], frame[:begin])
 
 
 def _tabled(text: TextIO, path: str) -> Iterator[Arrival]:
-    """Yields the packets of a table: `moment` (ns) or `seconds`, `size`, and optionally addresses and ports."""
+    """Yields the packets of a table: `moment` (ns) or `seconds`, `size`, and optionally addresses and
+    ports."""
     rows = csv.DictReader(text)
     names = [name.strip() for name in rows.fieldnames or ()]
     rows.fieldnames = names
     unknown = [name for name in names if name not in _COLUMNS]
     if unknown or "size" not in names or ("moment" in names) == ("seconds" in names):
-        raise InputError(f"{path}: line 1: the first line must name the columns: moment (ns) or seconds, size, and optionally protocol,"
-                     f" source, source_port, target, target_port{'; not ' + unknown[0] if unknown else ''}")
+        raise InputError(
+            f"{path}: line 1: the first line must name the columns: moment (ns) or seconds, size, and "
+            "optionally protocol, source, source_port, target, "
+            f"target_port{'; not ' + unknown[0] if unknown else ''}")
     try:
         row: "dict[str, str]" = {}
         for row in rows:
@@ -186,14 +197,16 @@ def _tabled(text: TextIO, path: str) -> Iterator[Arrival]:
     except csv.Error as fault:
         raise InputError(f"{path}: line {rows.line_num}: it is not CSV: {fault}") from None
     except (ValueError, ArithmeticError, OSError, TypeError, AttributeError):
-        raise InputError(f"{path}: line {rows.line_num}: {','.join(str(value) for value in row.values())[:80]!r} is not an arrival: expected a time,"
-                     " a size in bytes, numeric addresses, ports up to 65535") from None
+        raise InputError(
+            f"{path}: line {rows.line_num}: {','.join(str(value) for value in row.values())[:80]!r} is not "
+            "an arrival: expected a time, a size in bytes, numeric addresses, ports up to 65535") from None
 
 
 def _row(row: "dict[str, str]") -> Arrival:
     word = {name: value.strip() for name, value in row.items()}
     moment = Decimal(word["moment"]) if "moment" in word else Decimal(word["seconds"]) * 10**9
-    ports = [int(word.get(name, default)) for name, default in (("source_port", "1000"), ("target_port", "2000"))]
+    ports = [int(word.get(name, default))
+             for name, default in (("source_port", "1000"), ("target_port", "2000"))]
     ends = [word.get(name, default) for name, default in (("source", "10.0.0.1"), ("target", "10.0.1.1"))]
     # Compared before the conversion to an integer, which may have any number of digits.
     if not 0 <= moment <= _LATEST or moment != int(moment) or not all(0 <= port <= 65535 for port in ports):
@@ -208,7 +221,8 @@ def _row(row: "dict[str, str]") -> Arrival:
 
 
 def merged(files: Sequence[Iterable[Arrival]], align: bool) -> Iterator[Arrival]:
-    """Yields the packets of several files in order of time. With `align` each file starts at 0, else they share a clock."""
+    """Yields the packets of several files in order of time. With `align` each file starts at 0, else they
+    share a clock."""
     def aligned(arrivals: Iterable[Arrival]) -> Iterator[Arrival]:
         begin: Optional[int] = None
         for one in arrivals:
@@ -224,8 +238,9 @@ def fitting(arrivals: Iterable[Arrival], large: str, left: Omissions) -> Iterato
         if one.size <= MOST:
             yield one
         elif large == "refuse":
-            raise InputError(f"packet {number} has {one.size} bytes, but a link accepts {MOST}: --large cut shortens it, --large split"
-                         " makes several packets, as a network card does")
+            raise InputError(
+                f"packet {number} has {one.size} bytes, but a link accepts {MOST}: --large cut shortens it, "
+                "--large split makes several packets, as a network card does")
         elif large == "cut":
             left[f"cut to {MOST} bytes"] += 1
             yield one._replace(size=MOST, kept=_part(one.kept, MOST, 0, 0, True))
@@ -235,22 +250,25 @@ def fitting(arrivals: Iterable[Arrival], large: str, left: Omissions) -> Iterato
 
 
 def _split(one: Arrival) -> Iterator[Arrival]:
-    """Yields packets of at most 1500 bytes, each with the headers, which together have the packet's payload."""
+    """Yields packets of at most 1500 bytes, each with the headers, which together have the packet's
+    payload."""
     headers = 40 if one.protocol == "tcp" else 28
     if one.kept:
         begin = (one.kept[0] & 15) * 4
-        headers = begin + ((one.kept[begin + 12] >> 4) * 4 if one.protocol == "tcp" and len(one.kept) > begin + 12 else 8 if
+        headers = begin + ((one.kept[begin + 12] >> 4) * 4 if one.protocol == "tcp"
+                           and len(one.kept) > begin + 12 else 8 if
                            one.protocol == "udp" else 20)
     room, left = MOST - headers, one.size - headers
     for number, place in enumerate(range(0, left, room)):
         size = headers + min(room, left - place)
-        kept = one.kept[:headers] + one.kept[headers + place:headers + place + size - headers] if one.kept else b""
+        kept = (one.kept[:headers] + one.kept[headers + place:headers + place + size - headers]
+                if one.kept else b"")
         yield one._replace(size=size, kept=_part(kept, size, number, place, place + room >= left))
 
 
 def _part(kept: bytes, size: int, number: int, place: int, is_last: bool) -> bytes:
-    """Returns the captured bytes of a part of a packet: its length, identification and first byte are its own, and so is the IP checksum.
-    The inner checksum is 0, because not all bytes may have been captured."""
+    """Returns the captured bytes of a part of a packet: its length, identification and first byte are its
+    own, and so is the IP checksum. The inner checksum is 0, because not all bytes may have been captured."""
     if len(kept) < 20:
         return kept
     begin = (kept[0] & 15) * 4

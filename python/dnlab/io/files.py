@@ -1,4 +1,5 @@
-"""Files: input that may be gzip, output that gets its name once it is complete, and the record of what made a report."""
+"""Files: input that may be gzip, output that gets its name once it is complete, and the record of what made a
+report."""
 import errno
 import gzip
 import hashlib
@@ -27,7 +28,8 @@ GZIP = b"\x1f\x8b"
 
 @contextmanager
 def opened_gzip(source: Any) -> Iterator[Any]:
-    """Yields a binary stream that can `peek`, decompressed if it is gzip. Raises `ParseError` if its gzip is damaged or cut."""
+    """Yields a binary stream that can `peek`, decompressed if it is gzip. Raises `ParseError` if its gzip is
+    damaged or cut."""
     try:
         yield gzip.open(source) if source.peek(len(GZIP))[:len(GZIP)] == GZIP else source
     except (EOFError, zlib.error, gzip.BadGzipFile) as fault:
@@ -35,8 +37,8 @@ def opened_gzip(source: Any) -> Iterator[Any]:
 
 
 def unpacked(data: bytes, most: int = MOST_TEXT) -> bytes:
-    """Returns the data, decompressed if it is gzip. Raises `ParseError` if it is damaged, or decompresses to more than `most`
-    bytes.
+    """Returns the data, decompressed if it is gzip. Raises `ParseError` if it is damaged, or decompresses to
+    more than `most` bytes.
 
     >>> unpacked(gzip.compress(b"@0 end")), unpacked(b"@0 end")
     (b'@0 end', b'@0 end')
@@ -90,10 +92,12 @@ def with_name(name: Union[str, Path]) -> Iterator[None]:
 
 @contextmanager
 def whole_file(name: Union[str, Path]) -> Iterator[BinaryIO]:
-    """Opens a file for writing that gets its name at the end of the block; after an exception nothing is left.
+    """Opens a file for writing that gets its name at the end of the block; after an exception nothing is
+    left.
 
-    It has a random name in the same folder at first, and is created exclusively. A link of the final name is therefore replaced, and
-    its target is unchanged. Raises `OSError` if it can't be written, or if the name is that of a device or a folder."""
+    It has a random name in the same folder at first, and is created exclusively. A link of the final name is
+    therefore replaced, and its target is unchanged. Raises `OSError` if it can't be written, or if the name
+    is that of a device or a folder."""
     target = Path(name)
     with suppress(FileNotFoundError):
         if not stat.S_ISREG(os.stat(target).st_mode):
@@ -116,8 +120,8 @@ def whole_file(name: Union[str, Path]) -> Iterator[BinaryIO]:
             subprocesses.remove_chore(chore)
 
 
-# The scenario's checksum covers the names, seeds, budgets and commands of its experiments, in whatever files they are: comments,
-# spaces and the order of experiments don't matter.
+# The scenario's checksum covers the names, seeds, budgets and commands of its experiments, in whatever files
+# they are: comments, spaces and the order of experiments don't matter.
 
 # Identifies a file as such a record, and its format.
 _KEY, _FORM = "dnlab report", 1
@@ -125,8 +129,8 @@ _BLOCK = 1 << 20
 
 
 class Origin(NamedTuple):
-    """What made a report: SHA-256 of the scenario's experiments, of the program's file and of the report ('' if it wasn't stored), the
-    program's version output, and the command line."""
+    """What made a report: SHA-256 of the scenario's experiments, of the program's file and of the report (''
+    if it wasn't stored), the program's version output, and the command line."""
     scenario: str
     program: str
     version: str
@@ -139,7 +143,8 @@ def scenario_checksum(plans: Mapping[str, Plan]) -> str:
 
     >>> from dnlab.io.scenario import read
     >>> text = b"experiment a seed 0 budget 9\\n@0 show\\n@9 end\\n"
-    >>> scenario_checksum(read(text)) == scenario_checksum(read(b"# a word\\n" + text.replace(b"@0 show", b"@0  show")))
+    >>> other = b"# a word\\n" + text.replace(b"@0 show", b"@0  show")
+    >>> scenario_checksum(read(text)) == scenario_checksum(read(other))
     True
     """
     whole = hashlib.sha256()
@@ -162,16 +167,20 @@ def file_checksum(path: Union[str, Path]) -> str:
 def _version(program: str, changed: int) -> tuple[str, str]:
     """Returns the checksum of the program and its version output ('' if it has none)."""
     try:
-        done = subprocess.run([program, "--version"], stdin=subprocess.DEVNULL, capture_output=True, timeout=60, check=False)
+        done = subprocess.run([program, "--version"], stdin=subprocess.DEVNULL, capture_output=True,
+                              timeout=60, check=False)
         said = done.stdout.decode(errors="replace").strip() if done.returncode == 0 else ""
     except (OSError, subprocess.TimeoutExpired):
         said = ""
     return file_checksum(program), said.split("\n")[0][:200]
 
 
-def origin_of(plans: Mapping[str, Plan], program: str, command: Sequence[str], said: Optional[str] = None) -> Origin:
-    """Returns the record of a program's run on a scenario. For a library, which can't be started, `said` is its version."""
-    own, version = _version(program, os.stat(program).st_mtime_ns) if said is None else (file_checksum(program), said)
+def origin_of(plans: Mapping[str, Plan], program: str, command: Sequence[str],
+              said: Optional[str] = None) -> Origin:
+    """Returns the record of a program's run on a scenario. For a library, which can't be started, `said` is
+    its version."""
+    own, version = _version(program,
+                            os.stat(program).st_mtime_ns) if said is None else (file_checksum(program), said)
     return Origin(scenario_checksum(plans), own, version, tuple(command))
 
 
@@ -185,14 +194,16 @@ def beside(report: Union[str, Path]) -> Path:
 
 
 def write_beside(report: Union[str, Path], origin: Origin) -> None:
-    """Writes the record of a report next to it, completely or not at all. Raises `OSError`. The report must be complete."""
+    """Writes the record of a report next to it, completely or not at all. Raises `OSError`. The report must
+    be complete."""
     told = {_KEY: _FORM, **origin._replace(report=file_checksum(report))._asdict()}
     with whole_file(beside(report)) as file:
         file.write((json.dumps(told, indent=1) + "\n").encode())
 
 
 def read_beside(report: Union[str, Path]) -> Optional[Origin]:
-    """Returns the record of a stored report, or None if there is none, or the file of that name is something else."""
+    """Returns the record of a stored report, or None if there is none, or the file of that name is something
+    else."""
     path = beside(report)
     if not path.exists():
         return None
@@ -204,13 +215,18 @@ def read_beside(report: Union[str, Path]) -> Optional[Origin]:
     if not isinstance(told, dict) or told.get(_KEY) != _FORM:
         return None
     try:
-        return Origin(told["scenario"], told["program"], told["version"], tuple(told["command"]), told["report"])
+        return Origin(told["scenario"], told["program"], told["version"], tuple(told["command"]),
+                      told["report"])
     except (KeyError, TypeError):
-        raise InputError(f"{path}: it is not a valid record of what made {report}: remove it, or run the scenario again") from None
+        raise InputError(
+            f"{path}: it is not a valid record of what made {report}: remove it, or run the "
+            "scenario again") from None
 
 
-def check_beside(report: Union[str, Path], plans: Optional[Mapping[str, Plan]], scenario: str) -> Optional[Origin]:
-    """Returns the record of a report, if it has one. Raises `InputError` if the report or the scenario does not match it."""
+def check_beside(report: Union[str, Path], plans: Optional[Mapping[str, Plan]],
+                 scenario: str) -> Optional[Origin]:
+    """Returns the record of a report, if it has one. Raises `InputError` if the report or the scenario does
+    not match it."""
     origin = read_beside(report) if str(report) != "-" and os.path.isfile(report) else None
     if origin is None:
         return None
@@ -218,6 +234,7 @@ def check_beside(report: Union[str, Path], plans: Optional[Mapping[str, Plan]], 
         raise InputError(f"{report}: it does not match {beside(report)} (another checksum): it was changed or"
                      " written again; remove that file, or run the scenario again")
     if plans is not None and scenario_checksum(plans) != origin.scenario:
-        raise InputError(f"{scenario}: it is not the scenario of {report} ({beside(report)} has another checksum"
-                     f", made by {origin.version or 'the program'}): give that scenario, or run this one")
+        raise InputError(
+            f"{scenario}: it is not the scenario of {report} ({beside(report)} has another checksum, made by "
+            f"{origin.version or 'the program'}): give that scenario, or run this one")
     return origin

@@ -1,4 +1,5 @@
-"""Writes pipes and rules of a scenario for other emulators: what their exports share, and the script for ipfw(8)."""
+"""Writes pipes and rules of a scenario for other emulators: what their exports share, and the script for
+ipfw(8)."""
 import re
 from typing import Mapping, NamedTuple, Optional, Sequence
 
@@ -11,8 +12,8 @@ _UNSEEN = ("show", "trace", "end")
 
 
 class Rule(NamedTuple):
-    """A rule: its number, its action (`allow`, `deny`, `count`, `skipto`, `pipe`) with its argument (0 if it has none), the protocol, and
-    addresses and ports of source and destination ('' is any port)."""
+    """A rule: its number, its action (`allow`, `deny`, `count`, `skipto`, `pipe`) with its argument (0 if it
+    has none), the protocol, and addresses and ports of source and destination ('' is any port)."""
     number: int
     action: str
     value: int
@@ -54,7 +55,8 @@ class Setting(NamedTuple):
 
     def rules(self) -> list[Rule]:
         """Returns the rules in search order."""
-        return sorted((rule_of(one.text) for one in self.sets if one.word == "add"), key=lambda rule: rule.number)
+        return sorted((rule_of(one.text) for one in self.sets if one.word == "add"),
+                      key=lambda rule: rule.number)
 
     def pipes(self) -> dict[int, Config]:
         """Returns the last `config` of each pipe."""
@@ -66,8 +68,8 @@ class Setting(NamedTuple):
 
 
 def setting_of(plan: Plan, timed: bool) -> Setting:
-    """Returns the configuration of an experiment. Raises `InputError` for commands after its start, unless `timed`, and for deletions at
-    its start."""
+    """Returns the configuration of an experiment. Raises `InputError` for commands after its start, unless
+    `timed`, and for deletions at its start."""
     sets = [one for one in plan.commands if one.word not in (*_SENDS, *_UNSEEN) and one.text != "pipe show"]
     late = next((one for one in sets if one.moment > 0), None)
     if late is not None and not timed:
@@ -86,7 +88,8 @@ def chosen(plans: "dict[str, Plan]", name: Optional[str], file: str) -> Plan:
 
 
 def iperf_of(sends: Sequence[Command]) -> list[str]:
-    """Returns iperf3 commands for flows and UDP trains, as comments: one for the receiver and one for the sender of each."""
+    """Returns iperf3 commands for flows and UDP trains, as comments: one for the receiver and one for the
+    sender of each."""
     found = []
     for command in sends:
         one = command.sends
@@ -101,8 +104,9 @@ def iperf_of(sends: Sequence[Command]) -> list[str]:
             load = one.size - 28
             rate = load * 8 * 10**9 // one.gap if one.gap else 0
             how = f"-u -l {load} -b {rate} -n {load * one.count}"
-        found.append(f"# after {command.moment / 10**9:g} s, {one.name()}: on {one.target}: iperf3 -s -p {port}; on {one.source}: "
-                     f"iperf3 -c {one.target} -p {port} {how}")
+        found.append(
+            f"# after {command.moment / 10**9:g} s, {one.name()}: on {one.target}: iperf3 -s -p {port}; on "
+            f"{one.source}: iperf3 -c {one.target} -p {port} {how}")
     return found
 
 
@@ -127,11 +131,12 @@ class Machine(NamedTuple):
 def script_of(setting: Setting, machine: Machine, source: str, iperf: bool = False) -> str:
     """Returns the script. Raises `InputError` for what ipfw cannot express, with the line and what to do."""
     plan = setting.plan
-    lines = ["#!/bin/sh", f"# dnlab-to-ipfw: {printable(source)}, experiment {plan.name}", *_differs(setting), "kldload -n ipfw dummynet",
-             "ipfw -q -f flush", "ipfw -q -f pipe flush"]
+    lines = ["#!/bin/sh", f"# dnlab-to-ipfw: {printable(source)}, experiment {plan.name}", *_differs(setting),
+             "kldload -n ipfw dummynet", "ipfw -q -f flush", "ipfw -q -f pipe flush"]
     if not any(one.word == "one_pass" for one in setting.sets):
         lines.append("sysctl net.inet.ip.fw.one_pass=1")
-    slots = max((config_of(one.line, one.text).slots or 0 for one in setting.sets if one.pipe is not None), default=0)
+    slots = max((config_of(one.line, one.text).slots or 0 for one in setting.sets if one.pipe is not None),
+                default=0)
     if slots > _SLOTS:
         lines.append(f"sysctl net.inet.ip.dummynet.pipe_slot_limit={slots}")
     moment, has_default = 0, False
@@ -146,7 +151,8 @@ def script_of(setting: Setting, machine: Machine, source: str, iperf: bool = Fal
         lines.append(_line(command, machine))
     lines += [] if has_default else [_DEFAULT]
     sends = len(setting.sends)
-    lines.append(f"# {sends} commands that send were left out" + ("" if iperf or not sends else ": --iperf writes them for iperf3"))
+    lines.append(f"# {sends} commands that send were left out"
+                 + ("" if iperf or not sends else ": --iperf writes them for iperf3"))
     return "\n".join([*lines, *(iperf_of(setting.sends) if iperf else [])]) + "\n"
 
 
@@ -155,10 +161,14 @@ _DEFAULT = "ipfw -q add 65534 deny ip from any to any"
 
 def _differs(setting: Setting) -> list[str]:
     """Returns comments about what differs on the real machine."""
-    said = ["# It removes all existing rules and pipes (`-f flush`, `pipe flush`), and ends with `65534 deny ip from any to any`.",
-            "# Packets that match no rule are denied, as in the scenario, including your own login: incoming packets need a rule of their own.",
-            "# dummynet works in ticks of 1/kern.hz: times are whole ticks (sysctl kern.hz, 1000 by default).",
-            "# one_pass 1: a packet that leaves a pipe is accepted; on a router a packet passes the rules coming in and going out."]
+    said = ["# It removes all existing rules and pipes (`-f flush`, `pipe flush`), and ends with `65534 deny "
+            "ip from any to any`.",
+            "# Packets that match no rule are denied, as in the scenario, including your own login: incoming "
+            "packets need a rule of their own.",
+            "# dummynet works in ticks of 1/kern.hz: times are whole ticks (sysctl kern.hz, "
+            "1000 by default).",
+            "# one_pass 1: a packet that leaves a pipe is accepted; on a router a packet passes the rules "
+            "coming in and going out."]
     configs = setting.pipes().values()
     if any(one.plr for one in configs):
         said.append("# plr uses its own random numbers: as many losses on average, but other packets.")
@@ -197,26 +207,36 @@ def _pipe(command: Command, config: Config) -> str:
 def _rule(command: Command, rule: Rule, machine: Machine) -> str:
     if rule.action != "pipe" or machine.behind is None:
         return rule.text()
-    twice = f"line {command.line}: {command.text}: on a router this rule would act twice, on a packet coming in and going out:"
+    twice = (
+        f"line {command.line}: {command.text}: on a router this rule would act twice, on a packet coming in "
+        "and going out:")
     if rule.source == rule.target == "any":
-        raise InputError(f"{twice} no --if fits a rule whose addresses are `any`: narrow its source or destination, or use --host if"
-                     " the packets start or end there")
+        raise InputError(
+            f"{twice} no --if fits a rule whose addresses are `any`: narrow its source or destination, or "
+            "use --host if the packets start or end there")
     source, target = (_beyond(address, machine.behind) for address in (rule.source, rule.target))
     if source is not None and source == target:
-        raise InputError(f"{twice} both its ends are behind {source} by --if {source}={machine.behind[source]}, so it has no direction: name"
-                     " the addresses behind each interface, as --if em0=10.0.0.0/24 --if em1=10.0.1.0/24")
+        raise InputError(
+            f"{twice} both its ends are behind {source} by --if {source}={machine.behind[source]}, so it has "
+            "no direction: name the addresses behind each interface, as --if em0=10.0.0.0/24 --if "
+            "em1=10.0.1.0/24")
     if source is not None and rule.source != "any":
         return f"{rule.text()} in recv {source}"
     if target is not None and rule.target != "any":
         return f"{rule.text()} out xmit {target}"
-    raise InputError(f"{twice} name the addresses behind an interface, as --if em1=10.0.1.0/24, or use --host if the packets start or end there")
+    raise InputError(
+        f"{twice} name the addresses behind an interface, as --if em1=10.0.1.0/24, or use --host if the "
+        "packets start or end there")
 
 
 def _beyond(address: str, behind: Mapping[str, str]) -> Optional[str]:
-    """Returns the interface behind which an address is: the one with the longest prefix that contains it, or None.
+    """Returns the interface behind which an address is: the one with the longest prefix that contains it, or
+    None.
 
-    >>> _beyond("10.0.1.7", {"em0": "any", "em1": "10.0.1.0/24"}), _beyond("10.0.0.0/8", {"em1": "10.0.1.0/24"})
-    ('em1', None)
+    >>> _beyond("10.0.1.7", {"em0": "any", "em1": "10.0.1.0/24"})
+    'em1'
+    >>> _beyond("10.0.0.0/8", {"em1": "10.0.1.0/24"}) is None
+    True
     """
     holding = [name for name, prefix in behind.items() if network(address).subnet_of(network(prefix))]
     return max(holding, key=lambda name: network(behind[name]).prefixlen) if holding else None

@@ -7,7 +7,8 @@ from typing import Mapping, Optional, Sequence
 from dnlab.io import ipfw_rules, ipfw_script, ipfw_words
 from dnlab.io.ipfw_rules import Known
 from dnlab.io.ipfw_script import Line, Translation
-from dnlab.io.ipfw_words import APPROXIMATED, DROPPED, KINDS, REFUSED, REWRITTEN, SAME, How, Unmatchable, UnsupportedError
+from dnlab.io.ipfw_words import (APPROXIMATED, DROPPED, KINDS, REFUSED, REWRITTEN, SAME, How, Unmatchable,
+                                 UnsupportedError)
 
 _LAST = 65534
 _MOST_RULES, _MOST_PIPES = 256, 64
@@ -15,10 +16,11 @@ _TICKS = "not modelled: a real machine rounds to ticks of 1/kern.hz, here time i
 
 
 class Import:
-    """Translates lines one by one. `behind` are prefixes by interface, `me` the machine's address; `flatten` replaces queues by their
-    pipes; `drop_unmatchable` leaves out rules that match no packet of a scenario."""
+    """Translates lines one by one. `behind` are prefixes by interface, `me` the machine's address; `flatten`
+    replaces queues by their pipes; `drop_unmatchable` leaves out rules that match no packet of a scenario."""
 
-    def __init__(self, behind: Mapping[str, str], me: Optional[str] = None, flatten: bool = False, drop_unmatchable: bool = False,
+    def __init__(self, behind: Mapping[str, str], me: Optional[str] = None, flatten: bool = False,
+                 drop_unmatchable: bool = False,
                  moment: int = 0) -> None:
         self.behind, self.me = dict(behind), me
         self.flatten, self.drop_unmatchable = flatten, drop_unmatchable
@@ -34,14 +36,15 @@ class Import:
         self._around: set[int] = set()
         self._step = 100
         self._one_pass = True
-        # Pipes that a later line configures, and whether packets continue after a pipe although one_pass is 1 (for `prob ..
-        # deny`).
+        # Pipes that a later line configures, and whether packets continue after a pipe although one_pass is 1
+        # (for `prob .. deny`).
         self._later: set[int] = set()
         self._goes_on = False
         self._off: set[str] = set()
 
     def take_all(self, lines: Sequence[Line]) -> None:
-        """Translates all lines. Sets that are disabled anywhere, pipes and random denials are known from the beginning."""
+        """Translates all lines. Sets that are disabled anywhere, pipes and random denials are known from the
+        beginning."""
         bare = [line.bare() for line in lines]
         for words in bare:
             if words[:2] == ["set", "disable"]:
@@ -49,7 +52,8 @@ class Import:
             if words[:1] == ["pipe"] and "config" in words[1:3]:
                 self._later |= {int(word) for word in words[1:3] if word.isdigit()}
         zeros = (["net.inet.ip.fw.one_pass=0"], ["disable", "one_pass"])
-        self._goes_on = any(words[:1] == ["add"] and {"prob", "deny"} <= set(words) for words in bare) and not any(
+        self._goes_on = any(words[:1] == ["add"] and {"prob", "deny"} <= set(words)
+                            for words in bare) and not any(
             words[-len(zero):] == zero for words in bare for zero in zeros)
         for line in lines:
             self.take(line)
@@ -57,7 +61,8 @@ class Import:
     def take(self, line: Line) -> None:
         """Translates one line."""
         words = line.bare()
-        if line.words[0] == "sysctl" and not re.match(r"net\.inet\.ip\.(fw|dummynet)\.|kern\.hz", " ".join(words)):
+        if (line.words[0] == "sysctl"
+            and not re.match(r"net\.inet\.ip\.(fw|dummynet)\.|kern\.hz", " ".join(words))):
             return
         self._costs: list[str] = []
         try:
@@ -133,7 +138,8 @@ class Import:
 
     def _judge_flush(self, is_late: bool, what: str) -> None:
         if is_late:
-            raise UnsupportedError(f"`flush` after {what}: a scenario starts empty, so leave out what precedes it")
+            raise UnsupportedError(
+                f"`flush` after {what}: a scenario starts empty, so leave out what precedes it")
 
     def _delete(self, words: list[str]) -> Optional[list[str]]:
         numbers = [int(word) for word in words if word.isdigit()]
@@ -165,7 +171,8 @@ class Import:
         elif rest[:1] in (["list"], ["info"]):
             return None
         else:
-            raise UnsupportedError(f"`table {' '.join(words)}`: only create, add, delete, flush and destroy are supported")
+            raise UnsupportedError(
+                f"`table {' '.join(words)}`: only create, add, delete, flush and destroy are supported")
         return []
 
     def _shaper(self, what: str, words: list[str]) -> Optional[list[str]]:
@@ -205,32 +212,40 @@ class Import:
             elif name in ("noerror", "buckets"):
                 del words[:name == "buckets"]
             elif name in ("bw", "bandwidth", "delay", "plr", "queue") and words:
-                reads = {"delay": ipfw_words.delay, "plr": ipfw_words.loss, "queue": ipfw_words.queue}.get(name, ipfw_words.rate)
+                reads = {"delay": ipfw_words.delay, "plr": ipfw_words.loss,
+                         "queue": ipfw_words.queue}.get(name, ipfw_words.rate)
                 options.append(("bw" if name == "bandwidth" else name) + " " + self._say(reads(words.pop(0))))
             else:
-                raise UnsupportedError(f"`{name}`: pipes here have bw, delay, queue, plr, mask, droptail and codel: leave it out")
+                raise UnsupportedError(
+                    f"`{name}`: pipes here have bw, delay, queue, plr, mask, droptail and "
+                    "codel: leave it out")
         self._pipes[number] = options
         return [" ".join(["pipe", str(number), "config", *options])]
 
     def _scheduled(self, what: str, number: int, words: list[str]) -> list[str]:
         """Translates a queue or a scheduler, which is replaced by its pipe if requested."""
         if not self.flatten:
-            raise UnsupportedError(f"`{what} {number}`: weighted queues and schedulers (WF2Q+, FQ-CoDel) are not supported: --flatten uses the"
-                         " pipe instead")
-        named = {name: int(value) for name, value in zip(words, words[1:]) if name in ("pipe", "sched") and value.isdigit()}
-        pipe = named.get("pipe", number if what == "sched" else self._schedulers.get(named.get("sched", -1), -1))
+            raise UnsupportedError(
+                f"`{what} {number}`: weighted queues and schedulers (WF2Q+, FQ-CoDel) are not supported: "
+                "--flatten uses the pipe instead")
+        named = {name: int(value)
+                 for name, value in zip(words, words[1:]) if name in ("pipe", "sched") and value.isdigit()}
+        pipe = named.get("pipe",
+                         number if what == "sched" else self._schedulers.get(named.get("sched", -1), -1))
         if pipe not in self._pipes and (pipe not in self._later or {"fq_codel", "codel"} & set(words)):
             raise UnsupportedError(f"`{what} {number}`: its pipe must be configured before it")
         if what == "queue":
             self._queues[number] = pipe
-            self._costs.append(f"`queue {number}` is replaced by pipe {pipe}: its own weight, queue, mask and red are lost")
+            self._costs.append(
+                f"`queue {number}` is replaced by pipe {pipe}: its own weight, queue, mask and red are lost")
             return []
         self._schedulers[number] = pipe
         self._costs.append(f"`sched {number}` is replaced by pipe {pipe}: one queue for all, and no weights")
         if not {"fq_codel", "codel"} & set(words):
             return []
         begin = next(place for place, word in enumerate(words) if word in ("fq_codel", "codel"))
-        times = [word for name, value in zip(words[begin:], words[begin + 1:]) if name in ("target", "interval") for word in (name, value)]
+        times = [word for name, value in zip(words[begin:], words[begin + 1:])
+                 if name in ("target", "interval") for word in (name, value)]
         kept = [one for one in self._pipes[pipe] if not one.startswith(("codel", "droptail"))]
         self._pipes[pipe] = [*kept, " ".join(["codel", *times])]
         return [" ".join(["pipe", str(pipe), "config", *self._pipes[pipe]])]
@@ -265,11 +280,14 @@ class Import:
         commands = ipfw_script.commands_of(rule, number, known)
         if self._goes_on and rule.action.startswith("pipe ") and not rule.share:
             # A rule of its own allows what leaves the pipe, as one_pass 1 would.
-            commands = [each for one in commands for each in dict.fromkeys((one, re.sub(r"^(add \d+) pipe \d+", r"\1 allow", one)))]
+            commands = [each for one in commands
+                        for each in dict.fromkeys((one, re.sub(r"^(add \d+) pipe \d+", r"\1 allow", one)))]
         if number in self._around or (rule.excluded and self._rules[number]):
-            raise UnsupportedError(f"rule {number}: `not` skips all rules of this number: give one of them another number")
+            raise UnsupportedError(
+                f"rule {number}: `not` skips all rules of this number: give one of them another number")
         if sum(self._rules.values()) + len(commands) > _MOST_RULES:
-            raise UnsupportedError(f"with it there are more than {_MOST_RULES} rules, the maximum of an experiment")
+            raise UnsupportedError(
+                f"with it there are more than {_MOST_RULES} rules, the maximum of an experiment")
         self._judge(rule, number)
         if rule.excluded:
             self._around.add(number)
@@ -281,18 +299,25 @@ class Import:
         name, _, value = rule.action.partition(" ")
         if name == "skipto" and int(value) <= number:
             raise UnsupportedError(f"`{rule.action}` goes backwards, which is not supported")
-        if name == "pipe" and not any("passes the rules once here" in one for one in rule.costs) and not rule.share:
-            self._costs.append("on a router this rule shapes a packet twice, coming in and going out; here once")
+        if (name == "pipe" and not any("passes the rules once here" in one for one in rule.costs)
+            and not rule.share):
+            self._costs.append(
+                "on a router this rule shapes a packet twice, coming in and going out; here once")
 
     def _by_chance(self, rule: ipfw_rules.Rule) -> list[str]:
         """Translates a rule that denies at random into a pipe with losses."""
         if rule.action != "deny":
-            raise UnsupportedError(f"`prob {rule.share}`: only random `deny` is supported, as a pipe with losses: route by addresses and ports instead")
+            raise UnsupportedError(
+                f"`prob {rule.share}`: only random `deny` is supported, as a pipe with losses: route by "
+                "addresses and ports instead")
         if self._one_pass:
-            self._costs.append("one_pass 0 from here, and an `allow` after each rule to a pipe instead of one_pass 1: 1 ns more")
+            self._costs.append(
+                "one_pass 0 from here, and an `allow` after each rule to a pipe instead of "
+                "one_pass 1: 1 ns more")
         pipe = next(number for number in range(65535, 0, -1) if number not in self._pipes)
         share = self._say(ipfw_words.loss(rule.share))
         self._pipes[pipe] = [f"plr {share}", "queue 1000"]
         rule.action = f"pipe {pipe}"
-        self._costs.append(f"`prob` as pipe {pipe}, which loses this share: it has its own random numbers, and takes 1 ns")
+        self._costs.append(
+            f"`prob` as pipe {pipe}, which loses this share: it has its own random numbers, and takes 1 ns")
         return [*(["one_pass 0"] if self._one_pass else []), f"pipe {pipe} config plr {share} queue 1000"]

@@ -6,22 +6,27 @@ from typing import Mapping, Optional, Sequence
 
 from dnlab.io.ipfw_words import Unmatchable, UnsupportedError, address, narrowed, network, ports
 
-ACTIONS = {"allow": "allow", "accept": "allow", "pass": "allow", "permit": "allow", "deny": "deny", "drop": "deny", "count": "count"}
+ACTIONS = {"allow": "allow", "accept": "allow", "pass": "allow", "permit": "allow", "deny": "deny",
+           "drop": "deny", "count": "count"}
 _ANSWERS = {"reset": 0, "reset6": 0, "reject": 0, "unreach": 1, "unreach6": 1}
 _NUMBERED = ("skipto", "pipe", "queue")
 _BOTH = {"tcp", "udp"}
-_PROTOCOLS = {"ip": _BOTH, "all": _BOTH, "ip4": _BOTH, "ipv4": _BOTH, "tcp": {"tcp"}, "6": {"tcp"}, "udp": {"udp"}, "17": {"udp"}}
-_OTHERS = {"icmp", "ip6", "ipv6", "icmp6", "ipv6-icmp", "igmp", "esp", "ah", "gre", "ospf", "pim", "sctp", "carp", "vrrp", "ipencap"}
+_PROTOCOLS = {"ip": _BOTH, "all": _BOTH, "ip4": _BOTH, "ipv4": _BOTH, "tcp": {"tcp"}, "6": {"tcp"},
+              "udp": {"udp"}, "17": {"udp"}}
+_OTHERS = {"icmp", "ip6", "ipv6", "icmp6", "ipv6-icmp", "igmp", "esp", "ah", "gre", "ospf", "pim", "sctp",
+           "carp", "vrrp", "ipencap"}
 # Properties that no packet has here, so their opposite always matches.
 _NEVER = {"layer2", "frag"}
 _NO_FLAGS = "packets here have no flags, no fragments and no owners"
-_LACKING = {"established": _NO_FLAGS, "frag": _NO_FLAGS, "tcpflags": _NO_FLAGS, "iptos": _NO_FLAGS, "ipttl": _NO_FLAGS, "uid": _NO_FLAGS,
-            "gid": _NO_FLAGS, "mac": _NO_FLAGS, "MAC": _NO_FLAGS, "layer2": _NO_FLAGS, "ipoptions": _NO_FLAGS, "tcpoptions": _NO_FLAGS}
+_LACKING = {"established": _NO_FLAGS, "frag": _NO_FLAGS, "tcpflags": _NO_FLAGS, "iptos": _NO_FLAGS,
+            "ipttl": _NO_FLAGS, "uid": _NO_FLAGS, "gid": _NO_FLAGS, "mac": _NO_FLAGS, "MAC": _NO_FLAGS,
+            "layer2": _NO_FLAGS, "ipoptions": _NO_FLAGS, "tcpoptions": _NO_FLAGS}
 
 
 @dataclass(frozen=True)
 class Known:
-    """The context of rules: the addresses behind each interface, the machine's own address, tables, and the pipes of queues."""
+    """The context of rules: the addresses behind each interface, the machine's own address, tables, and the
+    pipes of queues."""
     behind: Mapping[str, str] = field(default_factory=dict)
     me: Optional[str] = None
     tables: Mapping[str, "Mapping[str, str]"] = field(default_factory=dict)
@@ -30,8 +35,8 @@ class Known:
 
 @dataclass
 class Rule:
-    """A parsed rule: its action, for each side all addresses and ports ('' is any port), those that are excluded, and what the translation
-    costs."""
+    """A parsed rule: its action, for each side all addresses and ports ('' is any port), those that are
+    excluded, and what the translation costs."""
     action: str = ""
     share: str = ""
     group: Optional[str] = None
@@ -98,14 +103,17 @@ def _action(rule: Rule, words: list[str], known: Known) -> None:
         number = _take(words, "a number")
         if action == "queue":
             if number not in map(str, known.queues):
-                raise UnsupportedError(f"`queue {number}`: weighted queues (WF2Q+) are not supported: --flatten uses the pipe instead")
+                raise UnsupportedError(
+                    f"`queue {number}`: weighted queues (WF2Q+) are not supported: --flatten uses "
+                    "the pipe instead")
             rule.costs.append(f"`queue {number}` is replaced by its pipe: the weights are lost")
             action, number = "pipe", str(known.queues[int(number)])
         if not number.isdigit() and not (action == "pipe" and number == "tablearg"):
             raise UnsupportedError(f"`{action} {number}`: a number is expected here")
         rule.action = f"{action} {int(number) if number.isdigit() else number}"
     else:
-        raise UnsupportedError(f"`{action}`: this action is not supported: allow, deny, count, skipto and pipe are")
+        raise UnsupportedError(
+            f"`{action}`: this action is not supported: allow, deny, count, skipto and pipe are")
     while words and words[0] in ("log", "logamount"):
         if words.pop(0) == "logamount":
             _take(words, "a number")
@@ -123,8 +131,9 @@ def _protocol(rule: Rule, words: list[str]) -> None:
     matched = _BOTH - matched if is_not else matched
     left = matched & (_BOTH if rule.protocols == ["ip"] else {*rule.protocols})
     if not left:
-        raise Unmatchable(f"`{'not ' * is_not}{' or '.join(names)}`: packets here are TCP or UDP, so the rule matches nothing:"
-                          " --drop-unmatchable leaves it out")
+        raise Unmatchable(
+            f"`{'not ' * is_not}{' or '.join(names)}`: packets here are TCP or UDP, so the rule matches "
+            "nothing: --drop-unmatchable leaves it out")
     rule.protocols = ["ip"] if left == _BOTH else sorted(left)
 
 
@@ -178,7 +187,8 @@ def _addresses(rule: Rule, words: list[str], known: Known) -> list[str]:
         return found
     # An address within another would be matched twice.
     return [one for place, one in enumerate(found)
-            if not any(network(one) != network(other) and network(one).subnet_of(network(other)) or (one == other and place > after)
+            if not any(network(one) != network(other) and network(one).subnet_of(network(other))
+                       or (one == other and place > after)
                        for after, other in enumerate(found))]
 
 
@@ -207,7 +217,8 @@ def _option(rule: Rule, words: list[str], known: Known) -> None:
         rule.ports[name == "dst-port"] = ports(_take(words, "a port"))
     elif name in ("dst-ip", "src-ip"):
         if rule.sides[name == "dst-ip"] != ["any"]:
-            raise UnsupportedError(f"`{name}` with another address of the same side is not supported: write one")
+            raise UnsupportedError(
+                f"`{name}` with another address of the same side is not supported: write one")
         rule.sides[name == "dst-ip"] = _addresses(rule, words, known)
     elif name == "proto":
         _protocol(rule, words)
@@ -217,14 +228,19 @@ def _option(rule: Rule, words: list[str], known: Known) -> None:
         _interface(rule, {"via": "", "recv": "in", "xmit": "out"}[name], _take(words, "an interface"), known)
     elif name == "setup":
         if rule.action == "deny":
-            raise UnsupportedError("`deny .. setup`: without flags the whole connection would be denied: deny its addresses and ports instead")
+            raise UnsupportedError(
+                "`deny .. setup`: without flags the whole connection would be denied: deny its addresses "
+                "and ports instead")
         rule.costs.append("`setup` left out: the rule matches all packets of the connection")
     elif name in ("keep-state", "limit"):
         _state(rule, words, name)
     elif name in ("icmptypes", "icmp6types"):
-        raise Unmatchable(f"`{name}`: packets here are TCP or UDP, so the rule matches nothing: --drop-unmatchable leaves it out")
+        raise Unmatchable(
+            f"`{name}`: packets here are TCP or UDP, so the rule matches nothing: "
+            "--drop-unmatchable leaves it out")
     elif name in _LACKING:
-        raise UnsupportedError(f"`{name}`: {_LACKING[name]}: leave the rule out, or write its purpose as addresses and ports")
+        raise UnsupportedError(
+            f"`{name}`: {_LACKING[name]}: leave the rule out, or write its purpose as addresses and ports")
     else:
         raise UnsupportedError(f"`{name}` is not supported here")
 
@@ -266,7 +282,8 @@ def _direction(rule: Rule, words: list[str], name: str, known: Known) -> None:
         rule.sides[side] = [known.me]
         rule.costs.append(f"`{name}` replaced by the address of --me: a packet passes the rules once here")
     else:
-        rule.costs.append(f"`{name}` left out: a packet passes the rules once here, on a router twice" + _other_way(rule))
+        rule.costs.append(f"`{name}` left out: a packet passes the rules once here, on a router twice"
+                          + _other_way(rule))
 
 
 def _other_way(rule: Rule) -> str:
@@ -282,11 +299,15 @@ def _interface(rule: Rule, direction: str, name: str, known: Known) -> None:
         rule.is_void = True
         return
     if name not in known.behind:
-        raise UnsupportedError(f"`{name}`: name the addresses behind this interface: --if {name}=10.0.1.0/24, or --if {name}=any")
+        raise UnsupportedError(
+            f"`{name}`: name the addresses behind this interface: --if {name}=10.0.1.0/24, or "
+            f"--if {name}=any")
     behind = known.behind[name]
     if behind == "any":
-        rule.costs.append(f"`{f'{direction} .. ' if direction else 'via '}{name}` left out, because any address is behind {name}"
-                          + (_other_way(rule) if direction else ""))
+        rule.costs.append(
+            f"`{f'{direction} .. ' if direction else 'via '}{name}` left out, because any address "
+            f"is behind {name}"
+            + (_other_way(rule) if direction else ""))
         return
     if not direction:
         rule.either = behind
@@ -296,5 +317,7 @@ def _interface(rule: Rule, direction: str, name: str, known: Known) -> None:
     parts = [narrowed(one, behind) for one in rule.sides[side]]
     rule.sides[side] = [one for one, _ in parts]
     what = ("source", "destination")[side]
-    rule.costs.append(f"`{direction} .. {name}` replaced by its {what} address: a packet passes the rules once here, on a router twice"
-                      + ("" if all(inside for _, inside in parts) else f"; no {what} of it is behind {name}"))
+    rule.costs.append(
+        f"`{direction} .. {name}` replaced by its {what} address: a packet passes the rules once here, on "
+        "a router twice"
+        + ("" if all(inside for _, inside in parts) else f"; no {what} of it is behind {name}"))

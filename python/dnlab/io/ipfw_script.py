@@ -9,8 +9,8 @@ from dnlab.io import shell_words
 from dnlab.io.ipfw_rules import Known, Rule
 from dnlab.io.ipfw_words import REFUSED, SAME, UnsupportedError, narrowed
 
-_COMMANDS = {"add", "delete", "pipe", "queue", "sched", "table", "set", "flush", "zero", "resetlog", "list", "show", "enable",
-             "disable", "nat"}
+_COMMANDS = {"add", "delete", "pipe", "queue", "sched", "table", "set", "flush", "zero", "resetlog", "list",
+             "show", "enable", "disable", "nat"}
 
 
 class Line(NamedTuple):
@@ -33,26 +33,32 @@ def _line(text: str) -> Line:
 def is_listing(text: str) -> bool:
     """Returns whether it is the output of `ipfw list` or `ipfw pipe show`: each rule starts with five digits.
 
-    >>> is_listing("00100 allow ip from any to any\\n65535 deny ip from any to any\\n"), is_listing("ipfw add 100 count ip from any to any")
-    (True, False)
+    >>> is_listing("00100 allow ip from any to any\\n65535 deny ip from any to any\\n")
+    True
+    >>> is_listing("ipfw add 100 count ip from any to any")
+    False
     """
     first = next((line for line in text.splitlines() if line.strip()), "")
     return re.match(r"[0-9]{5}(:| )", first) is not None
 
 
 def is_rules_file(text: str) -> bool:
-    """Returns whether it is a file for `ipfw FILE`: each line starts with an ipfw command, and none with `ipfw`."""
-    lines = [line.split()[0] for line in text.splitlines() if line.strip() and not line.lstrip().startswith("#")]
-    return bool(lines) and "$" not in text and all(word in _COMMANDS or word.startswith("-") for word in lines)
+    """Returns whether it is a file for `ipfw FILE`: each line starts with an ipfw command, and none with
+    `ipfw`."""
+    lines = [line.split()[0]
+             for line in text.splitlines() if line.strip() and not line.lstrip().startswith("#")]
+    return (bool(lines) and "$" not in text
+            and all(word in _COMMANDS or word.startswith("-") for word in lines))
 
 
 def lines_of(text: str, name: str) -> list[Line]:
-    """Returns the lines of a script, of a file for `ipfw FILE`, or of a listing. Raises `InputError` with the line of a script that isn't
-    understood."""
+    """Returns the lines of a script, of a file for `ipfw FILE`, or of a listing. Raises `InputError` with the
+    line of a script that isn't understood."""
     if is_listing(text):
         return _listed(text)
     if is_rules_file(text):
-        return [_line(line) for line in text.splitlines() if line.strip() and not line.lstrip().startswith("#")]
+        return [_line(line)
+                for line in text.splitlines() if line.strip() and not line.lstrip().startswith("#")]
     try:
         return [Line(words) for words in shell_words.words_of(text)]
     except ParseError as fault:
@@ -84,7 +90,8 @@ def _listed(text: str) -> list[Line]:
 
 
 def _flow_set(line: str) -> list[str]:
-    """Returns the options of a pipe's own queue, as `q131073  50 sl.plr 0.010000 0 flows (1 buckets) .. droptail`."""
+    """Returns the options of a pipe's own queue, as `q131073 50 sl.plr 0.010000 0 flows (1 buckets) ..
+    droptail`."""
     size = re.match(r"q[0-9]+ +([0-9]+) (sl\.|KB|B)", line)
     words = []
     if size:
@@ -94,7 +101,8 @@ def _flow_set(line: str) -> list[str]:
 
 
 def _mask(line: str) -> list[str]:
-    found = re.search(r"(0x[0-9a-f]{2}) (0x[0-9a-f]{8})/(0x[0-9a-f]{4}) -> (0x[0-9a-f]{8})/(0x[0-9a-f]{4})", line)
+    found = re.search(r"(0x[0-9a-f]{2}) (0x[0-9a-f]{8})/(0x[0-9a-f]{4}) -> (0x[0-9a-f]{8})/(0x[0-9a-f]{4})",
+                      line)
     if not found:
         return ["mask"]
     named = zip(("proto", "src-ip", "src-port", "dst-ip", "dst-port"), found.groups())
@@ -123,10 +131,12 @@ def commands_of(rule: Rule, number: int, known: Known) -> list[str]:
     """Returns the `add` commands of a rule, all with its number."""
     wanted = [[rule.sides[0], rule.sides[1], rule.ports[0], rule.ports[1]]]
     if rule.either:
-        wanted = [[[narrowed(one, rule.either)[0] for one in wanted[0][side]] if side == turn else wanted[0][side] for side in range(4)]
+        wanted = [[[narrowed(one, rule.either)[0] for one in wanted[0][side]] if side == turn
+                   else wanted[0][side] for side in range(4)]
                   for turn in (0, 1)]
     if rule.excluded and (rule.both or rule.table):
-        raise UnsupportedError("`not` with `keep-state` or a table is not supported: write the intended rules")
+        raise UnsupportedError(
+            "`not` with `keep-state` or a table is not supported: write the intended rules")
     made: list[str] = []
     for places in wanted:
         for place, excluded in rule.excluded:
@@ -134,7 +144,8 @@ def commands_of(rule: Rule, number: int, known: Known) -> list[str]:
                             [excluded if one == place else places[one] for one in range(4)])
         made += _valued(rule, number, places, known)
     if len(made) > _MOST:
-        raise UnsupportedError(f"it needs {len(made)} rules, but an experiment has {_MOST}: write prefixes and ranges")
+        raise UnsupportedError(
+            f"it needs {len(made)} rules, but an experiment has {_MOST}: write prefixes and ranges")
     return made
 
 
@@ -150,15 +161,17 @@ def _valued(rule: Rule, number: int, places: Sequence[Sequence[str]], known: Kno
     for entry in places[side]:
         value = entries.get(entry, "")
         if not value.isdigit() or not int(value):
-            raise UnsupportedError(f"`pipe tablearg`: the entry {entry} of table {rule.table} has no pipe's number")
-        made += _spread(rule, number, f"pipe {int(value)}", [[entry] if one == side else places[one] for one in range(4)])
+            raise UnsupportedError(
+                f"`pipe tablearg`: the entry {entry} of table {rule.table} has no pipe's number")
+        made += _spread(rule, number, f"pipe {int(value)}",
+                        [[entry] if one == side else places[one] for one in range(4)])
     return made
 
 
 @dataclass(frozen=True)
 class Translation:
-    """A line of ipfw, its kind (`same`, `rewritten`, `approximated`, `dropped`, `refused`), the scenario commands that it became, without
-    their time, and what that costs or why it is refused."""
+    """A line of ipfw, its kind (`same`, `rewritten`, `approximated`, `dropped`, `refused`), the scenario
+    commands that it became, without their time, and what that costs or why it is refused."""
     text: str
     kind: str
     moment: int
@@ -166,12 +179,14 @@ class Translation:
     said: tuple[str, ...] = ()
 
 
-def scenario_of(became: Sequence[Translation], head: str, traffic: Sequence[tuple[int, str]], end: int) -> str:
-    """Returns a scenario: each line of ipfw that is not the same is a comment before its translation; then the commands of `traffic`, each
-    with its time, merged by time."""
+def scenario_of(became: Sequence[Translation], head: str, traffic: Sequence[tuple[int, str]],
+                end: int) -> str:
+    """Returns a scenario: each line of ipfw that is not the same is a comment before its translation; then
+    the commands of `traffic`, each with its time, merged by time."""
     parts: list[tuple[int, str]] = []
     for one in became:
-        above = "" if one.kind == SAME else f"# {'refused' if one.kind == REFUSED else 'ipfw'}: {_printable(one.text)}\n"
+        above = ("" if one.kind == SAME
+                 else f"# {'refused' if one.kind == REFUSED else 'ipfw'}: {_printable(one.text)}\n")
         parts.append((one.moment, above + "".join(f"@{one.moment} {command}\n" for command in one.commands)))
     parts += [(moment, f"@{moment} {words}\n") for moment, words in traffic]
     body = "".join(text for _, text in sorted(parts, key=lambda part: part[0]))

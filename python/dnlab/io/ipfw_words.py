@@ -1,6 +1,7 @@
 """Amounts in ipfw(8) and in scenarios: rates, queues, losses, masks, addresses, ports.
 
-Each function returns the scenario's words and their cost (`How`). Raises `UnsupportedError`, with what to do, if there are none.
+Each function returns the scenario's words and their cost (`How`). Raises `UnsupportedError`, with what to do,
+if there are none.
 """
 import ipaddress
 import re
@@ -38,8 +39,11 @@ def rate(word: str) -> How:
     found = re.fullmatch(r"([0-9]+(?:\.[0-9]+)?|\.[0-9]+)([KkMmGg]?)([A-Za-z/]*)", word)
     if not found:
         is_number = re.match(r"[0-9.]", word)
-        raise UnsupportedError(f"`bw {word}`: " + ("it isn't a rate: expected digits with a point, then the unit, as 1.5Mbit/s" if is_number else
-                                         "the rate of an interface or a clock is not supported: write it as 10Mbit/s"))
+        raise UnsupportedError(f"`bw {word}`: "
+                               + ("it isn't a rate: expected digits with a point, then the unit, as 1.5Mbit/s"
+                                  if is_number else
+                                         "the rate of an interface or a clock is not supported: write "
+                                         "it as 10Mbit/s"))
     is_bytes = found[3].startswith("by") or (found[3].startswith("B") and not found[3].startswith("Bi"))
     bits = Decimal(found[1]) * SCALES[found[2].upper()] * (8 if is_bytes else 1)
     if bits > _MOST_BITS:
@@ -51,7 +55,8 @@ def rate(word: str) -> How:
 
 
 def delay(word: str) -> How:
-    """Translates a `delay` in ms. ipfw reads only the leading digits, so a time in seconds means another one there.
+    """Translates a `delay` in ms. ipfw reads only the leading digits, so a time in seconds means another one
+    there.
 
     >>> delay("20ms").words, delay("0.5s").words, delay("2s").cost
     ('20ms', '500ms', '`delay 2s` is taken as 2000ms: ipfw itself reads 2 ms')
@@ -59,17 +64,20 @@ def delay(word: str) -> How:
     found = re.fullmatch(r"([0-9]{1,9})?(\.[0-9]{1,9})?(s|ms|us)?", word)
     if not found or not (found[1] or found[2]):
         raise UnsupportedError(f"`delay {word}` isn't a time in milliseconds, as 20ms")
-    time = Decimal((found[1] or "0") + (found[2] or "")) * {"s": Decimal(1000), "us": Decimal("0.001")}.get(found[3], Decimal(1))
+    time = Decimal((found[1] or "0") + (found[2] or "")) * {"s": Decimal(1000),
+                                                            "us": Decimal("0.001")}.get(found[3], Decimal(1))
     whole = int(time)
     if time != whole:
-        raise UnsupportedError(f"`delay {word}`: delays are whole milliseconds: write {whole}ms or {whole + 1}ms")
+        raise UnsupportedError(
+            f"`delay {word}`: delays are whole milliseconds: write {whole}ms or {whole + 1}ms")
     if whole > 60000:
         raise UnsupportedError(f"`delay {word}`: 60000 ms is the maximum")
     if re.fullmatch(r"(0|[1-9][0-9]*)(ms)?", word):
         return How(word)
     digits = int(found[1] or "0")
     return How(f"{whole}ms" if found[3] else str(whole),
-               "" if whole == digits else f"`delay {word}` is taken as {whole}ms: ipfw itself reads {digits} ms")
+               "" if whole == digits
+               else f"`delay {word}` is taken as {whole}ms: ipfw itself reads {digits} ms")
 
 
 def loss(word: str) -> How:
@@ -107,7 +115,8 @@ def queue(word: str) -> How:
         said = f"{number}KBytes" if unit not in ("KBytes", "Kbytes", "KB", "K") else word.lstrip("0")
     elif unit[:1] == "B" or unit.startswith("by"):
         kbytes = number // 1024
-        said, cost = f"{kbytes}KBytes", "" if number % 1024 == 0 else f"`queue {word}` is {kbytes * 1024} bytes, rounded down"
+        said = f"{kbytes}KBytes"
+        cost = "" if number % 1024 == 0 else f"`queue {word}` is {kbytes * 1024} bytes, rounded down"
     elif unit:
         raise UnsupportedError(f"`queue {word}`: the unit must be KBytes, bytes or none")
     elif not 1 <= number <= 1000:
@@ -140,7 +149,8 @@ def mask(words: list[str]) -> How:
             else:
                 costs.append(f"`mask {name}` left out: packets here have none")
     if not found:
-        raise UnsupportedError("`mask`: packets here have none of these fields: use src-ip, dst-ip, src-port, dst-port or proto")
+        raise UnsupportedError(
+            "`mask`: packets here have none of these fields: use src-ip, dst-ip, src-port, dst-port or proto")
     return How("mask " + " ".join(found), "; ".join(costs))
 
 
@@ -153,9 +163,11 @@ def _bits(name: str, word: str) -> str:
     value = -1
     if found:
         value = (2**width - 2 ** (width - int(found[1]))) if found[1] and int(found[1]) <= width else \
-            int(found[2], 0) if found[2] and (found[2] == "0" or found[2][:2] == "0x" or found[2][0] != "0") else -1
+            int(found[2],
+                0) if found[2] and (found[2] == "0" or found[2][:2] == "0x" or found[2][0] != "0") else -1
     if not 0 <= value < 2**width:
-        raise UnsupportedError(f"`mask {name} {word}` isn't {width} bits: write them as 0x{'f' * MASKS[name]}")
+        raise UnsupportedError(
+            f"`mask {name} {word}` isn't {width} bits: write them as 0x{'f' * MASKS[name]}")
     return hex(int(value))
 
 
@@ -188,7 +200,9 @@ def address(word: str) -> str:
             return str(ipaddress.IPv4Network(word.replace(":", "/"), strict=False))
         ipaddress.IPv4Interface(word)
     except ValueError:
-        raise UnsupportedError(f"`{word}` is not an address (names and sets are not supported): write numbers, as 10.0.0.1 or 10.0.0.0/24") from None
+        raise UnsupportedError(
+            f"`{word}` is not an address (names and sets are not supported): write numbers, as 10.0.0.1 "
+            "or 10.0.0.0/24") from None
     return word
 
 
@@ -198,7 +212,8 @@ def network(word: str) -> ipaddress.IPv4Network:
 
 
 def narrowed(own: str, behind: str) -> tuple[str, bool]:
-    """Returns the part of a rule's own addresses that is behind an interface; if there is none, the addresses and False."""
+    """Returns the part of a rule's own addresses that is behind an interface; if there is none, the addresses
+    and False."""
     if network(own).subnet_of(network(behind)):
         return own, True
     return (behind, True) if network(behind).subnet_of(network(own)) else (own, False)

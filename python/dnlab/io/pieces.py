@@ -1,4 +1,5 @@
-"""Finds the experiments of a report, by the headings of its text or by the counters of its rows, without parsing the rest."""
+"""Finds the experiments of a report, by the headings of its text or by the counters of its rows, without
+parsing the rest."""
 import io
 import mmap
 import os
@@ -28,8 +29,8 @@ _HEADER, _ROW = 512, 40
 
 @dataclass(frozen=True)
 class Piece:
-    """Where an experiment is in a file: its heading's line, and the bytes after it; or its rows, `begin` to `end`, without those of
-    the counters, for which `line` is -1."""
+    """Where an experiment is in a file: its heading's line, and the bytes after it; or its rows, `begin` to
+    `end`, without those of the counters, for which `line` is -1."""
     name: str
     line: int
     path: str
@@ -51,7 +52,8 @@ class Piece:
         from dnlab.io.rows import records_of, rows_at
 
         rows, kind = rows_at(self.path)
-        return records_of(self.name, rows[self.begin:self.end], kind[self.begin:self.end], self.begin, rows[self.end])
+        return records_of(self.name, rows[self.begin:self.end], kind[self.begin:self.end], self.begin,
+                          rows[self.end])
 
     def blocks(self) -> Iterator[bytes]:
         """Yields its bytes, in blocks of whole lines; the last may lack its line feed."""
@@ -70,8 +72,8 @@ class Piece:
 
 
 def experiments_in_rows(file: BinaryIO) -> int:
-    """Returns the number of experiments of a file of rows that one call of the program wrote, by its last row, without NumPy; 0 if it
-    is no such file, or was cut."""
+    """Returns the number of experiments of a file of rows that one call of the program wrote, by its last
+    row, without NumPy; 0 if it is no such file, or was cut."""
     size = file.seek(0, os.SEEK_END)
     file.seek(max(0, size - _ROW))
     last = file.read(_ROW)
@@ -81,11 +83,13 @@ def experiments_in_rows(file: BinaryIO) -> int:
     return last[39] + 1 if is_rows and last[36] == 22 else 0
 
 
-def pieces(source: Union[str, Path, BinaryIO], wanted: Iterable[str] = (), names: Optional[Sequence[str]] = None) -> Iterator[Piece]:
+def pieces(source: Union[str, Path, BinaryIO], wanted: Iterable[str] = (),
+           names: Optional[Sequence[str]] = None) -> Iterator[Piece]:
     """Yields the experiments of a report, in order, or only the wanted ones.
 
-    A file is only searched; a stream, and gzip data, are copied to a temporary file. Bytes between headings are not checked here.
-    `names` are the names of the experiments of rows, which only the scenario has; without it they are numbers, from 0."""
+    A file is only searched; a stream, and gzip data, are copied to a temporary file. Bytes between headings
+    are not checked here. `names` are the names of the experiments of rows, which only the scenario has;
+    without it they are numbers, from 0."""
     if isinstance(source, (str, Path)):
         with open(source, "rb") as file:
             begin = file.read(len(NPY))
@@ -96,7 +100,8 @@ def pieces(source: Union[str, Path, BinaryIO], wanted: Iterable[str] = (), names
             file.seek(0)
             copied = _Copied(file)
     else:
-        copied = _Copied(source if hasattr(source, "peek") else io.BufferedReader(source))  # type: ignore[arg-type]
+        copied = _Copied(source if hasattr(source, "peek")
+                         else io.BufferedReader(source))  # type: ignore[arg-type]
     for piece in pieces(copied.path, wanted, names):
         yield replace(piece, keep=copied)
 
@@ -107,15 +112,17 @@ def _in_rows(path: str, wanted: set[str], names: Optional[Sequence[str]]) -> Ite
 
     ends = ends_of(rows_at(path)[1]).tolist()
     if names is not None and len(names) != len(ends):
-        raise RowError(ends[-1] + 1 if ends else 0, f"the rows end after {len(ends)} experiments, but the scenario has {len(names)}:"
-                       " give the scenario that was run")
+        raise RowError(ends[-1] + 1 if ends else 0,
+                       f"the rows end after {len(ends)} experiments, but the scenario has {len(names)}: give "
+                       "the scenario that was run")
     for name, begin, end in zip(names or map(str, range(len(ends))), [0, *(end + 1 for end in ends)], ends):
         if not wanted or name in wanted:
             yield Piece(name, -1, path, begin, end)
 
 
 class _Copied:
-    """The bytes of a stream, decompressed, in a temporary file without a name, or whose name is removed with this object."""
+    """The bytes of a stream, decompressed, in a temporary file without a name, or whose name is removed with
+    this object."""
 
     def __init__(self, source: Any) -> None:
         has_places = os.path.isdir(f"/proc/{os.getpid()}/fd")
@@ -146,7 +153,9 @@ def _in_text(path: str, wanted: set[str], _: Optional[Sequence[str]]) -> Iterato
         end = (text.find(b"\n", begin) + 1 or size + 1) - 1
         found = _HEADING.fullmatch(text[begin:min(end, begin + 99)])
         if not found:
-            raise ParseError(line, f"expected `experiment NAME` here: {text[begin:min(end, begin + 60)].decode('ascii', 'replace')!r}")
+            raise ParseError(line,
+                             "expected `experiment NAME` here: "
+                             f"{text[begin:min(end, begin + 60)].decode('ascii', 'replace')!r}")
         name = found[1].decode("ascii")
         if name in names:
             raise ParseError(line, f"a second experiment {name}")

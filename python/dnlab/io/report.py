@@ -48,9 +48,9 @@ _IDENTIFY = re.compile(rf"(?P<moment>{_N}) identify (?P<pipe>{_N})\.(?P<instance
 _LAST = -1
 _NUMBERS = [(word.encode(), f"{number}".encode()) for word, number in {
     "ok": OK, "refused": REFUSED, "make": MAKE_COMMAND, "arrive": ARRIVE, "finish": FINISH, "pass": PASS,
-    "deliver": DELIVER, "drop": DROP, "ack": ACK, "expire": EXPIRE, "spent": SPENT, "plain": "0 0 0", "data": 1,
-    "tcp": 6, "udp": 17,
-    **{cause: code for code, cause in enumerate(CAUSES, 1)}, ".": " ", "\n": f" {_LAST} "}.items()]
+    "deliver": DELIVER, "drop": DROP, "ack": ACK, "expire": EXPIRE, "spent": SPENT, "plain": "0 0 0",
+    "data": 1, "tcp": 6, "udp": 17, **{cause: code for code, cause in enumerate(CAUSES, 1)}, ".": " ",
+    "\n": f" {_LAST} "}.items()]
 # The kinds of rows with a load, by the number of its word.
 _LOADED = {MAKE_COMMAND: (MAKE_COMMAND, MAKE_DATA, MAKE_ACK), DELIVER: (DELIVER, DELIVER_DATA, DELIVER_ACK),
            DROP: (DROP, DROP_DATA, DROP_ACK)}

@@ -1,4 +1,5 @@
-"""The records of experiments: rows (docs/reference/rows.md), from a file of rows or from the text of a report.
+"""The records of experiments: rows (docs/reference/rows.md), from a file of rows or from the text of a
+report.
 
 `opened` checks the header of a file against the bytes that are there. Columns are read at chosen rows, as
 `rows["moment"][places]`, because a whole row of a structured array takes ten times as long.
@@ -24,22 +25,26 @@ Flags = NDArray[np.bool_]
 Rows = NDArray[np.void]
 
 # The kinds of rows.
-(OK, REFUSED, MAKE_COMMAND, MAKE_TRAIN, MAKE_DATA, MAKE_ACK, IDENTIFY, ARRIVE, FINISH, PASS, DELIVER, DELIVER_DATA, DELIVER_ACK,
- DROP, DROP_DATA, DROP_ACK, ACK, EXPIRE, SPENT, RULE, PIPE, INSTANCE, COUNTERS) = range(23)
+(OK, REFUSED, MAKE_COMMAND, MAKE_TRAIN, MAKE_DATA, MAKE_ACK, IDENTIFY, ARRIVE, FINISH, PASS, DELIVER,
+ DELIVER_DATA, DELIVER_ACK, DROP, DROP_DATA, DROP_ACK, ACK, EXPIRE, SPENT, RULE, PIPE, INSTANCE,
+ COUNTERS) = range(23)
 # The load of a packet: the index of its name.
 KINDS = ("plain", "data", "ack")
 PLAIN, DATA, ACKNOWLEDGES = range(len(KINDS))
 # The words of a report's lines, and the index of the word of each kind of row.
-WORDS = ("ok", "refused", "make", "identify", "arrive", "finish", "pass", "deliver", "drop", "ack", "expire", "spent",
-         "rule", "pipe", "instance", "counters")
+WORDS = ("ok", "refused", "make", "identify", "arrive", "finish", "pass", "deliver", "drop", "ack", "expire",
+         "spent", "rule", "pipe", "instance", "counters")
 WORD_OF = np.array([0, 1, 2, 2, 2, 2, 3, 4, 5, 6, 7, 7, 7, 8, 8, 8, 9, 10, 11, 12, 13, 14, 15], dtype=np.int8)
 # The load of the packet that a row names, -1 if the row doesn't have it.
-LOAD_OF = np.array([-1, -1, 0, 0, 1, 2, -1, -1, -1, -1, 0, 1, 2, 0, 1, 2, -1, -1, -1, -1, -1, -1, -1], dtype=np.int8)
+LOAD_OF = np.array([-1, -1, 0, 0, 1, 2, -1, -1, -1, -1, 0, 1, 2, 0, 1, 2, -1, -1, -1, -1, -1, -1, -1],
+                   dtype=np.int8)
 # `source` of a plain packet whose sender a text doesn't have.
 UNKNOWN_SOURCE = 2**32 - 1
 
-ROW = np.dtype([("moment", "<i8"), ("packet", "<u4"), ("source", "<u4"), ("number", "<u4"), ("more", "<u4"), ("src", "<u4"),
-                ("dst", "<u4"), ("size", "<u2"), ("pipe", "<u2"), ("kind", "u1"), ("instance", "u1"), ("code", "u1"),
+ROW = np.dtype([("moment", "<i8"), ("packet", "<u4"), ("source", "<u4"), ("number", "<u4"), ("more", "<u4"),
+                ("src", "<u4"),
+                ("dst", "<u4"), ("size", "<u2"), ("pipe", "<u2"), ("kind", "u1"), ("instance", "u1"),
+                ("code", "u1"),
                 ("experiment", "u1")])
 MAGIC = b"\x93NUMPY"
 _VERSION = b"\x01\x00"
@@ -51,7 +56,8 @@ _AGAIN = "run the scenario again"
 def _count_of(begin: bytes, size: int) -> tuple[int, int]:
     """Returns where the rows of a file of `size` bytes begin, and their number, by its first bytes."""
     told = begin[10:10 + int.from_bytes(begin[8:10], "little")]
-    if not begin.startswith(MAGIC + _VERSION) or len(begin) < 10 or len(told) < int.from_bytes(begin[8:10], "little"):
+    if (not begin.startswith(MAGIC + _VERSION) or len(begin) < 10
+        or len(told) < int.from_bytes(begin[8:10], "little")):
         raise RowError(0, f"the header is cut or not that of .npy 1.0: {_AGAIN}")
     try:
         header = ast.literal_eval(told.decode("ascii"))
@@ -64,15 +70,17 @@ def _count_of(begin: bytes, size: int) -> tuple[int, int]:
     first = 10 + len(told)
     there, rest = divmod(size - first, ROW.itemsize)
     if there < count:
-        raise RowError(there, f"the file ends here, {'in the row' if rest else 'before the row'}, but its header has {count} rows:"
-                       f" it was cut; {_AGAIN}")
+        raise RowError(there,
+                       f"the file ends here, {'in the row' if rest else 'before the row'}, but its header "
+                       f"has {count} rows: it was cut; {_AGAIN}")
     if there > count or rest:
         raise RowError(count, f"the header has {count} rows, but more bytes follow: {_AGAIN}")
     return first, count
 
 
 def opened(source: Union[str, Path, bytes]) -> Rows:
-    """Returns the rows of a file, which is mapped into memory, or of its bytes. Raises `RowError` if the file was cut."""
+    """Returns the rows of a file, which is mapped into memory, or of its bytes. Raises `RowError` if the file
+    was cut."""
     if isinstance(source, bytes):
         first, count = _count_of(source[:1 << 16], len(source))
         return np.frombuffer(source, dtype=ROW, count=count, offset=first)
@@ -94,8 +102,8 @@ def header_of(count: int) -> bytes:
 
 
 def join(files: Iterable[Path], out: IO[bytes]) -> None:
-    """Writes the rows of some files as one file, with the experiments counted through (modulo 256). Raises `RowError` if one was
-    cut."""
+    """Writes the rows of some files as one file, with the experiments counted through (modulo 256). Raises
+    `RowError` if one was cut."""
     parts = [opened(file) for file in files]
     out.write(header_of(sum(map(len, parts))))
     before = 0
@@ -109,7 +117,8 @@ def join(files: Iterable[Path], out: IO[bytes]) -> None:
 
 @lru_cache(maxsize=2)
 def mapped(path: str, changed: int, size: int) -> tuple[Rows, Bytes]:
-    """Returns the rows of a file and their kinds, once for all of its experiments; `changed` and `size` identify its content."""
+    """Returns the rows of a file and their kinds, once for all of its experiments; `changed` and `size`
+    identify its content."""
     rows = opened(path)
     return rows, kinds_of(rows)
 
@@ -124,15 +133,18 @@ def kinds_of(rows: Rows) -> Bytes:
     """Returns the kinds of rows, contiguous. Raises `RowError` for one that this version doesn't have."""
     kind: Bytes = np.ascontiguousarray(rows["kind"])
     if len(kind) and int(kind.max()) > COUNTERS:
-        raise RowError(int(np.flatnonzero(kind > COUNTERS)[0]), "this kind of row is unknown: a later version wrote it")
+        raise RowError(int(np.flatnonzero(kind > COUNTERS)[0]),
+                       "this kind of row is unknown: a later version wrote it")
     return kind
 
 
 def ends_of(kind: Bytes) -> Ints:
-    """Returns the rows with counters, which end the experiments. Raises `RowError` if the last row isn't one."""
+    """Returns the rows with counters, which end the experiments. Raises `RowError` if the last row isn't
+    one."""
     ends = np.flatnonzero(kind == COUNTERS)
     if len(kind) and (not len(ends) or ends[-1] + 1 != len(kind)):
-        raise RowError(len(kind) - 1, f"the last row is not that of counters: another version wrote it; {_AGAIN}")
+        raise RowError(len(kind) - 1,
+                       f"the last row is not that of counters: another version wrote it; {_AGAIN}")
     return ends
 
 
@@ -166,10 +178,11 @@ def number_of(address: str) -> int:
 
 # The columns of a header: protocol (6 or 17), source, its port, target, its port.
 def headers_at(rows: Rows, places: Ints) -> Ints:
-    """Returns the headers of the packets that some rows create: protocol (6 or 17), source, its port, target, its port; shape (n, 5)."""
+    """Returns the headers of the packets that some rows create: protocol (6 or 17), source, its port, target,
+    its port; shape (n, 5)."""
     ports = rows["more"][places].astype(np.int64)
-    return np.stack([rows["code"][places].astype(np.int64), rows["src"][places].astype(np.int64), ports & 65535,
-                     rows["dst"][places].astype(np.int64), ports >> 16], axis=1)
+    return np.stack([rows["code"][places].astype(np.int64), rows["src"][places].astype(np.int64),
+                     ports & 65535, rows["dst"][places].astype(np.int64), ports >> 16], axis=1)
 
 
 def header_text(header: Iterable[Any]) -> str:
@@ -213,11 +226,13 @@ class Records:
         return len(self.kind)
 
     def at(self, low: int, high: Optional[int] = None) -> Ints:
-        """Returns the places of the rows of a kind, or of the kinds from `low` to `high`. Shape (n,), in order."""
+        """Returns the places of the rows of a kind, or of the kinds from `low` to `high`. Shape (n,), in
+        order."""
         key = low, low if high is None else high
         if key not in self._places:
             # Below `low` the difference wraps to a large number.
-            self._places[key] = np.flatnonzero(self.kind == low if high is None else self.kind - np.uint8(low) <= high - low)
+            self._places[key] = np.flatnonzero(self.kind == low if high is None
+                                               else self.kind - np.uint8(low) <= high - low)
         return self._places[key]
 
     def name_train(self, places: Ints, number: int) -> None:
@@ -273,16 +288,20 @@ class Records:
 
 def records_of(name: str, rows: Rows, kind: Bytes, first: int, counters: Any) -> Records:
     """Returns an experiment of a file of rows. Raises `RowError` if its rows contradict its counters."""
-    found = Records(name, rows, kind, Counters(int(counters["packet"]), int(counters["number"]), int(counters["source"])), first=first)
+    found = Records(name, rows, kind, Counters(int(counters["packet"]), int(counters["number"]),
+                                               int(counters["source"])), first=first)
     made = found.rows["packet"][found.at(MAKE_COMMAND, MAKE_ACK)]
     bad = np.flatnonzero(made != np.arange(len(made)))
     if len(bad) or len(made) != found.counters.made:
-        raise found.refused(len(kind), f"the counters have {found.counters.made} created packets, but the rows create"
-                            f" {len(made)}, {'not ' if len(bad) else ''}in order: run the scenario again with this version")
+        raise found.refused(len(kind),
+                            f"the counters have {found.counters.made} created packets, but the rows create "
+                            f"{len(made)}, {'not ' if len(bad) else ''}in order: run the scenario again "
+                            "with this version")
     causes = np.bincount(found.rows["code"][found.at(DROP, DROP_ACK)], minlength=len(CAUSES) + 1).tolist()
     found.counters.drops = dict(zip(CAUSES, causes[1:]))
     delivered = len(found.at(DELIVER, DELIVER_ACK))
     if delivered != found.counters.delivered or len(made) != delivered + sum(causes) + found.counters.held:
-        raise found.refused(len(kind), f"the counters have {found.counters.delivered} delivered packets, but the rows"
-                            f" {delivered} and {sum(causes)} dropped ones: run the scenario again")
+        raise found.refused(len(kind),
+                            f"the counters have {found.counters.delivered} delivered packets, but the rows "
+                            f"{delivered} and {sum(causes)} dropped ones: run the scenario again")
     return found

@@ -1,15 +1,16 @@
 """The only reader of scenarios, written from docs/reference/scenario.md alone.
 
-`Judged` finds the first fault and its line, as `dnlab check` must; `read` returns the experiments with their commands. Needs only
-Python, and simulates nothing.
+`Judged` finds the first fault and its line, as `dnlab check` must; `read` returns the experiments with their
+commands. Needs only Python, and simulates nothing.
 """
 import importlib.util
 import re
 from typing import TYPE_CHECKING, Iterator, NamedTuple, Optional, Sequence, Union
 
 from dnlab.errors import ParseError
-from dnlab.io.scenario_parts import (HEADER, MASKS, MOMENTS, MOST_BYTES, MOST_EXPERIMENTS, MOST_LINE, NUMBER, OPTIONS,
-                                     SSTHRESH, STEPS, WINDOW, Command, Commands, Plan, Run, Sends, config_of)
+from dnlab.io.scenario_parts import (HEADER, MASKS, MOMENTS, MOST_BYTES, MOST_EXPERIMENTS, MOST_LINE, NUMBER,
+                                     OPTIONS, SSTHRESH, STEPS, WINDOW, Command, Commands, Plan, Run, Sends,
+                                     config_of)
 
 if TYPE_CHECKING:
     from dnlab.io.rows import Ints
@@ -19,10 +20,10 @@ __all__ = ["Command", "Judged", "MOST_BYTES", "MOST_EXPERIMENTS", "MOST_LINE", "
 # Below this number of injected packets, loading NumPy costs more than it saves.
 MANY = 1000
 # The numbers of lines, which the patterns have as `#port`, with their ranges. `upto` ends a range of ports.
-RANGES = {"moment": MOMENTS, "seed": (0, 2**64 - 1), "budget": (1, 65535), "steps": (1, 10**7), "rule": (0, 99999),
-          "number": (1, 65535), "octet": (0, 255), "prefix": (0, 32), "port": (0, 65535), "upto": (0, 65535),
-          "size": (40, 1500), "count": (1, 10**6), "gap": (0, 10**12), "smss": (64, 1460), "ssthresh": (1, 10**9),
-          "window": (1, 65535), "rto": (1, 60000), "switch": (0, 1)}
+RANGES = {"moment": MOMENTS, "seed": (0, 2**64 - 1), "budget": (1, 65535), "steps": (1, 10**7),
+          "rule": (0, 99999), "number": (1, 65535), "octet": (0, 255), "prefix": (0, 32), "port": (0, 65535),
+          "upto": (0, 65535), "size": (40, 1500), "count": (1, 10**6), "gap": (0, 10**12), "smss": (64, 1460),
+          "ssthresh": (1, 10**9), "window": (1, 65535), "rto": (1, 60000), "switch": (0, 1)}
 _IP = r"#octet\.#octet\.#octet\.#octet"
 _END = rf"(?:any|{_IP}(?:/#prefix)?)(?: #port(?:-#upto)?)?"
 _ENDS = rf"(?P<source>{_IP}) #port (?P<target>{_IP}) #port"
@@ -30,8 +31,10 @@ _ENDS = rf"(?P<source>{_IP}) #port (?P<target>{_IP}) #port"
 COMMANDS = {
     "add": rf" #rule (?:allow|deny|count|skipto #rule|pipe #number) (?:ip|tcp|udp) from {_END} to {_END}",
     "delete": " #rule", "pipe": f" (?:delete #number|show|#number config{OPTIONS})", "show": "",
-    "inject": f" (?:tcp|udp) {_ENDS} #size", "train": f" #number (?:tcp|udp) {_ENDS} #size count #count gap #gap",
-    "flow": f" #number {_ENDS} smss #smss segments #count(?: ssthresh #ssthresh| window #window| rto (?:#rto|adaptive))*",
+    "inject": f" (?:tcp|udp) {_ENDS} #size",
+    "train": f" #number (?:tcp|udp) {_ENDS} #size count #count gap #gap",
+    "flow": f" #number {_ENDS} smss #smss segments #count(?: ssthresh #ssthresh| window #window| rto "
+    "(?:#rto|adaptive))*",
     "stop": " #number", "one_pass": " #switch", "trace": " #switch", "end": ""}
 # Options, which are in any order, but once.
 _OPTIONS = {"pipe": ("bw", "delay", "queue", "plr", "codel", "target", "interval", "mask", *MASKS),
@@ -40,7 +43,8 @@ _OPTIONS = {"pipe": ("bw", "delay", "queue", "plr", "codel", "target", "interval
 
 def _pattern(words: str) -> "re.Pattern[str]":
     parts = re.split("#([a-z]+)", words)
-    return re.compile("".join(f"(?P<{part}_{place}>{NUMBER})" if place % 2 else part for place, part in enumerate(parts)))
+    return re.compile("".join(f"(?P<{part}_{place}>{NUMBER})" if place % 2 else part
+                              for place, part in enumerate(parts)))
 
 
 _HEADING = _pattern("experiment (?P<name>[a-z0-9_-]{1,32}) seed #seed budget #budget(?: steps #steps)?")
@@ -52,9 +56,11 @@ class BadLine(Exception):
 
 
 def read_line(line: int, words: Sequence[str]) -> Union[Plan, Command]:
-    """Returns an experiment, which has no commands yet, or a command, by the words of its line. Raises `BadLine`."""
+    """Returns an experiment, which has no commands yet, or a command, by the words of its line. Raises
+    `BadLine`."""
     word = words[1] if len(words) > 1 else ""
-    found = (_HEADING if words[0] == "experiment" else _COMMANDS.get(word, _HEADING)).fullmatch(" ".join(words))
+    found = (_HEADING if words[0] == "experiment"
+             else _COMMANDS.get(word, _HEADING)).fullmatch(" ".join(words))
     given = ["codel" if one == "droptail" else one for one in words]
     if found is None or any(given.count(option) > 1 for option in _OPTIONS.get(word, ())):
         raise BadLine("badword")
@@ -67,14 +73,16 @@ def read_line(line: int, words: Sequence[str]) -> Union[Plan, Command]:
         raise BadLine("outofrange")
     if word in ("inject", "train", "flow"):
         smss = of.get("smss", 0)
-        sends = Sends(word, of.get("number"), of.get("size", smss + HEADER), of.get("count", 1), of.get("gap", 0), smss,
-                      of.get("window", WINDOW), of.get("ssthresh", SSTHRESH), found["source"], found["target"])
+        sends = Sends(word, of.get("number"), of.get("size", smss + HEADER), of.get("count", 1),
+                      of.get("gap", 0), smss, of.get("window", WINDOW), of.get("ssthresh", SSTHRESH),
+                      found["source"], found["target"])
     return Command(line, of["moment"], word, text, sends, of["number"] if word == "stop" else None,
                    of["number"] if is_config else None)
 
 
 def _numbers(found: "re.Match[str]") -> dict[str, int]:
-    """Returns the numbers of a line by their names, the last one of each. Raises `BadLine` for one out of its range."""
+    """Returns the numbers of a line by their names, the last one of each. Raises `BadLine` for one out of its
+    range."""
     numbers: dict[str, int] = {}
     for name, text in found.groupdict().items():
         kind = name.partition("_")[0]
@@ -87,10 +95,11 @@ def _numbers(found: "re.Match[str]") -> dict[str, int]:
 
 
 class Judged:
-    """The result of parsing a text: `fault` is None or (line, cause); `experiments` has the name and the number of commands of each.
+    """The result of parsing a text: `fault` is None or (line, cause); `experiments` has the name and the
+    number of commands of each.
 
-    `plans` has the experiments with their commands, if they are kept. Texts that will be split may exceed the program's limits: then
-    `limited` is False."""
+    `plans` has the experiments with their commands, if they are kept. Texts that will be split may exceed the
+    program's limits: then `limited` is False."""
 
     def __init__(self, text: bytes, keep: bool = False, limited: bool = True) -> None:
         self.experiments: list[tuple[str, int]] = []
@@ -191,9 +200,9 @@ _RUN = re.compile(rf"(?:@{_MOMENT} inject (?:tcp|udp) {_ADDRESS} {_PORT} {_ADDRE
 
 
 def runs_in(text: bytes) -> Iterator[tuple[int, Union[bytes, Run]]]:
-    """Yields the lines of a text of whole lines, in order, each with its number from 1: runs of `inject` lines
-    together, each other line by itself, without empty ones. Only `inject` lines that are certainly valid are in
-    runs, so all faults are in lines by themselves."""
+    """Yields the lines of a text of whole lines, in order, each with its number from 1: runs of `inject`
+    lines together, each other line by itself, without empty ones. Only `inject` lines that are certainly
+    valid are in runs, so all faults are in lines by themselves."""
     import numpy as np
 
     begin, number = 0, 1
@@ -218,7 +227,8 @@ def columns_of(text: bytes) -> "Ints":
     octets = 1 << np.array([24, 16, 8, 0])
     for word, number in ((b"@", b""), (b"inject tcp", b"6"), (b"inject udp", b"17"), (b".", b" ")):
         text = text.replace(word, number)
-    words = np.fromstring(text, dtype=np.int64, sep=" ").reshape(-1, 13).T if text else np.zeros((13, 0), dtype=np.int64)
+    words = (np.fromstring(text, dtype=np.int64, sep=" ").reshape(-1, 13).T if text
+             else np.zeros((13, 0), dtype=np.int64))
     return np.stack((words[0], words[1], octets @ words[2:6], words[6], octets @ words[7:11], words[11],
                      words[12]))
 
@@ -231,7 +241,8 @@ def read(text: bytes) -> dict[str, Plan]:
     if judged.fault:
         line, cause = judged.fault
         lines = text.split(b"\n")
-        shown = lines[line - 1][:60].decode("ascii", "replace") if line <= len(lines) else "the end of the text"
+        shown = (lines[line - 1][:60].decode("ascii", "replace") if line <= len(lines)
+                 else "the end of the text")
         raise ParseError(line, f"{cause}: not a line of a scenario: {shown!r}")
     return judged.plans
 
@@ -267,14 +278,17 @@ class Finding(NamedTuple):
 
     def told(self) -> str:
         """Returns the line and all that is said of it, on one line."""
-        rows = [f"{name}: {value}" for name in ("means", "expected", "example", "hint", "before") if (value := getattr(self, name))]
-        return "; ".join([*([self.text.strip()] if self.text else []), *rows, *(f"also: {one}" for one in self.also)])
+        rows = [f"{name}: {value}" for name in ("means", "expected", "example", "hint", "before")
+                if (value := getattr(self, name))]
+        return "; ".join([*([self.text.strip()] if self.text else []), *rows,
+                          *(f"also: {one}" for one in self.also)])
 
 
 def findings(said: str) -> Iterator[Finding]:
     """Returns what a text of `--explain` says, in its order.
 
-    >>> one, = findings("line 2: badword\\n  @0 shw\\n     ^^^\\n  expected: a command\\n  hint: did you mean `show`?\\n")
+    >>> said = "line 2: badword\\n  @0 shw\\n     ^^^\\n  expected: a command\\n"
+    >>> one, = findings(said + "  hint: did you mean `show`?\\n")
     >>> one.line, one.column, one.width, one.kind, one.cause, one.expected
     (2, 4, 3, 'fault', 'badword', 'a command')
     """
@@ -291,6 +305,8 @@ def _finding(line: int, cause: str, rows: list[str]) -> Finding:
     pairs = [(found[1], found[2]) for row in rows[has_text + bool(marks):] if (found := _ROW.fullmatch(row))]
     of = dict(pairs)
     kind = "refused" if cause.startswith("refused ") else "warning" if "experiment" in of else "fault"
-    return Finding(line, len(marks[1]) + 1 if marks else None, len(marks[2]) if marks else None, kind, cause, rows[0] if has_text else None,
-                   of.get("experiment"), of.get("means"), of.get("expected"), of.get("example"), of.get("hint"), of.get("before"),
+    return Finding(line, len(marks[1]) + 1 if marks else None, len(marks[2]) if marks else None, kind, cause,
+                   rows[0] if has_text else None,
+                   of.get("experiment"), of.get("means"), of.get("expected"), of.get("example"),
+                   of.get("hint"), of.get("before"),
                    tuple(value for name, value in pairs if name == "also"))

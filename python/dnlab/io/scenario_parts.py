@@ -1,4 +1,5 @@
-"""The contents of a scenario: experiments, their commands and what these send; and the limits of docs/reference/scenario.md."""
+"""The contents of a scenario: experiments, their commands and what these send; and the limits of
+docs/reference/scenario.md."""
 import re
 from bisect import bisect_right
 from dataclasses import dataclass
@@ -32,8 +33,8 @@ INJECTED = "injected"
 class Sends:
     """What a command sends: a packet of `inject`, a train or a flow.
 
-    `size` is a packet's size in bytes, for flows with 40 bytes of headers; `count` packets or segments; `gap` in ns; `smss`,
-    `window` and `ssthresh` in bytes; `source` and `target` are addresses."""
+    `size` is a packet's size in bytes, for flows with 40 bytes of headers; `count` packets or segments; `gap`
+    in ns; `smss`, `window` and `ssthresh` in bytes; `source` and `target` are addresses."""
     word: str
     number: Optional[int]
     size: int
@@ -66,7 +67,8 @@ def first_window(smss: int) -> int:
 class Command(NamedTuple):
     """A command: its line, its time in ns, its first word and its text after the time.
 
-    `sends` is what it sends, `stops` the flow that it stops, `pipe` the pipe that it configures, else None."""
+    `sends` is what it sends, `stops` the flow that it stops, `pipe` the pipe that it configures, else
+    None."""
     line: int
     moment: int
     word: str
@@ -77,8 +79,9 @@ class Command(NamedTuple):
 
 
 class Run(NamedTuple):
-    """Successive `inject` lines (ignoring empty ones): their numbers from 1, shape (n,), their bytes without extra spaces, and their values as
-    int64 of shape (7, n): time, protocol (6 or 17), source, its port, target, its port, size."""
+    """Successive `inject` lines (ignoring empty ones): their numbers from 1, shape (n,), their bytes without
+    extra spaces, and their values as int64 of shape (7, n): time, protocol (6 or 17), source, its port,
+    target, its port, size."""
     lines: "Ints"
     text: bytes
     columns: "Ints"
@@ -93,8 +96,9 @@ class Run(NamedTuple):
 
 
 class Commands(Sequence[Command]):
-    """The commands of an experiment, in order. `inject` lines may be kept in `runs`, whose commands are created on use; `plain` has all
-    others, each with its index. `runs` has the index of the first command of each."""
+    """The commands of an experiment, in order. `inject` lines may be kept in `runs`, whose commands are
+    created on use; `plain` has all others, each with its index. `runs` has the index of the first command of
+    each."""
 
     def __init__(self) -> None:
         self.plain: list[tuple[int, Command]] = []
@@ -124,10 +128,12 @@ class Commands(Sequence[Command]):
                 yield part
 
     @overload
-    def __getitem__(self, place: int) -> Command: ...
+    def __getitem__(self, place: int) -> Command:
+        ...
 
     @overload
-    def __getitem__(self, place: slice) -> list[Command]: ...
+    def __getitem__(self, place: slice) -> list[Command]:
+        ...
 
     def __getitem__(self, place: Union[int, slice]) -> Union[Command, list[Command]]:
         if isinstance(place, slice):
@@ -144,8 +150,8 @@ class Commands(Sequence[Command]):
 
 
 class Plan(NamedTuple):
-    """An experiment of a scenario: its name, the line of its heading, seed, budgets of packets and of steps; `names` has the user's names for
-    sources of injected packets (`dnlab.analysis.names`)."""
+    """An experiment of a scenario: its name, the line of its heading, seed, budgets of packets and of steps;
+    `names` has the user's names for sources of injected packets (`dnlab.analysis.names`)."""
     name: str
     line: int
     seed: int
@@ -182,9 +188,9 @@ _CONFIG = re.compile(f"pipe {NUMBER} config{OPTIONS}")
 class Config:
     """A `config` of a pipe, with its line.
 
-    `bw` is in bit/s (0 is unlimited), `delay` in ns, the queue's limit in `slots` or `bytes` (the other is None), `plr` in
-    millionths; CoDel's `target` and `interval` are in ns (None without CoDel); `mask` is text; `given` has the options that it names,
-    with their text."""
+    `bw` is in bit/s (0 is unlimited), `delay` in ns, the queue's limit in `slots` or `bytes` (the other is
+    None), `plr` in millionths; CoDel's `target` and `interval` are in ns (None without CoDel); `mask` is
+    text; `given` has the options that it names, with their text."""
     line: int
     bw: int = 0
     delay: int = 0
@@ -224,9 +230,12 @@ def config_of(line: int, text: str) -> Config:
     found = _CONFIG.fullmatch(text)
     assert found is not None
     queue, unit, _ = (found["queue"] or "50").partition("K")
-    times = {name: time_of(found[name]) if found[name] else CODEL[name] if found["codel"] else None for name in CODEL}
-    return Config(line, rate_of(found["bw"] or "0"), time_of(found["delay"] or "0"), None if unit else int(queue),
-                  int(queue) * 1024 if unit else None, int((found["plr"] or "0").replace(".", "").ljust(7, "0")),
+    times = {name: time_of(found[name]) if found[name] else CODEL[name] if found["codel"] else None
+             for name in CODEL}
+    return Config(line, rate_of(found["bw"] or "0"), time_of(found["delay"] or "0"),
+                  None if unit else int(queue),
+                  int(queue) * 1024 if unit else None,
+                  int((found["plr"] or "0").replace(".", "").ljust(7, "0")),
                   found["codel"] is not None, times["target"], times["interval"], found["mask"] or "",
                   tuple((name, found[name]) for name in DEFAULTS if found[name]))
 
@@ -276,7 +285,8 @@ def changes_of(done: Iterable[Command]) -> dict[int, list[Change]]:
     found: dict[int, list[Change]] = {}
     for command in done:
         if command.pipe is not None:
-            found.setdefault(command.pipe, []).append(Change(command.moment, config_of(command.line, command.text)))
+            found.setdefault(command.pipe, []).append(Change(command.moment,
+                                                             config_of(command.line, command.text)))
         elif command.text.startswith("pipe delete "):
             found.setdefault(int(command.text.split()[2]), []).append(Change(command.moment, None))
     return found

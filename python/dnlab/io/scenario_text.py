@@ -6,8 +6,8 @@ from dnlab.io.scenario import Judged
 from dnlab.io.scenario_parts import MOST_BYTES, MOST_EXPERIMENTS, STEPS
 
 class Part(NamedTuple):
-    """An experiment of a text: its name, the line of its heading (from 1), its number of commands, and its lines up to the next
-    heading."""
+    """An experiment of a text: its name, the line of its heading (from 1), its number of commands, and its
+    lines up to the next heading."""
     name: str
     line: int
     commands: int
@@ -43,8 +43,8 @@ def names_of(text: bytes) -> list[str]:
 
 
 def experiments_in(texts: Iterable[bytes]) -> list[Part]:
-    """Returns the experiments of some texts, in order. What precedes the first heading of a text is left out, since it is
-    comments."""
+    """Returns the experiments of some texts, in order. What precedes the first heading of a text is left out,
+    since it is comments."""
     found = []
     for text in texts:
         headings = list(lines_in(text))
@@ -54,13 +54,14 @@ def experiments_in(texts: Iterable[bytes]) -> list[Part]:
             own = text[place:end]
             commands = own.count(b"\n@") + sum(line.lstrip(b" ").startswith(b"@") for line in own.split(b"\n")
                                                if line.startswith(b" "))
-            found.append(Part(words[1].decode("ascii", "replace") if len(words) > 1 else "", number, commands, own))
+            found.append(Part(words[1].decode("ascii", "replace") if len(words) > 1 else "", number,
+                              commands, own))
     return found
 
 
 def texts_of(parts: Sequence[Part]) -> list[list[Part]]:
-    """Returns the experiments in as few texts as the program's limits allow, in order: each has at most 256 of them and 16777216
-    bytes."""
+    """Returns the experiments in as few texts as the program's limits allow, in order: each has at most 256
+    of them and 16777216 bytes."""
     found: list[list[Part]] = []
     size = 0
     for part in parts:
@@ -73,7 +74,8 @@ def texts_of(parts: Sequence[Part]) -> list[list[Part]]:
 
 
 def groups(costs: Sequence[int], parts: int) -> list[int]:
-    """Returns where each of `parts` groups ends: contiguous, none empty, each end as close as possible to its share of all costs.
+    """Returns where each of `parts` groups ends: contiguous, none empty, each end as close as possible to its
+    share of all costs.
 
     >>> groups([9, 1, 1, 1], 2), groups([3, 3, 3, 3], 2)
     ([1, 4], [2, 4])
@@ -95,8 +97,8 @@ def groups(costs: Sequence[int], parts: int) -> list[int]:
 
 
 def shares(parts: Sequence[Part], count: int) -> list[list[Part]]:
-    """Returns the experiments in `count` groups with about the same number of commands; in more, if a group would exceed the program's
-    limits."""
+    """Returns the experiments in `count` groups with about the same number of commands; in more, if a group
+    would exceed the program's limits."""
     found = []
     begin = 0
     for end in groups([part.commands for part in parts], count) if parts else []:
@@ -120,8 +122,8 @@ def heading_fault(line: bytes) -> Optional[str]:
     return None if fault is None or fault[1] == "noend" else fault[1]
 
 
-# The maximum output of one step, one command, one `show` and one `pipe show`, in bytes, with a margin: a listing has 256 rules,
-# or 64 pipes of 256 instances.
+# The maximum output of one step, one command, one `show` and one `pipe show`, in bytes, with a margin: a
+# listing has 256 rules, or 64 pipes of 256 instances.
 _STEP, _COMMAND, _RULES, _INSTANCES = 1 << 10, 1 << 8, 1 << 16, 1 << 22
 # Further output, on standard error.
 _SAID = 1 << 20
@@ -139,9 +141,11 @@ def most_report(text: bytes) -> int:
     """
     said = [_WORDS.search(heading) for _, heading, _ in lines_in(text)]
     steps = sum(_BURST + (int(found[1]) if found else STEPS) for found in said)
-    listings = [text[text.rfind(b"\n", 0, found.start()) + 1:found.start()] for found in _LISTING.finditer(text)]
+    listings = [text[text.rfind(b"\n", 0, found.start()) + 1:found.start()]
+                for found in _LISTING.finditer(text)]
     pipes = sum(before.split()[-1:] == [b"pipe"] for before in listings)
-    return _SAID + steps * _STEP + text.count(b"\n") * _COMMAND + pipes * _INSTANCES + (len(listings) - pipes) * _RULES
+    return _SAID + steps * _STEP + text.count(b"\n") * _COMMAND + pipes * _INSTANCES + (
+        len(listings) - pipes) * _RULES
 
 
 _HEADING = re.compile(rb"^( *experiment\b[^\n]*?)(?:( +steps +)([0-9]+))? *\n", re.MULTILINE)
@@ -152,11 +156,11 @@ _MOST_STEPS = 10**7
 
 
 def traced(text: bytes) -> bytes:
-    """Returns a valid scenario with tracing from the first command of each experiment on, for an engine without `--trace`: the library,
-    and sessions.
+    """Returns a valid scenario with tracing from the first command of each experiment on, for an engine
+    without `--trace`: the library, and sessions.
 
-    A `trace 1` becomes the first command of each experiment, which has one more step for it, and later `trace` commands say 1. The
-    command is removed from the report, so the others keep their numbers.
+    A `trace 1` becomes the first command of each experiment, which has one more step for it, and later
+    `trace` commands say 1. The command is removed from the report, so the others keep their numbers.
 
     >>> traced(b"experiment a seed 1 budget 2 steps 30\\n@5 trace 0\\n@9 end\\n")
     b'experiment a seed 1 budget 2 steps 31\\n@0 trace 1\\n@5 trace 1\\n@9 end\\n'

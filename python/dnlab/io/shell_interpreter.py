@@ -1,4 +1,5 @@
-"""Interprets commands of a shell script: expands their words, and notes the calls of ipfw(8), sysctl(8) and sleep(1). Runs nothing."""
+"""Interprets commands of a shell script: expands their words, and notes the calls of ipfw(8), sysctl(8) and
+sleep(1). Runs nothing."""
 import ast
 import operator
 import re
@@ -9,12 +10,13 @@ from dnlab.io.shell_lexer import Lexer, Part, Word, parts_of
 
 KEPT = ("ipfw", "sysctl", "sleep")
 # Commands without an effect on a scenario.
-_SILENT = {"kldload", "kldstat", "kldunload", "ifconfig", "route", "service", "sysrc", "logger", "echo", "printf", ":", "true", "export",
-           "readonly", "local", "umask", "ulimit"}
+_SILENT = {"kldload", "kldstat", "kldunload", "ifconfig", "route", "service", "sysrc", "logger", "echo",
+           "printf", ":", "true", "export", "readonly", "local", "umask", "ulimit"}
 _PLACE = re.compile(r"/(?:usr/)?(?:local/)?s?bin/")
 # The maximum number of characters of all words together, and of an expression.
 _MOST, _LONGEST = 2**20, 200
-# In an expanded word: between two fields, and before a quoted part, so that an empty one is a field too. No script has them.
+# In an expanded word: between two fields, and before a quoted part, so that an empty one is a field too. No
+# script has them.
 MARKS = _BETWEEN, _QUOTED = "\0", "\1"
 
 
@@ -27,7 +29,8 @@ class Ends(Exception):
 
 
 class Step(NamedTuple):
-    """A command: its line, the function that interprets it, and whether it is a simple command (`set -e` judges no other)."""
+    """A command: its line, the function that interprets it, and whether it is a simple command (`set -e`
+    judges no other)."""
     line: int
     run: Callable[[], int]
     is_simple: bool = False
@@ -37,7 +40,8 @@ Steps = list[Step]
 
 
 class Interpreter:
-    """The variables of a script and how they are expanded; `found` are the calls of the programs of interest."""
+    """The variables of a script and how they are expanded; `found` are the calls of the programs of
+    interest."""
 
     def __init__(self) -> None:
         self.found: list[tuple[str, ...]] = []
@@ -54,7 +58,9 @@ class Interpreter:
     def spend(self, amount: int) -> None:
         self.left -= amount
         if self.left < 0:
-            raise self.no(f"at this point the script has more than {_MOST} characters of commands: is there an endless loop?")
+            raise self.no(
+                f"at this point the script has more than {_MOST} characters of commands: is there "
+                "an endless loop?")
 
     def run(self, steps: Steps) -> int:
         status = 0
@@ -91,7 +97,8 @@ class Interpreter:
         finally:
             self.input = outer
 
-    def command(self, assigned: Sequence[tuple[str, Word]], words_given: Sequence[Word], body: Optional[Word]) -> int:
+    def command(self, assigned: Sequence[tuple[str, Word]], words_given: Sequence[Word],
+                body: Optional[Word]) -> int:
         for name, word in assigned:
             self.values[name] = self.text(word)
         words = self.fields(words_given)
@@ -112,7 +119,8 @@ class Interpreter:
 
     def keep(self, name: str, words: Sequence[str], body: Optional[Word]) -> None:
         if name == "ipfw" and words and words[-1] in ("/dev/stdin", "-") and body is not None:
-            self.found += [("ipfw", *one.split()) for one in self.text(body).splitlines() if one.strip() and one.lstrip()[0] != "#"]
+            self.found += [("ipfw", *one.split())
+                           for one in self.text(body).splitlines() if one.strip() and one.lstrip()[0] != "#"]
             return
         # ipfw(8) also splits arguments that contain spaces.
         self.found.append((name, *(one for word in words for one in word.split())))
@@ -146,7 +154,9 @@ class Interpreter:
             return 0
         if name == "read":
             return self.read([word for word in words if word != "-r"])
-        raise self.no(f"`{name}` isn't executed: write the ipfw commands that it runs, or use the output of `ipfw list` and `ipfw pipe show`")
+        raise self.no(
+            f"`{name}` isn't executed: write the ipfw commands that it runs, or use the output of `ipfw "
+            "list` and `ipfw pipe show`")
 
     def read(self, names: list[str]) -> int:
         line = self.input.pop(0) if self.input else None
@@ -210,7 +220,8 @@ class Interpreter:
         return value
 
     def known(self, name: str) -> Optional[str]:
-        special = {"@": " ".join(self.given), "*": " ".join(self.given), "#": str(len(self.given)), "?": str(self.status), "0": "script"}
+        special = {"@": " ".join(self.given), "*": " ".join(self.given), "#": str(len(self.given)),
+                   "?": str(self.status), "0": "script"}
         if name in special:
             return special[name]
         if name.isdigit():
@@ -243,10 +254,12 @@ class Interpreter:
 
 
 _SUMS: Mapping[type, Callable[[int, int], int]] = {
-    ast.Add: operator.add, ast.Sub: operator.sub, ast.Mult: operator.mul, ast.BitAnd: operator.and_, ast.BitOr: operator.or_,
+    ast.Add: operator.add, ast.Sub: operator.sub, ast.Mult: operator.mul, ast.BitAnd: operator.and_,
+    ast.BitOr: operator.or_,
     ast.BitXor: operator.xor, ast.LShift: lambda a, b: a << (b & 63), ast.RShift: lambda a, b: a >> (b & 63)}
 _COMPARED: Mapping[str, Callable[[int, int], bool]] = {
-    "-eq": operator.eq, "-ne": operator.ne, "-lt": operator.lt, "-le": operator.le, "-gt": operator.gt, "-ge": operator.ge}
+    "-eq": operator.eq, "-ne": operator.ne, "-lt": operator.lt, "-le": operator.le, "-gt": operator.gt,
+    "-ge": operator.ge}
 
 
 def number_of(text: str) -> int:

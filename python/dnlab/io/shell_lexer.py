@@ -10,13 +10,16 @@ from dnlab.errors import ParseError
 _BLANK = re.compile(r"(?:[ \t\r]|\\\n)*(?:#[^\n]*)?")
 _OPERATORS = re.compile(r"<<-|;;|&&|\|\||<<|>>|>&|<&|>\||[;&|()<>\n]")
 # A part of a word, and of the content of double quotes or of a here-document, that isn't expanded.
-_PART = re.compile(r"""\\(?P<escaped>.?)|'([^']*)'|"(?P<double>(?:[^"\\]|\\.)*)"|(?P<bare>[^\s\\'"$`;&|()<>]+|[^\\'"])""", re.S)
+_PART = re.compile(
+    r"""\\(?P<escaped>.?)|'([^']*)'|"(?P<double>(?:[^"\\]|\\.)*)"|(?P<bare>[^\s\\'"$`;&|()<>]+|[^\\'"])""",
+    re.S)
 _QUOTED = re.compile(r'\\(?P<escaped>[$`"\\\n])|(\\?[^\\$`]*)')
 _NAME = re.compile(r"[A-Za-z_][A-Za-z_0-9]*|[0-9@*#?$!-]")
 
 
 class Part(NamedTuple):
-    """A part of a word: literal `text`, a parameter (`name`), an expression (`sum`) or a command substitution (`call`)."""
+    """A part of a word: literal `text`, a parameter (`name`), an expression (`sum`) or a command substitution
+    (`call`)."""
     kind: str
     text: str
     quoted: bool = False
@@ -68,7 +71,8 @@ class Lexer:
             if operator is None:
                 word, at = self._word(at)
                 # The number of a file descriptor that is redirected is no word.
-                is_redirected = self.text[at:at + 1] in ("<", ">") and len(word) == 1 and word[0].text in ("0", "1", "2")
+                is_redirected = (self.text[at:at + 1] in ("<", ">") and len(word) == 1
+                                 and word[0].text in ("0", "1", "2"))
                 found += [] if is_redirected else [Token(line, word)]
                 continue
             found.append(Token(line, (), operator[0]))

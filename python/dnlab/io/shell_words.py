@@ -1,6 +1,8 @@
-"""Finds the arguments that a shell script passes to ipfw(8), sysctl(8) and sleep(1), without running it. Refuses other syntax.
+"""Finds the arguments that a shell script passes to ipfw(8), sysctl(8) and sleep(1), without running it.
+Refuses other syntax.
 
-Each construct of the part of sh(1) that configurations of ipfw(8) use is parsed into a function that interprets it.
+Each construct of the part of sh(1) that configurations of ipfw(8) use is parsed into a function that
+interprets it.
 
 >>> words_of("for rate in 1 2; do ipfw pipe 1 config bw ${rate}Mbit/s; done")
 [('ipfw', 'pipe', '1', 'config', 'bw', '1Mbit/s'), ('ipfw', 'pipe', '1', 'config', 'bw', '2Mbit/s')]
@@ -29,7 +31,8 @@ class _Parser:
         self.tokens, self.at, self.script = Lexer(text).tokens(), 0, script
 
     def _now(self) -> Token:
-        return self.tokens[self.at] if self.at < len(self.tokens) else Token(self.tokens[-1].line if self.tokens else 1, (), "end")
+        return (self.tokens[self.at] if self.at < len(self.tokens)
+                else Token(self.tokens[-1].line if self.tokens else 1, (), "end"))
 
     def _take(self, wanted: str = "") -> Token:
         token = self._now()
@@ -62,8 +65,9 @@ class _Parser:
             self._skip(";")
             self._feeds()
         if not self._is(*(closing or ("end",))):
-            raise ParseError(self._now().line, f"`{self._now().shown()}` where {' or '.join(f'`{one}`' for one in closing) or 'a command'}"
-                             " should be")
+            raise ParseError(self._now().line,
+                             f"`{self._now().shown()}` where "
+                             f"{' or '.join(f'`{one}`' for one in closing) or 'a command'} should be")
         return found, self._take().plain()
 
     def _chain(self) -> Step:
@@ -91,7 +95,8 @@ class _Parser:
             return Step(token.line, lambda: int(self.script.is_true([turned])))
         if word in _UNKNOWN:
             raise ParseError(token.line, f"`{word}` isn't understood")
-        parse = {"if": self._if, "while": self._while, "until": self._while, "for": self._for, "case": self._case, "{": self._group}.get(word)
+        parse = {"if": self._if, "while": self._while, "until": self._while, "for": self._for,
+                 "case": self._case, "{": self._group}.get(word)
         if parse is None:
             return self._simple()
         self.at += 1
@@ -109,7 +114,8 @@ class _Parser:
         if word == "else":
             otherwise, _ = self.steps("fi")
         script = self.script
-        return lambda: script.run(next((body for condition, body in branches if script.is_true(condition)), otherwise))
+        return lambda: script.run(next((body for condition, body in branches if script.is_true(condition)),
+                                       otherwise))
 
     def _while(self, word: str) -> Callable[[], int]:
         condition, _ = self.steps("do")
@@ -166,7 +172,8 @@ class _Parser:
         def run() -> int:
             value = script.text(word)
             return script.run(next((body for patterns, body in branches
-                                    if any(fnmatch.fnmatchcase(value, script.text(one)) for one in patterns)), []))
+                                    if any(fnmatch.fnmatchcase(value, script.text(one)) for one in patterns)),
+                                   []))
 
         return run
 
@@ -180,7 +187,8 @@ class _Parser:
         while self._now().word:
             token = self._take()
             first = token.word[0]
-            name = _ASSIGNED.match(first.text) if not words and first.kind == "text" and not first.quoted else None
+            name = (_ASSIGNED.match(first.text) if not words and first.kind == "text"
+                    and not first.quoted else None)
             if name:
                 assigned.append((name[1], (Part("text", first.text[name.end():]), *token.word[1:])))
             else:
@@ -209,19 +217,23 @@ class _Parser:
         while self._is("<", ">", ">>", ">&", "<&", ">|"):
             operator = self._take()
             target = self._take().plain()
-            if target != "/dev/null" and not (operator.operator in (">&", "<&") and re.fullmatch(r"[0-9-]", target)):
-                raise ParseError(operator.line, f"`{operator.operator} {target}`: redirections to and from files are not supported")
+            if (target != "/dev/null"
+                and not (operator.operator in (">&", "<&") and re.fullmatch(r"[0-9-]", target))):
+                raise ParseError(operator.line,
+                                 f"`{operator.operator} {target}`: redirections to and from files "
+                                 "are not supported")
         return body
 
 
 def words_of(text: str) -> list[tuple[str, ...]]:
-    """Returns the arguments of each call of `ipfw`, `sysctl` and `sleep` in a script, in order. Raises `ParseError` with the line that isn't
-    understood, or whose loops don't end."""
+    """Returns the arguments of each call of `ipfw`, `sysctl` and `sleep` in a script, in order. Raises
+    `ParseError` with the line that isn't understood, or whose loops don't end."""
     if len(text) > _LONGEST:
         raise ParseError(1, f"the script has {len(text)} characters; the maximum is {_LONGEST}")
     for mark in MARKS:
         if mark in text:
-            raise ParseError(text[:text.index(mark)].count("\n") + 1, f"the character {mark!r} isn't understood")
+            raise ParseError(text[:text.index(mark)].count("\n") + 1,
+                             f"the character {mark!r} isn't understood")
     script = Interpreter()
     try:
         script.run(_Parser(text, script).steps()[0])

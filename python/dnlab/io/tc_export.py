@@ -1,8 +1,8 @@
-"""The configuration of a scenario as a script for Linux's tc(8): rates and queues where packets leave, delays and losses where they
-come in.
+"""The configuration of a scenario as a script for Linux's tc(8): rates and queues where packets leave, delays
+and losses where they come in.
 
-A constant delay may be applied before the queue or after it: packets leave at the same time. netem below a class with a rate would
-count packets in flight towards its limit, so it is on an ifb at the other interface.
+A constant delay may be applied before the queue or after it: packets leave at the same time. netem below a
+class with a rate would count packets in flight towards its limit, so it is on an ifb at the other interface.
 """
 import ipaddress
 from typing import Iterator, NamedTuple, Optional, Sequence
@@ -18,8 +18,8 @@ _MOST_CLASSES = 4000
 
 
 class Place(NamedTuple):
-    """The interface where packets leave, the one where they come in (for delays and losses; None if there is none), and the hosts that
-    get a class each if a pipe has a mask."""
+    """The interface where packets leave, the one where they come in (for delays and losses; None if there is
+    none), and the hosts that get a class each if a pipe has a mask."""
     leave: str
     enter: Optional[str]
     hosts: tuple[str, ...] = ()
@@ -39,9 +39,12 @@ def script_of(setting: Setting, place: Place, source: str) -> str:
     _judge(setting, rules, place)
     classes = list(_classes(setting, place))
     name = setting.plan.name
-    lines = ["#!/bin/sh", f"# dnlab-to-tc: {printable(source)}, experiment {name}; packets that leave {place.leave}", *_differs(setting, classes)]
+    lines = ["#!/bin/sh",
+             f"# dnlab-to-tc: {printable(source)}, experiment {name}; packets that leave {place.leave}",
+             *_differs(setting, classes)]
     lines += [f"tc qdisc del dev {place.leave} root 2>/dev/null",
-              f"tc qdisc add dev {place.leave} root handle 1: stab overhead -14 linklayer ethernet htb default 1",
+              f"tc qdisc add dev {place.leave} root handle 1: stab overhead -14 linklayer "
+              "ethernet htb default 1",
               f"tc class add dev {place.leave} parent 1: classid 1:1 htb rate {_FAST}"]
     for one in classes:
         lines += _served(place.leave, one, setting.pipes()[one.pipe])
@@ -56,16 +59,22 @@ def script_of(setting: Setting, place: Place, source: str) -> str:
 def _judge(setting: Setting, rules: Sequence[Rule], place: Place) -> None:
     for rule in rules:
         if rule.action in ("count", "skipto"):
-            raise InputError(f"rule {rule.text()}: tc has no filter for `{rule.action}`: write rules that allow, deny or use a pipe")
+            raise InputError(
+                f"rule {rule.text()}: tc has no filter for `{rule.action}`: write rules that allow, "
+                "deny or use a pipe")
         if rule.action == "pipe" and rule.value not in setting.pipes():
             raise InputError(f"rule {rule.text()}: no command configures pipe {rule.value}")
     if any(one.word == "delete" or one.text.startswith("pipe delete") for one in setting.sets):
         raise InputError("`delete`: leave out what is deleted immediately")
     if not setting.one_pass():
-        raise InputError("`one_pass 0`: a chain of pipes needs an interface for each: write one pipe, or an experiment for each link")
+        raise InputError(
+            "`one_pass 0`: a chain of pipes needs an interface for each: write one pipe, or an "
+            "experiment for each link")
     late = [number for number, config in setting.pipes().items() if _late(config)]
     if late and place.enter is None:
-        raise InputError(f"pipe {late[0]} has a delay or losses: name the interface where its packets come in, as --in eth0")
+        raise InputError(
+            f"pipe {late[0]} has a delay or losses: name the interface where its packets come "
+            "in, as --in eth0")
 
 
 def _late(config: Config) -> bool:
@@ -74,14 +83,19 @@ def _late(config: Config) -> bool:
 
 def _differs(setting: Setting, classes: Sequence[_Class]) -> list[str]:
     """Returns comments about what differs on the real machine."""
-    said = ["# Packets that match no rule are dropped on this interface, as in the scenario, including your own login; ARP and IPv6 are unaffected.",
-            "# htb sends one packet immediately, and counts in ticks of the kernel's timers; sizes count without Ethernet (stab)."]
+    said = ["# Packets that match no rule are dropped on this interface, as in the scenario, including your "
+            "own login; ARP and IPv6 are unaffected.",
+            "# htb sends one packet immediately, and counts in ticks of the kernel's timers; sizes count "
+            "without Ethernet (stab)."]
     if any(config.codel for config in setting.pipes().values()):
-        said.append("# Linux's CoDel continues with a higher count of drops after an idle time than RFC 8289's.")
+        said.append(
+            "# Linux's CoDel continues with a higher count of drops after an idle time than RFC 8289's.")
     if any(config.plr for config in setting.pipes().values()):
         said.append("# Losses by netem use their own random numbers: as many on average, but other packets.")
     if any(one.host for one in classes):
-        said.append("# A mask becomes a class for each named host; other hosts of the rule are dropped, because no rule matches them.")
+        said.append(
+            "# A mask becomes a class for each named host; other hosts of the rule are dropped, because no "
+            "rule matches them.")
     return said
 
 
@@ -94,8 +108,9 @@ def _classes(setting: Setting, place: Place) -> Iterator[_Class]:
             continue
         side = {"src-ip 0xffffffff": "src", "dst-ip 0xffffffff": "dst"}.get(config.mask)
         if side is None or not place.hosts:
-            raise InputError(f"pipe {pipe} has a mask, but tc creates no classes by itself: --hosts 10.0.0.1-10.0.0.9 writes a class for each,"
-                         " if the mask is only src-ip or dst-ip 0xffffffff")
+            raise InputError(
+                f"pipe {pipe} has a mask, but tc creates no classes by itself: --hosts 10.0.0.1-10.0.0.9 "
+                "writes a class for each, if the mask is only src-ip or dst-ip 0xffffffff")
         for host in place.hosts:
             yield _Class(number, pipe, host, side)
             number += 1
@@ -161,11 +176,13 @@ def _filters(device: str, rules: Sequence[Rule], classes: Sequence[_Class], deni
 
 
 def _ifb(setting: Setting, place: Place, late: Sequence[_Class], rules: Sequence[Rule]) -> list[str]:
-    """Returns delays and losses, on an ifb that receives what comes in at the other interface. Pipes without either are
-    unaffected."""
+    """Returns delays and losses, on an ifb that receives what comes in at the other interface. Pipes without
+    either are unaffected."""
     made = ["ip link add ifb0 type ifb 2>/dev/null", "ip link set ifb0 up",
-            f"tc qdisc del dev {place.enter} ingress 2>/dev/null", f"tc qdisc add dev {place.enter} handle ffff: ingress",
-            f"tc filter add dev {place.enter} parent ffff: protocol ip matchall action mirred egress redirect dev ifb0",
+            f"tc qdisc del dev {place.enter} ingress 2>/dev/null",
+            f"tc qdisc add dev {place.enter} handle ffff: ingress",
+            f"tc filter add dev {place.enter} parent ffff: protocol ip matchall action mirred egress "
+            "redirect dev ifb0",
             "tc qdisc del dev ifb0 root 2>/dev/null", "tc qdisc add dev ifb0 root handle 1: htb default 1",
             f"tc class add dev ifb0 parent 1: classid 1:1 htb rate {_FAST}"]
     for one in late:
@@ -174,9 +191,12 @@ def _ifb(setting: Setting, place: Place, late: Sequence[_Class], rules: Sequence
         flying = (config.bw or 10**10) * config.delay // (8 * 10**9 * _LEAST) + 1000
         loss = f" loss {config.plr / 10**4:g}%" if config.plr else ""
         made += [f"tc class add dev ifb0 parent 1: classid 1:{one.number:x} htb rate {_FAST}",
-                 f"tc qdisc add dev ifb0 parent 1:{one.number:x} handle {one.number:x}: netem delay {config.delay // 1000}us{loss}"
-                 f" limit {flying}"]
+                 f"tc qdisc add dev ifb0 parent 1:{one.number:x} handle {one.number:x}: netem delay "
+                 f"{config.delay // 1000}us{loss} limit {flying}"]
     # All rules in order, so that each packet goes where its first rule sends it.
     known = {one.pipe for one in late}
-    told = [rule if rule.action != "pipe" or rule.value in known else rule._replace(action="allow", value=0) for rule in rules]
-    return made + _filters("ifb0", [rule if rule.action != "deny" else rule._replace(action="allow") for rule in told], late, False)
+    told = [rule if rule.action != "pipe" or rule.value in known else rule._replace(action="allow", value=0)
+            for rule in rules]
+    return made + _filters("ifb0",
+                           [rule if rule.action != "deny" else rule._replace(action="allow")
+                            for rule in told], late, False)

@@ -1,17 +1,19 @@
-"""Pictures of a sweep: means with their intervals over a setting, one statistic against another, and distributions over seeds."""
+"""Pictures of a sweep: means with their intervals over a setting, one statistic against another, and
+distributions over seeds."""
 from typing import Any, Callable, Optional, Sequence
 
 import matplotlib
 import numpy as np
 import pandas as pd
+from matplotlib.axes import Axes
 from matplotlib.figure import Figure
 from matplotlib.lines import Line2D
 from matplotlib.ticker import FuncFormatter, LogLocator, NullLocator
 
 from dnlab.analysis import names
 from dnlab.errors import InputError
-from dnlab.plot.style import (
-    Line, Look, add_legend, axis_of, check_count, check_two, in_order, lines_of, number_of, others_of, places_of, subplots)
+from dnlab.plot.style import (Line, Look, add_legend, axis_of, check_count, check_two, in_order, lines_of,
+                              number_of, others_of, places_of, subplots)
 
 # Up to this many values have a tick each on a logarithmic axis.
 _MOST_TICKS = 8
@@ -19,12 +21,14 @@ _MOST_TICKS = 8
 _LONG = 8
 
 
-def figure_of(table: pd.DataFrame, settings: Sequence[str], look: Look = Look(), each: Optional[pd.DataFrame] = None) -> Figure:
-    """Returns the picture of a sweep: by its table (`Sweep.table`), or for distributions by each value (`Sweep.long`).
+def figure_of(table: pd.DataFrame, settings: Sequence[str], look: Look = Look(),
+              each: Optional[pd.DataFrame] = None) -> Figure:
+    """Returns the picture of a sweep: by its table (`Sweep.table`), or for distributions by each value
+    (`Sweep.long`).
 
-    It has a row of panels for each sender and statistic (and each value of `look.rows`), with a line for each combination of the
-    remaining settings; hollow points have warnings, which are named below. Raises `InputError` for more than eight lines or 24
-    panels."""
+    It has a row of panels for each sender and statistic (and each value of `look.rows`), with a line for each
+    combination of the remaining settings; hollow points have warnings, which are named below. Raises
+    `InputError` for more than eight lines or 24 panels."""
     # Imported here, because it imports this module.
 
     look.check(settings)
@@ -42,8 +46,8 @@ def figure_of(table: pd.DataFrame, settings: Sequence[str], look: Look = Look(),
         return _grid(each, panels, along, others, look, ecdf if look.kind == "ecdf" else boxes)
 
 
-def _grid(data: pd.DataFrame, panels: Sequence[tuple[str, str]], along: str, others: Sequence[str], look: Look,
-          draw: Callable[..., list[Any]]) -> Figure:
+def _grid(data: pd.DataFrame, panels: Sequence[tuple[str, str]], along: str, others: Sequence[str],
+          look: Look, draw: Callable[..., list[Any]]) -> Figure:
     """Returns panels in rows and columns, filled by `draw`, which returns the handles of the legend."""
     values = [None] if look.rows is None else list(dict.fromkeys(data[look.rows]))
     rows = [(panel, value) for panel in panels for value in values]
@@ -58,7 +62,8 @@ def _grid(data: pd.DataFrame, panels: Sequence[tuple[str, str]], along: str, oth
         scale = _scale(whole)
         for axes, value in zip(line, columns):
             handles = draw(axes, lines_of(_part(whole, look, one, value), others, look), along, look, scale)
-            axes.set_title(_title(look, panel[0] if len({of for of, _ in panels}) > 1 and panel[0] != before else None, one, value))
+            axes.set_title(_title(look, panel[0] if len({of for of, _ in panels}) > 1 and panel[0] != before
+                                  else None, one, value))
         before = panel[0]
         _name_axes(line, panel[1], scale[0], along, look)
     for axes in grid[-1] if look.kind != "ecdf" else []:
@@ -71,7 +76,8 @@ def _grid(data: pd.DataFrame, panels: Sequence[tuple[str, str]], along: str, oth
 
 
 def _scale(rows: pd.DataFrame) -> tuple[str, int]:
-    column = "high" if "high" in rows and rows["high"].notna().any() else "mean" if "mean" in rows else "value"
+    column = ("high" if "high" in rows and rows["high"].notna().any() else "mean" if "mean" in rows
+              else "value")
     greatest = rows[column].dropna().astype(float).max() if len(rows) else 0
     return names.shown_in(rows["unit"].iloc[0] if len(rows) else "", greatest)
 
@@ -87,12 +93,14 @@ def _name_axes(line: Sequence[Any], stat: str, unit: str, along: str, look: Look
     line[0].set_ylabel(label)
 
 
-def _add_texts(figure: Figure, data: pd.DataFrame, panels: Sequence[tuple[str, str]], along: str, look: Look) -> None:
+def _add_texts(figure: Figure, data: pd.DataFrame, panels: Sequence[tuple[str, str]], along: str,
+               look: Look) -> None:
     """Adds the title, and the explanation of points, bars and boxes below the panels."""
 
     of = list(dict.fromkeys(sender for sender, _ in panels))
     whose = names.of_whom(of[0], look.labels) if len(of) == 1 else "comparison"
-    by = ": distribution over seeds" if look.kind == "ecdf" else f" by {_lower(names.of_setting(along, look.labels))}"
+    by = (": distribution over seeds" if look.kind == "ecdf"
+          else f" by {_lower(names.of_setting(along, look.labels))}")
     title = look.title if look.title is not None else f"{whose[:1].upper()}{whose[1:]}{by}"
     if title:
         figure.suptitle(title, x=0.01, ha="left")
@@ -108,7 +116,8 @@ def intervals_in_words(table: pd.DataFrame) -> str:
     if seeds < 2:
         return "Points: single runs"
     method = " (bootstrap)" if "bootstrap" in set(table["method"]) else ""
-    return f"Points: means of {seeds if fewest == seeds else f'{fewest} to {seeds}'} seeds; bars: {table['level'].iloc[0]:g} % intervals{method}"
+    return (f"Points: means of {seeds if fewest == seeds else f'{fewest} to {seeds}'} seeds; bars: "
+            f"{table['level'].iloc[0]:g} % intervals{method}")
 
 
 def _lower(label: str) -> str:
@@ -131,8 +140,10 @@ def _part(rows: pd.DataFrame, look: Look, row: Any, column: Any) -> pd.DataFrame
 
 def _title(look: Look, sender: Optional[str], row: Any, column: Any) -> str:
     parts = [] if sender is None else [names.of_whom(sender, look.labels)]
-    parts += [f"{names.of_setting(name, look.labels).partition(' (')[0]}: {names.of_value(name, value, look.labels)}"
-              for name, value in ((look.rows, row), (look.columns, column)) if name is not None]
+    parts += [
+        f"{names.of_setting(name, look.labels).partition(' (')[0]}: "
+        f"{names.of_value(name, value, look.labels)}"
+        for name, value in ((look.rows, row), (look.columns, column)) if name is not None]
     return "\n".join(parts) if look.rows is not None else ", ".join(parts)
 
 
@@ -156,7 +167,8 @@ def label_values(axes: Any, places: dict[Any, float], along: str, look: Look) ->
     """Draws a tick for each value, and a thin line between numbers and words."""
     texts = [names.of_value(along, value, look.labels) for value in places]
     is_long = max(map(len, texts), default=0) > _LONG
-    axes.set_xticks(list(places.values()), texts, rotation=20 if is_long else 0, ha="right" if is_long else "center")
+    axes.set_xticks(list(places.values()), texts, rotation=20 if is_long else 0,
+                    ha="right" if is_long else "center")
     axes.grid(False, axis="x")
     numbers = sum(number_of(value) is not None for value in places)
     if 0 < numbers < len(places):
@@ -172,10 +184,12 @@ def _line(axes: Any, line: Line, along: str, places: dict[Any, float], scale: in
             (known["high"].astype(float) / scale - mean).fillna(0).clip(lower=0).to_numpy()]
     is_joined = known[along].map(lambda value: number_of(value) is not None).astype(bool)
     axes.plot(known["_at"][is_joined], mean[is_joined], linestyle=line.dash(), color=line.style()["color"])
-    handle = axes.errorbar(known["_at"], mean, yerr=bars, capsize=2.5, elinewidth=1, linestyle="none", label=line.label, **line.style())
+    handle = axes.errorbar(known["_at"], mean, yerr=bars, capsize=2.5, elinewidth=1, linestyle="none",
+                           label=line.label, **line.style())
     hollow = known["warnings"].fillna("") != ""
     if hollow.any():
-        axes.plot(known["_at"][hollow], mean[hollow], linestyle="none", markerfacecolor="white", zorder=5, **line.style())
+        axes.plot(known["_at"][hollow], mean[hollow], linestyle="none", markerfacecolor="white", zorder=5,
+                  **line.style())
     return handle
 
 
@@ -199,7 +213,8 @@ def _plain(axis: Any) -> None:
 
 # The explanations below a picture.
 WORDS = {"ecdf": "Empirical distribution over seeds, one step for each",
-         "box": "Boxes: quartiles and median over seeds; whiskers: up to 1.5 interquartile ranges; circles: seeds beyond"}
+         "box": "Boxes: quartiles and median over seeds; whiskers: up to 1.5 interquartile ranges; "
+                "circles: seeds beyond"}
 
 
 def ecdf(axes: Any, lines: Sequence[Line], along: str, look: Look, scale: tuple[str, int]) -> list[Any]:
@@ -208,7 +223,8 @@ def ecdf(axes: Any, lines: Sequence[Line], along: str, look: Look, scale: tuple[
     for line in lines:
         values = np.sort(line.rows["value"].astype(float).to_numpy()) / scale[1]
         shares = np.arange(len(values) + 1) / max(len(values), 1)
-        handles += axes.step(np.append(values[:1], values), shares[:len(values) + 1] if len(values) else [], where="post",
+        handles += axes.step(np.append(values[:1], values), shares[:len(values) + 1] if len(values) else [],
+                             where="post",
                              linestyle=line.dash(), color=line.style()["color"], label=line.label)
     axes.set_ylim(0, 1)
     return handles
@@ -219,18 +235,23 @@ def boxes(axes: Any, lines: Sequence[Line], along: str, look: Look, scale: tuple
     places = in_order([value for line in lines for value in line.rows[along]])
     width = 0.7 / len(lines)
     for line in lines:
-        own = [(places[value], group["value"].astype(float) / scale[1]) for value, group in line.rows.groupby(along, sort=False)]
+        own = [(places[value], group["value"].astype(float) / scale[1])
+               for value, group in line.rows.groupby(along, sort=False)]
         look_of = {"color": line.style()["color"]}
-        axes.boxplot([group for _, group in own], positions=[at + (line.place - (len(lines) - 1) / 2) * width for at, _ in own],
-                     widths=0.8 * width, manage_ticks=False, boxprops=look_of, whiskerprops=look_of, capprops=look_of,
-                     medianprops={**look_of, "linewidth": 2}, flierprops={"markersize": 3, "markeredgecolor": look_of["color"]})
+        axes.boxplot([group for _, group in own],
+                     positions=[at + (line.place - (len(lines) - 1) / 2) * width for at, _ in own],
+                     widths=0.8 * width, manage_ticks=False, boxprops=look_of, whiskerprops=look_of,
+                     capprops=look_of,
+                     medianprops={**look_of, "linewidth": 2},
+                     flierprops={"markersize": 3, "markeredgecolor": look_of["color"]})
     label_values(axes, places, along, look)
     return [Line2D([], [], color=line.style()["color"]) for line in lines]
 
 
-def tradeoff(table: pd.DataFrame, panels: Sequence[tuple[str, str]], along: str, others: Sequence[str], look: Look) -> Figure:
-    """Returns a picture of one statistic against another: a point for each setting with both intervals; a time is on the vertical
-    axis."""
+def tradeoff(table: pd.DataFrame, panels: Sequence[tuple[str, str]], along: str, others: Sequence[str],
+             look: Look) -> Figure:
+    """Returns a picture of one statistic against another: a point for each setting with both intervals; a
+    time is on the vertical axis."""
     keys = [along, *others]
     sides = [table[(table["sender"] == of) & (table["stat"] == stat)] for of, stat in panels]
     if sides[0]["unit"].iloc[0] == "ns" and sides[1]["unit"].iloc[0] != "ns":
@@ -244,29 +265,37 @@ def tradeoff(table: pd.DataFrame, panels: Sequence[tuple[str, str]], along: str,
         rows = rows.assign(_at=[places[value] for value in rows[along]]).sort_values("_at", kind="stable")
         (x, across), (y, up) = (_bars(rows, suffix, scale[1]) for suffix, scale in zip(("", "_y"), scales))
         is_joined = [number_of(value) is not None for value in rows[along]]
-        axes.plot(x[is_joined], y[is_joined], linewidth=0.8, linestyle=line.dash(), color=line.style()["color"])
-        handles.append(axes.errorbar(x, y, xerr=across, yerr=up, capsize=2.5, elinewidth=1, linestyle="none", **line.style()))
+        axes.plot(x[is_joined], y[is_joined], linewidth=0.8, linestyle=line.dash(),
+                  color=line.style()["color"])
+        handles.append(axes.errorbar(x, y, xerr=across, yerr=up, capsize=2.5, elinewidth=1, linestyle="none",
+                                     **line.style()))
         for value, at, height in zip(rows[along], x, y):
-            axes.annotate(names.of_value(along, value, look.labels), (at, height), xytext=(7, 4), textcoords="offset points",
-                          size="small", color=line.style()["color"], bbox={"facecolor": "white", "edgecolor": "none", "alpha": 0.7, "pad": 0.5})
+            axes.annotate(names.of_value(along, value, look.labels), (at, height), xytext=(7, 4),
+                          textcoords="offset points", size="small", color=line.style()["color"],
+                          bbox={"facecolor": "white", "edgecolor": "none", "alpha": 0.7, "pad": 0.5})
     for (of, stat), scale, name in zip(panels, scales, (axes.set_xlabel, axes.set_ylabel)):
         words = look.labels.get(stat, names.of_stat(stat, ""))
         name(names.quantity(f"{words}, {names.of_whom(of, look.labels)}", scale[0]))
-    if "x" not in look.log:
-        axes.set_xlim(left=0)
-    if "y" not in look.log:
-        axes.set_ylim(bottom=0)
-    for axis in look.log:
-        getattr(axes, f"set_{axis}scale")("log")
+    _begin_at_zero(axes, look)
     if others:
         add_legend(axes, handles, [line.label for line in lines_of(sides[0], others, look)], look.legend,
                    "\n".join(names.of_setting(name, look.labels) for name in others))
     title = look.title if look.title is not None else f"{_stat(panels[1])} against {_stat(panels[0]).lower()}"
     if title:
         figure.suptitle(title, x=0.01, ha="left")
-    figure.supxlabel(f"{intervals_in_words(table)}; number at each point: {names.of_setting(along, look.labels)}", x=0.01, ha="left",
-                     size="x-small")
+    said = f"{intervals_in_words(table)}; number at each point: {names.of_setting(along, look.labels)}"
+    figure.supxlabel(said, x=0.01, ha="left", size="x-small")
     return figure
+
+
+def _begin_at_zero(axes: Axes, look: Look) -> None:
+    """Makes each axis begin at 0, or logarithmic."""
+    if "x" not in look.log:
+        axes.set_xlim(left=0)
+    if "y" not in look.log:
+        axes.set_ylim(bottom=0)
+    for axis in look.log:
+        getattr(axes, f"set_{axis}scale")("log")
 
 
 def _stat(panel: tuple[str, str]) -> str:
@@ -275,5 +304,6 @@ def _stat(panel: tuple[str, str]) -> str:
 
 def _bars(rows: pd.DataFrame, suffix: str, scale: int) -> tuple[Any, Any]:
     """Returns means, and the distances to both ends of their intervals."""
-    mean, low, high = (rows[name + suffix].astype(float).to_numpy() / scale for name in ("mean", "low", "high"))
+    mean, low, high = (rows[name + suffix].astype(float).to_numpy() / scale
+                       for name in ("mean", "low", "high"))
     return mean, np.nan_to_num([mean - low, high - mean]).clip(min=0)

@@ -1,7 +1,8 @@
 """The HTML page of `dnlab-view`, to look at runs in a browser.
 
-Each experiment has its panels (`dnlab.analysis.series`, complete) and its packets' journeys, as columns packed into one text;
-`page.js`, after `page.shared.js`, unpacks and draws them, thinned to what is visible. plotly draws (Debian: python3-plotly).
+Each experiment has its panels (`dnlab.analysis.series`, complete) and its packets' journeys, as columns
+packed into one text; `page.js`, after `page.shared.js`, unpacks and draws them, thinned to what is visible.
+plotly draws (Debian: python3-plotly).
 """
 import base64
 import html
@@ -33,8 +34,8 @@ class Drawn(NamedTuple):
 
 
 class Blocks:
-    """Concatenated columns, each at a multiple of eight bytes, in the narrowest type that has all its values; integers as differences if
-    these are narrower."""
+    """Concatenated columns, each at a multiple of eight bytes, in the narrowest type that has all its values;
+    integers as differences if these are narrower."""
 
     def __init__(self) -> None:
         self.heads: list[tuple[str, int, int, int]] = []
@@ -76,7 +77,8 @@ class Shown(NamedTuple):
 
 
 class Pane(NamedTuple):
-    """A panel's title, the quantity and unit of its vertical axis, and its series, or `words` instead of them."""
+    """A panel's title, the quantity and unit of its vertical axis, and its series, or `words` instead of
+    them."""
     title: str
     quantity: str
     unit: str
@@ -89,24 +91,30 @@ class Pane(NamedTuple):
 def pane_of(panel: Panel) -> Pane:
     """Returns a panel of pictures, without thinning."""
     shown = [Shown(one) for one in panel.series if len(one.moments)]
-    return Pane(panel.title, panel.quantity or panel.title, panel.unit, shown, panel.words.replace("\n", " "), panel.segment)
+    return Pane(panel.title, panel.quantity or panel.title, panel.unit, shown, panel.words.replace("\n", " "),
+                panel.segment)
 
 
 def sequences(view: View) -> Pane:
-    """Returns for each flow the bytes over time: sent, sent again, acknowledged, and dropped; labels are as `flow 1: sent`. Without creation
-    times, deliveries replace what was sent."""
+    """Returns for each flow the bytes over time: sent, sent again, acknowledged, and dropped; labels are as
+    `flow 1: sent`. Without creation times, deliveries replace what was sent."""
     table = view.packets
     series: list[Shown] = []
     for flow, packets in flows_of(view):
         acks = np.flatnonzero((table.kind == ACKNOWLEDGES) & (table.flow == flow))
         if view.is_told:
             series += [_of(view, flow, "sent", "points", packets[~table.retransmission[packets]], table.made),
-                       _of(view, flow, "sent again", "marks", packets[table.retransmission[packets]], table.made)]
+                       _of(view, flow, "sent again", "marks", packets[table.retransmission[packets]],
+                           table.made)]
         else:
-            series.append(_of(view, flow, "delivered", "points", packets[table.outcome[packets] == DELIVERED], table.ended))
-        series += [_of(view, flow, "acknowledged", "steps", acks[table.outcome[acks] == DELIVERED], table.ended),
-                   _of(view, flow, "dropped", "marks", packets[table.outcome[packets] >= DROPPED], table.ended),
-                   _of(view, flow, "acknowledgement dropped", "marks", acks[table.outcome[acks] >= DROPPED], table.ended)]
+            series.append(_of(view, flow, "delivered", "points", packets[table.outcome[packets] == DELIVERED],
+                              table.ended))
+        series += [_of(view, flow, "acknowledged", "steps", acks[table.outcome[acks] == DELIVERED],
+                       table.ended),
+                   _of(view, flow, "dropped", "marks", packets[table.outcome[packets] >= DROPPED],
+                       table.ended),
+                   _of(view, flow, "acknowledgement dropped", "marks", acks[table.outcome[acks] >= DROPPED],
+                       table.ended)]
     title = "Sequence numbers" + ("" if view.is_told else " (when they were sent needs --trace)")
     shown = [one for one in series if len(one.series.moments)]
     return Pane(title, "Sequence number", "bytes", shown, "" if shown else "no flow sent a segment")
@@ -114,7 +122,8 @@ def sequences(view: View) -> Pane:
 
 def _of(view: View, flow: int, what: str, form: str, packets: Ints, moments: Ints) -> Shown:
     packets = packets[np.argsort(moments[packets], kind="stable")]
-    return Shown(Series(f"flow {flow}: {what}", form, moments[packets], view.packets.number[packets]), packets)
+    return Shown(Series(f"flow {flow}: {what}", form, moments[packets], view.packets.number[packets]),
+                 packets)
 
 
 def delays(view: View) -> Pane:
@@ -130,7 +139,8 @@ def delays(view: View) -> Pane:
 
 
 def speeds(view: View) -> Pane:
-    """Returns the cumulative deliveries, from which the script computes rates over the visible time, and the rates of the pipes."""
+    """Returns the cumulative deliveries, from which the script computes rates over the visible time, and the
+    rates of the pipes."""
     pane = pane_of(rates(view, None))
     links = [Shown(one) for one in link_rates(view)] if pane.unit == "bytes" else []
     title = "Throughput" if pane.unit == "bytes" else "Delivered packets (throughput needs --trace)"
@@ -141,22 +151,28 @@ def speeds(view: View) -> Pane:
 def occupancy(view: View) -> Pane:
     """Returns the queues and their limits, and the packets in flight."""
     pane = pane_of(queues(view))
-    return pane._replace(shown=pane.shown + pane_of(flights(view)).shown, title=f"{pane.title}, and packets in flight", quantity="Packets",
+    return pane._replace(shown=pane.shown + pane_of(flights(view)).shown,
+                         title=f"{pane.title}, and packets in flight", quantity="Packets",
                          unit="") if view.is_told else pane
 
 
 def journeys(view: View, blocks: Blocks) -> dict[str, int]:
-    """Returns the columns of packets, and of their visits, sorted by packet; `starts` has the first visit of each.
+    """Returns the columns of packets, and of their visits, sorted by packet; `starts` has the first visit of
+    each.
 
-    Times are relative to an earlier one (an end and an arrival to the creation, a finish and an exit to the arrival), which keeps
-    columns narrow; -1 means unknown."""
+    Times are relative to an earlier one (an end and an arrival to the creation, a finish and an exit to the
+    arrival), which keeps columns narrow; -1 means unknown."""
     table, visits = view.packets, view.visits
     pipes = np.unique(visits.pipe)
     columns: dict[str, Any] = {
-        "made": table.made, "ended": _since(table.made, table.ended), "fate": table.outcome, "size": table.size,
-        "who": np.where(table.who < 0, len(table.names), table.who), "kind": table.kind, "number": table.number,
-        "again": table.retransmission.astype(np.int64), "starts": np.searchsorted(visits.packet, np.arange(len(table) + 1)),
-        "pipe": np.searchsorted(pipes, visits.pipe), "arrival": _since(table.made[visits.packet], visits.arrival),
+        "made": table.made, "ended": _since(table.made, table.ended), "fate": table.outcome,
+        "size": table.size,
+        "who": np.where(table.who < 0, len(table.names), table.who), "kind": table.kind,
+        "number": table.number,
+        "again": table.retransmission.astype(np.int64),
+        "starts": np.searchsorted(visits.packet, np.arange(len(table) + 1)),
+        "pipe": np.searchsorted(pipes, visits.pipe),
+        "arrival": _since(table.made[visits.packet], visits.arrival),
         "finish": _since(visits.arrival, visits.finish), "exit": _since(visits.arrival, visits.exit)}
     return {name: blocks.add(column) for name, column in columns.items()}
 
@@ -168,20 +184,25 @@ def _since(before: Ints, moments: Ints) -> Ints:
 def drawn(view: View) -> Drawn:
     """Returns an experiment for a page."""
     blocks = Blocks()
-    # Series of acknowledgements, which the page draws on request: of their sender, or of a pipe that carries nothing else.
+    # Series of acknowledgements, which the page draws on request: of their sender, or of a pipe that carries
+    # nothing else.
     pipes = {label for label, _ in labelled(view)} - {label for label, _ in labelled(without_acks(view))}
     ends = (" acks", "acknowledgement dropped", *pipes)
-    panels = [{"what": what, "title": pane.title, "quantity": pane.quantity, "unit": pane.unit, "words": "" if pane.shown else pane.words,
+    panels = [{"what": what, "title": pane.title, "quantity": pane.quantity, "unit": pane.unit,
+               "words": "" if pane.shown else pane.words,
                "segment": pane.segment,
-               "series": [{"label": one.label, "form": one.form, "under": one.under, "ack": one.label.endswith(ends),
+               "series": [{"label": one.label, "form": one.form, "under": one.under,
+                           "ack": one.label.endswith(ends),
                            "x": blocks.add(one.moments), "y": blocks.add(one.values),
-                           "packets": -1 if packets is None else blocks.add(packets)} for one, packets in pane.shown]}
+                           "packets": -1 if packets is None else blocks.add(packets)}
+                          for one, packets in pane.shown]}
               for what, pane in (("sequence", sequences(view)), ("window", pane_of(windows(view, None))),
                                  ("queue", occupancy(view)), ("delay", delays(view)), ("rate", speeds(view)))]
     until = max(view.ended.moment if view.ended.is_short() else view.last, 1)
     unit = next(unit for unit in _UNITS if until >= 2 * unit[0] or unit[0] == 1)
-    head = {"name": view.name, "about": about(view), "notes": [note.text for note in [*view.notes, *view.more_notes]],
-            "until": until, "ended": max(view.ended.moment, 1), "unit": unit, "panels": panels,
+    head = {"name": view.name, "about": about(view),
+            "notes": [note.text for note in [*view.notes, *view.more_notes]], "until": until,
+            "ended": max(view.ended.moment, 1), "unit": unit, "panels": panels,
             "names": [*view.packets.names, UNKNOWN], "fates": OUTCOMES,
             "pipes": [instance_name(int(pipe)) for pipe in np.unique(view.visits.pipe)],
             "table": journeys(view, blocks), "blocks": blocks.heads}
@@ -200,10 +221,12 @@ def about(view: View) -> str:
 
 def page(title: str, experiments: Iterable[Drawn], plotly: Optional[str]) -> Iterable[str]:
     """Yields the page in parts; plotly's script is included if given, else next to the page."""
-    style, shared, own = ((_HERE / f"page.{kind}").read_text(encoding="utf-8") for kind in ("css", "shared.js", "js"))
+    style, shared, own = ((_HERE / f"page.{kind}").read_text(encoding="utf-8")
+                          for kind in ("css", "shared.js", "js"))
     script = shared + own
     yield (f'<!DOCTYPE html>\n<html lang="en">\n<meta charset="utf-8">\n<title>{html.escape(title)}</title>\n'
-           f'<meta name="viewport" content="width=device-width, initial-scale=1">\n<style>\n{style}</style>\n')
+           '<meta name="viewport" content="width=device-width, '
+           f'initial-scale=1">\n<style>\n{style}</style>\n')
     yield f'<script src="{SCRIPT}"></script>\n' if plotly is None else f"<script>{_within(plotly)}</script>\n"
     yield f"<body>\n<h1>{html.escape(title)}</h1>\n{_BODY}"
     heads = []
@@ -215,12 +238,14 @@ def page(title: str, experiments: Iterable[Drawn], plotly: Optional[str]) -> Ite
 
 
 def _within(text: str) -> str:
-    """Returns a text that cannot end an element: `</` becomes `<\\/`, which is the same in a string of a script."""
+    """Returns a text that cannot end an element: `</` becomes `<\\/`, which is the same in a string of a
+    script."""
     return text.replace("</", "<\\/")
 
 
 def write(path: str, title: str, experiments: Iterable[Drawn], plotly: str, single: bool) -> Sequence[str]:
-    """Writes a page, and plotly's script next to it unless it is single; returns the files written. Raises `OSError`."""
+    """Writes a page, and plotly's script next to it unless it is single; returns the files written. Raises
+    `OSError`."""
     written = [path]
     with whole_file(path) as file:
         for part in page(title, experiments, plotly if single else None):

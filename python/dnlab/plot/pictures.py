@@ -41,7 +41,8 @@ def owner_of(label: str) -> str:
     ('flow 1', 'deep: flow 2', 'pipe 1', 'train 9')
     """
     found = _OF_FLOW.fullmatch(label)
-    return f"{found[1] or ''}flow {found[3]}" if found else re.sub(r"(limit of|rate of|through|delay line of) (?=pipe )", "", label)
+    return (f"{found[1] or ''}flow {found[3]}" if found
+            else re.sub(r"(limit of|rate of|through|delay line of) (?=pipe )", "", label))
 
 
 def kind_of(label: str) -> str:
@@ -55,8 +56,8 @@ def kind_of(label: str) -> str:
 
 
 def looks_of(panels: Iterable[Panel], colours: Mapping[str, str] = {}) -> dict[str, Look]:
-    """Returns a look for each sender and pipe of the panels, in drawing order; after nine, other lines and markers are combined with the
-    colours. Colours are given if they are those of a larger picture."""
+    """Returns a look for each sender and pipe of the panels, in drawing order; after nine, other lines and
+    markers are combined with the colours. Colours are given if they are those of a larger picture."""
     owners = list(dict.fromkeys(owner_of(one.label) for panel in panels for one in panel.series))
     cycle = matplotlib.rcParams["axes.prop_cycle"].by_key()["color"]
     looks = {}
@@ -83,7 +84,8 @@ def style_of(one: Series, look: Look, is_joined: bool = False) -> dict[str, Any]
     """Returns matplotlib's arguments for a series."""
     kind, words = kind_of(one.label), {"color": look.colour, "linestyle": look.dash}
     if one.form == "marks":
-        return {**words, "linestyle": "none", "marker": "v" if kind == "timeout" else "x", "markersize": 6, "zorder": 4}
+        return {**words, "linestyle": "none", "marker": "v" if kind == "timeout" else "x", "markersize": 6,
+                "zorder": 4}
     if one.form == "points":
         return {**words, "linestyle": "-" if is_joined else "none", "linewidth": 0.6, "marker": look.marker,
                 "markersize": 2 if len(one.moments) > _SMALL else 4, "markeredgewidth": 0}
@@ -103,7 +105,8 @@ def draw_series(axes: Any, one: Series, style: Mapping[str, Any], scale: int, is
     axes.plot(moments, values, label=one.label, clip_on=is_clipped, **style)
 
 
-def draw_panel(axes: Any, panel: Panel, unit: Unit, looks: Mapping[str, Look] = {}, labels: names.Labels = {}) -> None:
+def draw_panel(axes: Any, panel: Panel, unit: Unit, looks: Mapping[str, Look] = {},
+               labels: names.Labels = {}) -> None:
     """Draws a panel with its axis labels; one without series shows its words."""
     axes.set_ylabel(names.quantity(panel.quantity or panel.title, panel.unit))
     if not panel.series:
@@ -119,18 +122,20 @@ def draw_panel(axes: Any, panel: Panel, unit: Unit, looks: Mapping[str, Look] = 
     looks = looks or looks_of([panel])
     is_joined = is_sparse(panel.series)
     for one in panel.series:
-        draw_series(axes, one, style_of(one, looks[owner_of(one.label)], is_joined), _MILLION if panel.across else unit[0], panel.top is not None)
+        draw_series(axes, one, style_of(one, looks[owner_of(one.label)], is_joined),
+                    _MILLION if panel.across else unit[0], panel.top is not None)
     if panel.across:
         axes.set_xlim(0, max(float(one.moments[-1]) for one in panel.series) / _MILLION or None)
 
 
 def draw_boxes(axes: Any, boxes: Sequence[Series], labels: names.Labels) -> None:
-    """Draws a box for each: its quartiles and median, whiskers from the 5th to the 95th percentile, the minimum and the maximum."""
+    """Draws a box for each: its quartiles and median, whiskers from the 5th to the 95th percentile, the
+    minimum and the maximum."""
     shapes = []
     for one in boxes:
         least, low, first, median, third, high, greatest = (float(value) / _MILLION for value in one.moments)
-        shapes.append({"label": text_of(one.label, labels), "whislo": low, "q1": first, "med": median, "q3": third, "whishi": high,
-                       "fliers": [least, greatest]})
+        shapes.append({"label": text_of(one.label, labels), "whislo": low, "q1": first, "med": median,
+                       "q3": third, "whishi": high, "fliers": [least, greatest]})
     axes.bxp(shapes, medianprops={"color": "#d55e00"}, flierprops={"marker": "_", "markersize": 4})
     axes.grid(False, axis="x")
     if len(boxes) > 4:
@@ -145,15 +150,17 @@ def text_of(label: str, labels: names.Labels) -> str:
     """
     if label in labels:
         return labels[label]
-    found = re.fullmatch(r"(?:([^:]*)(: ))?(limit of |rate of |through |delay line of )?(.*)", label, re.DOTALL)
+    found = re.fullmatch(r"(?:([^:]*)(: ))?(limit of |rate of |through |delay line of )?(.*)", label,
+                         re.DOTALL)
     assert found
     name, colon, prefix, own = (found[place] or "" for place in (1, 2, 3, 4))
     return labels.get(name, name) + colon + prefix + names.of_whom(own, labels)
 
 
-def entries_of(panels: Sequence[Panel], looks: Mapping[str, Look], labels: names.Labels) -> tuple[str, dict[str, Any]]:
-    """Returns the legend of a row of panels: its title, and handles by their texts. Several flows have a line each, and the parts of their
-    windows share entries in grey. What all lines have in common is the title."""
+def entries_of(panels: Sequence[Panel], looks: Mapping[str, Look],
+               labels: names.Labels) -> tuple[str, dict[str, Any]]:
+    """Returns the legend of a row of panels: its title, and handles by their texts. Several flows have a line
+    each, and the parts of their windows share entries in grey. What all lines have in common is the title."""
     series = [one for panel in panels for one in panel.series if one.form != "box"]
     owners = list(dict.fromkeys(owner_of(one.label) for one in series if one.form != "level"))
     windows = {owner_of(one.label) for one in series if kind_of(one.label)}
@@ -173,7 +180,8 @@ def entries_of(panels: Sequence[Panel], looks: Mapping[str, Look], labels: names
 
 
 def in_units(panels: Sequence[Panel]) -> list[Panel]:
-    """Returns a row of panels with values in one suitable unit: windows in segments, bytes in kB, MB or GB."""
+    """Returns a row of panels with values in one suitable unit: windows in segments, bytes in kB, MB or
+    GB."""
     drawn = [panel for panel in panels if panel.series]
     if not drawn or drawn[0].unit != "bytes":
         return list(panels)
@@ -205,15 +213,18 @@ def figure_of(views: Sequence[View], what: Sequence[str], effective: bool = Fals
               design: Design = Design()) -> Figure:
     """Returns a figure with a column for each experiment and a row for each panel."""
     return figure_of_panels([view.name for view in views],
-                            [[panel_of(view, one, effective=effective, acks=acks) for one in what] for view in views], design=design)
+                            [[panel_of(view, one, effective=effective, acks=acks) for one in what]
+                             for view in views], design=design)
 
 
 def figure_of_panels(experiments: Sequence[str], columns: Sequence[Sequence[Panel]], span: Span = Span(),
                      design: Design = Design()) -> Figure:
-    """Returns a figure of columns of panels with their experiments' names above. The time axis covers the span, if given."""
+    """Returns a figure of columns of panels with their experiments' names above. The time axis covers the
+    span, if given."""
     with matplotlib.rc_context(design.rc()):
         rows = [in_units(row) for row in zip(*columns)]
-        colours = {owner: look.colour for owner, look in looks_of(panel for row in rows for panel in row).items()}
+        colours = {owner: look.colour
+                   for owner, look in looks_of(panel for row in rows for panel in row).items()}
         count = len(columns)
         size = (2.0 + (4.8 if count == 1 else 3.0 * count), 0.7 + 2.3 * len(rows))
         figure, grid = subplots(len(rows), count, size, design, squeeze=False, sharey="row")
@@ -228,21 +239,26 @@ def figure_of_panels(experiments: Sequence[str], columns: Sequence[Sequence[Pane
             title, entries = entries_of(panels, looks, design.labels)
             add_legend(line[-1], list(entries.values()), list(entries), design.legend, title)
         for column in range(count):
-            share_time([line[column] for line, panels in zip(grid, rows) if not panels[column].across], unit, span)
-        _head(figure, grid, [text_of(name, design.labels) for name in experiments], [row[0] for row in rows], design)
+            share_time([line[column] for line, panels in zip(grid, rows) if not panels[column].across], unit,
+                       span)
+        _head(figure, grid, [text_of(name, design.labels) for name in experiments], [row[0] for row in rows],
+              design)
         notes = dict.fromkeys(panel.note for row in rows for panel in row if panel.note)
         if notes:
             figure.supxlabel("\n".join(notes), x=0.01, ha="left", size="x-small")
     return figure
 
 
-def _head(figure: Figure, grid: Any, experiments: Sequence[str], panels: Sequence[Panel], design: Design) -> None:
+def _head(figure: Figure, grid: Any, experiments: Sequence[str], panels: Sequence[Panel],
+          design: Design) -> None:
     """Adds the titles of panels, and the experiments' names above their columns."""
     if len(experiments) > 1:
         for axes, name in zip(grid[0], experiments):
             axes.set_title(name)
-        shown = dict.fromkeys((panel.across or panel.quantity or panel.title).partition(" (")[0] for panel in panels)
-        overall = panels[0].title if len(panels) == 1 else ", ".join([list(shown)[0], *(one.lower() for one in list(shown)[1:])])
+        shown = dict.fromkeys((panel.across or panel.quantity or panel.title).partition(" (")[0]
+                              for panel in panels)
+        overall = (panels[0].title if len(panels) == 1
+                   else ", ".join([list(shown)[0], *(one.lower() for one in list(shown)[1:])]))
     elif len(panels) > 1:
         for line, panel in zip(grid, panels):
             line[0].set_title(panel.title)
@@ -254,8 +270,10 @@ def _head(figure: Figure, grid: Any, experiments: Sequence[str], panels: Sequenc
 
 
 def share_time(axes_of_time: Sequence[Any], unit: Unit, span: Span = Span()) -> None:
-    """Sets one time range, which ends with the data, for all panels of a column with a time axis; the last one has the label."""
-    ends = [float(line.get_xdata()[-1]) for axes in axes_of_time for line in axes.get_lines() if len(line.get_xdata())]
+    """Sets one time range, which ends with the data, for all panels of a column with a time axis; the last
+    one has the label."""
+    ends = [float(line.get_xdata()[-1]) for axes in axes_of_time
+            for line in axes.get_lines() if len(line.get_xdata())]
     if ends:
         last = max(ends) if span.end is None else span.end / unit[0]
         for axes in axes_of_time:

@@ -1,4 +1,5 @@
-"""The look of pictures: sizes, fonts, colours, line styles and legends, the files they are written to, and the layout of a sweep's picture."""
+"""The look of pictures: sizes, fonts, colours, line styles and legends, the files they are written to, and
+the layout of a sweep's picture."""
 from dataclasses import dataclass, field
 from pathlib import Path
 from typing import TYPE_CHECKING, Any, Mapping, NamedTuple, Optional, Sequence
@@ -20,18 +21,21 @@ if TYPE_CHECKING:
 
 # matplotlib draws (Debian: python3-matplotlib). Lines can be distinguished in black and white.
 
-# Dark and light alternate, so the shades differ without colour; Okabe and Ito's colours can be distinguished by everyone.
+# Dark and light alternate, so the shades differ without colour; Okabe and Ito's colours can be distinguished
+# by everyone.
 COLOURS = ("#000000", "#d55e00", "#0072b2", "#999999", "#009e73", "#555555", "#cc79a7", "#222288", "#b08000")
 # Dotted lines are thresholds.
-LINES: tuple[Any, ...] = ("-", (0, (6, 1.5)), (0, (6, 1.5, 1.5, 1.5)), (0, (3, 1)), (0, (10, 2)), (0, (3, 1, 1, 1, 1, 1)),
-                          (0, (10, 2, 2, 2)), (0, (2, 2)), (0, (6, 4)))
+LINES: tuple[Any, ...] = ("-", (0, (6, 1.5)), (0, (6, 1.5, 1.5, 1.5)), (0, (3, 1)), (0, (10, 2)),
+                          (0, (3, 1, 1, 1, 1, 1)), (0, (10, 2, 2, 2)), (0, (2, 2)), (0, (6, 4)))
 MARKERS = ("o", "s", "^", "D", "v", "P", "*", "<", ">")
-# Text stays text in a file, and no file depends on the date or on random numbers, so a report always gives the same bytes.
+# Text stays text in a file, and no file depends on the date or on random numbers, so a report always gives
+# the same bytes.
 FILES = {"svg.fonttype": "none", "pdf.fonttype": 42, "svg.hashsalt": "dnlab"}
 STYLE: dict[str, Any] = {
-    "font.size": 9, "axes.titlesize": 10, "axes.titlelocation": "left", "figure.titlesize": 11, "legend.fontsize": 8,
-    "legend.frameon": False, "axes.spines.top": False, "axes.spines.right": False, "axes.grid": True, "grid.color": "#dddddd",
-    "grid.linewidth": 0.6, "axes.axisbelow": True, "lines.linewidth": 1.3, "lines.markersize": 4, "axes.prop_cycle": cycler(color=COLOURS)}
+    "font.size": 9, "axes.titlesize": 10, "axes.titlelocation": "left", "figure.titlesize": 11,
+    "legend.fontsize": 8, "legend.frameon": False, "axes.spines.top": False, "axes.spines.right": False,
+    "axes.grid": True, "grid.color": "#dddddd", "grid.linewidth": 0.6, "axes.axisbelow": True,
+    "lines.linewidth": 1.3, "lines.markersize": 4, "axes.prop_cycle": cycler(color=COLOURS)}
 METADATA: dict[str, dict[str, Any]] = {"svg": {"Date": None}, "pdf": {"CreationDate": None}, "png": {}}
 LEGENDS = ("right", "inside", "none")
 
@@ -54,7 +58,8 @@ class Design:
     legend: str = "right"
 
     def rc(self) -> dict[str, Any]:
-        """Returns matplotlib's settings for the picture. Raises `InputError` if the style or font does not exist."""
+        """Returns matplotlib's settings for the picture. Raises `InputError` if the style or font does not
+        exist."""
         return {**STYLE, **_style_of(self.style), **_font_of(self.font), **FILES}
 
 
@@ -65,7 +70,9 @@ def _style_of(name: Optional[str]) -> dict[str, Any]:
         return dict(matplotlib.style.library[name])
     if Path(name).is_file():
         return dict(matplotlib.rc_params_from_file(name, use_default_template=False))
-    raise InputError(f"--style {name}: neither a file nor a matplotlib style sheet; the style sheets are {', '.join(matplotlib.style.available)}")
+    raise InputError(
+        f"--style {name}: neither a file nor a matplotlib style sheet; the style sheets are "
+        f"{', '.join(matplotlib.style.available)}")
 
 
 def _font_of(text: str) -> dict[str, Any]:
@@ -78,17 +85,21 @@ def _font_of(text: str) -> dict[str, Any]:
     for part in filter(None, text.split(",")):
         if part.replace(".", "", 1).isdigit():
             points = float(part)
-            found.update({"font.size": points, "axes.titlesize": points + 1, "figure.titlesize": points + 2, "legend.fontsize": points - 1})
+            found.update({"font.size": points, "axes.titlesize": points + 1, "figure.titlesize": points + 2,
+                          "legend.fontsize": points - 1})
             continue
         try:
             findfont(FontProperties(family=part), fallback_to_default=False)
         except ValueError:
-            raise InputError(f"--font {part}: no such font is installed; `fc-list : family` lists those that are") from None
+            raise InputError(
+                f"--font {part}: no such font is installed; `fc-list : family` lists "
+                "those that are") from None
         found["font.family"] = part
     return found
 
 
-def subplots(rows: int, columns: int, figsize: tuple[float, float], design: Design = Design(), **words: Any) -> tuple[Figure, Any]:
+def subplots(rows: int, columns: int, figsize: tuple[float, float], design: Design = Design(),
+             **words: Any) -> tuple[Figure, Any]:
     """Returns a figure with a grid of axes, like pyplot's, but without pyplot's global state."""
     with matplotlib.rc_context(design.rc()):
         figure = Figure(figsize=design.size or figsize, layout="constrained")
@@ -102,12 +113,14 @@ def add_legend(axes: Any, handles: list[Any], labels: list[str], where: str, tit
         return
     place = ({"loc": "upper left", "bbox_to_anchor": (1.0, 1.0), "borderaxespad": 0.3} if where == "right"
              else {"loc": "best", "frameon": True, "framealpha": 0.8})
-    made = axes.legend(handles, labels, title=title or None, ncols=1 + (len(handles) - 1) // 12, alignment="left", **place)
+    made = axes.legend(handles, labels, title=title or None, ncols=1 + (len(handles) - 1) // 12,
+                       alignment="left", **place)
     made.get_title().set_fontsize("small")
 
 
 def save(figure: Figure, name: str) -> None:
-    """Writes the figure in the format of its extension, .svg, .png or .pdf, completely or not at all. Raises `OSError`."""
+    """Writes the figure in the format of its extension, .svg, .png or .pdf, completely or not at all. Raises
+    `OSError`."""
     ending = name.rsplit(".", 1)[-1]
     with matplotlib.rc_context(FILES), whole_file(name) as file:
         figure.savefig(file, format=ending, metadata=METADATA[ending], dpi=150)
@@ -123,11 +136,13 @@ KINDS = ("means", "tradeoff", "ecdf", "box")
 class Look(Design):
     """The layout of a sweep's picture, in addition to its design.
 
-    along          the setting on the horizontal axis; by default the first with several values, numbers before words
-    rows, columns  settings with a row or a column of panels for each value; the others are the lines of a panel
+    along          the setting on the horizontal axis; by default the first with several values, numbers
+                   before words
+    rows, columns  settings with a row or a column of panels for each value; the others are the lines of a
+                   panel
     log            which axes are logarithmic, of `x` and `y`
-    kind           `means` with their intervals; `tradeoff`, one statistic against another; `ecdf` or `box`, the distribution of
-                   the values of the seeds"""
+    kind           `means` with their intervals; `tradeoff`, one statistic against another; `ecdf` or `box`,
+                   the distribution of the values of the seeds"""
     along: Optional[str] = None
     rows: Optional[str] = None
     columns: Optional[str] = None
@@ -136,11 +151,13 @@ class Look(Design):
 
     def check(self, settings: Sequence[str]) -> None:
         """Raises `InputError` if a setting does not exist, or is used twice."""
-        said = [(word, name) for word, name in (("--along", self.along), ("--rows", self.rows), ("--columns", self.columns))
+        said = [(word, name) for word, name in (("--along", self.along), ("--rows", self.rows),
+                                                ("--columns", self.columns))
                 if name is not None]
         for word, name in said:
             if name not in settings:
-                raise InputError(f"{word} {name}: no such setting; the settings are {', '.join(settings) or 'none'}")
+                raise InputError(
+                    f"{word} {name}: no such setting; the settings are {', '.join(settings) or 'none'}")
         if len({name for _, name in said}) < len(said):
             raise InputError("--along, --rows and --columns: each must name another setting")
         for axis in self.log:
@@ -170,7 +187,8 @@ def axis_of(table: "pd.DataFrame", settings: Sequence[str], look: Look = Look())
     """Returns the setting on the horizontal axis."""
     if look.along is not None:
         return look.along
-    several = [name for name in settings if table[name].nunique() > 1 and name not in (look.rows, look.columns)]
+    several = [name
+               for name in settings if table[name].nunique() > 1 and name not in (look.rows, look.columns)]
     # Imported here, because pictures of reports need no pandas.
     from pandas.api.types import is_numeric_dtype
 
@@ -178,9 +196,10 @@ def axis_of(table: "pd.DataFrame", settings: Sequence[str], look: Look = Look())
     return str([*numbers, *several, *settings, "sender"][0])
 
 
-def check_panels(cases: "pd.DataFrame", settings: Sequence[str], panels: Sequence[tuple[str, str]], look: Look = Look()) -> None:
-    """Raises `InputError` for a picture of a sweep that could not be drawn, before anything runs, given the settings of its experiments
-    and the requested statistics."""
+def check_panels(cases: "pd.DataFrame", settings: Sequence[str], panels: Sequence[tuple[str, str]],
+                 look: Look = Look()) -> None:
+    """Raises `InputError` for a picture of a sweep that could not be drawn, before anything runs, given the
+    settings of its experiments and the requested statistics."""
     look.check(settings)
     look.rc()
     if settings:
@@ -194,14 +213,16 @@ def check_panels(cases: "pd.DataFrame", settings: Sequence[str], panels: Sequenc
 def check_count(panels: int) -> None:
     """Raises `InputError` for too many panels, or none."""
     if not 1 <= panels <= _MOST_PANELS:
-        raise InputError(f"--plot: {panels} panels, but 1 to {_MOST_PANELS} can be drawn: use fewer --of and --stat")
+        raise InputError(
+            f"--plot: {panels} panels, but 1 to {_MOST_PANELS} can be drawn: use fewer --of and --stat")
 
 
 def check_two(panels: Sequence[tuple[str, str]]) -> None:
     """Raises `InputError` unless there are two statistics, one for each axis."""
     if len(panels) != 2:
-        raise InputError(f"--kind tradeoff: expected two statistics, as --of 'train 9' --stat delay.p95 --of flows --stat goodput,"
-                     f" but there are {len(panels)}")
+        raise InputError(
+            "--kind tradeoff: expected two statistics, as --of 'train 9' --stat delay.p95 --of flows --stat "
+            f"goodput, but there are {len(panels)}")
 
 
 def others_of(table: "pd.DataFrame", settings: Sequence[str], along: str, look: Look) -> list[str]:
@@ -210,8 +231,9 @@ def others_of(table: "pd.DataFrame", settings: Sequence[str], along: str, look: 
     others = [name for name in settings if name not in apart and table[name].nunique() > 1]
     lines = len(table[others].drop_duplicates()) if others else 1
     if lines > MOST:
-        raise InputError(f"--plot: {lines} lines in a panel can't be told apart, {MOST} at most: one for each combination of"
-                     f" {', '.join(others)}; use fewer values, or separate panels with --rows and --columns")
+        raise InputError(
+            f"--plot: {lines} lines in a panel can't be told apart, {MOST} at most: one for each combination "
+            f"of {', '.join(others)}; use fewer values, or separate panels with --rows and --columns")
     return others
 
 
@@ -221,7 +243,8 @@ def lines_of(rows: "pd.DataFrame", others: Sequence[str], look: Look) -> list[Li
     by = others[0] if len(others) == 1 else list(others)
     groups = rows.groupby(by, sort=False, dropna=False) if others else [((), rows)]
     return [Line(group, place, ", ".join(names.of_value(name, value, look.labels)
-                                         for name, value in zip(others, key if isinstance(key, tuple) else (key,))))
+                                         for name, value in zip(others,
+                                                                key if isinstance(key, tuple) else (key,))))
             for place, (key, group) in enumerate(groups)]
 
 
@@ -245,11 +268,13 @@ def in_order(values: Sequence[Any]) -> dict[Any, float]:
     """
     known = list(dict.fromkeys(values))
     numbers = sorted((value for value in known if number_of(value) is not None), key=float)
-    return {value: float(place) for place, value in enumerate([*numbers, *(value for value in known if value not in numbers)])}
+    return {value: float(place)
+            for place, value in enumerate([*numbers, *(value for value in known if value not in numbers)])}
 
 
 def places_of(values: Sequence[Any]) -> dict[Any, float]:
-    """Returns the positions of a setting's values on its axis: numbers at their value, unless some values are words.
+    """Returns the positions of a setting's values on its axis: numbers at their value, unless some values are
+    words.
 
     >>> places_of([10, 5])
     {10: 10.0, 5: 5.0}

@@ -1,7 +1,9 @@
-"""A pool of worker processes that end with this one, and whose ends are reported: concurrent.futures with files for data.
+"""A pool of worker processes that end with this one, and whose ends are reported: concurrent.futures with
+files for data.
 
-A job and its result are files, and the queues between the processes have only its number. With Python 3.11 a pool waits for ever if a
-worker is killed while a queue has more bytes than a pipe holds (CPython issue 94777)."""
+A job and its result are files, and the queues between the processes have only its number. With Python 3.11 a
+pool waits for ever if a worker is killed while a queue has more bytes than a pipe holds (CPython issue
+94777)."""
 import os
 import pickle
 import queue
@@ -48,16 +50,19 @@ class Outcome(NamedTuple, Generic[T]):
 class ProcessPool(Generic[T]):
     """A pool of at most `workers` processes, which are started on demand. Call `close`, or use it as a block.
 
-    If a worker ends by itself, `submit` and `next_result` raise `Killed` or `ProgramError`; the pool cannot be used any more."""
+    If a worker ends by itself, `submit` and `next_result` raise `Killed` or `ProgramError`; the pool cannot
+    be used any more."""
 
     def __init__(self, workers: int) -> None:
         self.workers = workers
         self._room = TempDir()
         self._started: list[SpawnProcess] = []
-        # The process that removes a pool's semaphores if this process is killed warns of none, and outlives SIGHUP.
+        # The process that removes a pool's semaphores if this process is killed warns of none, and outlives
+        # SIGHUP.
         with _inherited("PYTHONWARNINGS", "ignore"):
             resource_tracker.ensure_running()
-        self._executor = ProcessPoolExecutor(workers, _Context(self._started), _start_worker, (os.getpid(), self._room.path))
+        self._executor = ProcessPoolExecutor(workers, _Context(self._started), _start_worker,
+                                             (os.getpid(), self._room.path))
         self._done: "queue.SimpleQueue[Future[None]]" = queue.SimpleQueue()
         self._jobs: "dict[Future[None], tuple[T, int]]" = {}
         self._count = 0
@@ -126,7 +131,8 @@ def _kill_all(started: list[SpawnProcess], owner: int) -> None:
         return
     running = [(process, process.pid) for process in started if process.pid is not None]
     for process, number in running:
-        # The group remains if the worker was killed and its programs run. A worker that has just started has no group yet.
+        # The group remains if the worker was killed and its programs run. A worker that has just started has
+        # no group yet.
         try:
             os.killpg(number, signal.SIGKILL)
         except (ProcessLookupError, PermissionError):
@@ -144,20 +150,22 @@ def _close(chore: subprocesses.Chore, executor: ProcessPoolExecutor, owner: int)
 
 
 class _Context(SpawnContext):
-    """Starts new Python processes, and lists them, because an executor does not show how its workers ended."""
+    """Starts new Python processes, and lists them, because an executor does not show how its workers
+    ended."""
 
     def __init__(self, started: list[SpawnProcess]) -> None:
         super().__init__()
         self.started = started
 
-    def Process(self, *args: Any, **how: Any) -> SpawnProcess:  # type: ignore[override]  # the class is called in the same way
+    # It is called like the class that it stands for.
+    def Process(self, *args: Any, **how: Any) -> SpawnProcess:  # type: ignore[override]
         self.started.append(_Process(*args, **how))
         return self.started[-1]
 
 
 class _Process(SpawnProcess):
-    """A process that inherits blocked signals, so that none ends it before `_start_worker` handles them, and no `__main__`, so that a
-    script needs no guard."""
+    """A process that inherits blocked signals, so that none ends it before `_start_worker` handles them, and
+    no `__main__`, so that a script needs no guard."""
 
     def start(self) -> None:
         main, sys.modules["__main__"] = sys.modules["__main__"], ModuleType("__main__")
@@ -185,8 +193,8 @@ def _inherited(name: str, value: str) -> Iterator[None]:
 # ---- in the worker
 
 def _start_worker(parent: int, folder: Path) -> None:
-    """Puts a new worker into a process group of its own, with its programs, that ends with the parent. Its temporary files are in the
-    pool's folder, because a worker is killed and cannot remove them itself."""
+    """Puts a new worker into a process group of its own, with its programs, that ends with the parent. Its
+    temporary files are in the pool's folder, because a worker is killed and cannot remove them itself."""
     global _FOLDER
     _FOLDER = folder
     tempfile.tempdir = str(folder)
@@ -234,10 +242,11 @@ _REST = "{n_fmt} of {total_fmt} {unit}, ETA {remaining}"
 class Progress:
     """Shows how many of `total` are done, of which `done` before this call; without a total, only how many.
 
-    A log gets a line every half minute. A terminal has one line with a bar, updated twice a second and removed at the end of the
-    block, or on a signal."""
+    A log gets a line every half minute. A terminal has one line with a bar, updated twice a second and
+    removed at the end of the block, or on a signal."""
 
-    def __init__(self, tool: str, total: Optional[int] = None, done: int = 0, unit: str = "experiments") -> None:
+    def __init__(self, tool: str, total: Optional[int] = None, done: int = 0,
+                 unit: str = "experiments") -> None:
         self.tool, self.total, self.unit = called(tool), total, unit
         self.done = self.before = done
         self.begin = self.last = time.monotonic()
@@ -267,8 +276,8 @@ class Progress:
 
     def told(self, now: float) -> str:
         """Returns the line for a log at a time (s, of `time.monotonic`)."""
-        return str(tqdm.format_meter(self.done, self.total, now - self.begin, initial=self.before, prefix=self.tool,
-                                     unit=self.unit, bar_format=_form(self.total)))
+        return str(tqdm.format_meter(self.done, self.total, now - self.begin, initial=self.before,
+                                     prefix=self.tool, unit=self.unit, bar_format=_form(self.total)))
 
     def close(self) -> None:
         """Removes the bar."""

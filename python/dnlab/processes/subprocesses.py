@@ -1,4 +1,5 @@
-"""What ends with this process: its subprocesses and private folders; and how it reacts to SIGINT, SIGTERM and SIGHUP."""
+"""What ends with this process: its subprocesses and private folders; and how it reacts to SIGINT, SIGTERM and
+SIGHUP."""
 import ctypes
 import errno
 import fcntl
@@ -20,9 +21,10 @@ from typing import IO, Any, Callable, Iterator, NamedTuple, Optional, Sequence, 
 
 from dnlab.errors import ProgramError
 
-# A tool calls `handle_signals` once. On a signal the chores run, the last one first; then the line is written, and the process ends with
-# the same signal, so that its parent sees which. No exception is raised, because code at any place could swallow it. In a
-# notebook nobody calls `handle_signals`, and Python's own behaviour is unchanged.
+# A tool calls `handle_signals` once. On a signal the chores run, the last one first; then the line is
+# written, and the process ends with the same signal, so that its parent sees which. No exception is raised,
+# because code at any place could swallow it. In a notebook nobody calls `handle_signals`, and Python's own
+# behaviour is unchanged.
 
 SIGNALS = (signal.SIGINT, signal.SIGTERM, signal.SIGHUP)
 Chore = Callable[[], None]
@@ -91,7 +93,8 @@ def remove_chore(chore: Chore) -> None:
 
 @contextmanager
 def signals_delayed() -> Iterator[None]:
-    """Delays signals until the end of the block, so that what belongs together is done completely or not at all."""
+    """Delays signals until the end of the block, so that what belongs together is done completely or not at
+    all."""
     _WATCH.held += 1
     try:
         yield
@@ -102,7 +105,8 @@ def signals_delayed() -> Iterator[None]:
 
 
 _PR_SET_PDEATHSIG = 1
-# Whether a subprocess gets a process group of its own. Those of a worker are in the worker's group, and end with it.
+# Whether a subprocess gets a process group of its own. Those of a worker are in the worker's group, and end
+# with it.
 GROUPED = True
 # The maximum output of a program that does not write a report, in bytes.
 MOST_SAID = 1 << 26
@@ -125,7 +129,8 @@ class Killed(ProgramError):
 
 
 class Done(NamedTuple):
-    """The result of a program: its status (if negative, the number of the signal that ended it), and its output."""
+    """The result of a program: its status (if negative, the number of the signal that ended it), and its
+    output."""
     status: int
     out: bytes
     errors: bytes
@@ -136,15 +141,18 @@ class Done(NamedTuple):
 
 
 def _bounded(parent: int, number: int, most: Optional[int]) -> None:
-    """Makes a new process end with its parent, and when it writes more than `most` bytes to a file. Runs in that process."""
+    """Makes a new process end with its parent, and when it writes more than `most` bytes to a file. Runs in
+    that process."""
     die_with(parent, number)
     if most is not None:
         _, hard = resource.getrlimit(resource.RLIMIT_FSIZE)
-        resource.setrlimit(resource.RLIMIT_FSIZE, (most if hard == resource.RLIM_INFINITY else min(most, hard), hard))
+        resource.setrlimit(resource.RLIMIT_FSIZE,
+                           (most if hard == resource.RLIM_INFINITY else min(most, hard), hard))
 
 
 def die_with(parent: int, number: int = signal.SIGKILL) -> None:
-    """Makes this process receive a signal when its parent ends. Exits at once if the parent has already ended."""
+    """Makes this process receive a signal when its parent ends. Exits at once if the parent has already
+    ended."""
     if _LIBC is not None:
         _LIBC.prctl(_PR_SET_PDEATHSIG, int(number), 0, 0, 0)
     if os.getppid() != parent:
@@ -152,7 +160,8 @@ def die_with(parent: int, number: int = signal.SIGKILL) -> None:
 
 
 def signal_of(status: int) -> Optional[int]:
-    """Returns the number of the signal that ended a program, also for a shell's status; None if no signal did.
+    """Returns the number of the signal that ended a program, also for a shell's status; None if no signal
+    did.
 
     >>> signal_of(-9), signal_of(143), signal_of(3)
     (9, 15, None)
@@ -185,11 +194,12 @@ def child(words: Sequence[str], how_to_end: Callable[["subprocess.Popen[bytes]"]
             remove_chore(chore)
 
 
-def start(words: Sequence[str], death: int = signal.SIGKILL, most: Optional[int] = None, **how: Any) -> "subprocess.Popen[bytes]":
+def start(words: Sequence[str], death: int = signal.SIGKILL, most: Optional[int] = None,
+          **how: Any) -> "subprocess.Popen[bytes]":
     """Starts a process like `child`, but the caller must end it.
 
-    It receives the signal `death` if this process is killed, and SIGXFSZ if it writes more than `most` bytes to a file. Raises
-    `ProgramError` if there is no such program."""
+    It receives the signal `death` if this process is killed, and SIGXFSZ if it writes more than `most` bytes
+    to a file. Raises `ProgramError` if there is no such program."""
     try:
         return subprocess.Popen(words, process_group=0 if GROUPED else None,
                                 preexec_fn=partial(_bounded, os.getpid(), death, most), **how)
@@ -204,12 +214,14 @@ def wait(process: "subprocess.Popen[bytes]") -> int:
     return process.returncode
 
 
-def run(words: Sequence[str], text: bytes = b"", out: Optional[IO[bytes]] = None, most: int = MOST_SAID) -> Done:
+def run(words: Sequence[str], text: bytes = b"", out: Optional[IO[bytes]] = None,
+        most: int = MOST_SAID) -> Done:
     """Runs a program with `text` as its standard input, and returns its result.
 
-    The output goes to `out`, if given. Raises `Killed` if a signal ended the program, as happens after `most` bytes of output.
-    Input and output are files, so that nothing can block on a full pipe."""
-    with tempfile.TemporaryFile() as given, tempfile.TemporaryFile() as errors, tempfile.TemporaryFile() as own:
+    The output goes to `out`, if given. Raises `Killed` if a signal ended the program, as happens after `most`
+    bytes of output. Input and output are files, so that nothing can block on a full pipe."""
+    with (tempfile.TemporaryFile() as given, tempfile.TemporaryFile() as errors,
+          tempfile.TemporaryFile() as own):
         given.write(text)
         given.flush()
         given.seek(0)
@@ -231,7 +243,8 @@ def describe_exit(ended_by: int) -> str:
     >>> describe_exit(9)
     'ended by SIGKILL (out of memory?)'
     """
-    why = {signal.SIGKILL: " (out of memory?)", signal.SIGXFSZ: " (it wrote more than its scenario can produce)"}
+    why = {signal.SIGKILL: " (out of memory?)",
+           signal.SIGXFSZ: " (it wrote more than its scenario can produce)"}
     return f"ended by {signal.Signals(ended_by).name}{why.get(signal.Signals(ended_by), '')}"
 
 
@@ -245,7 +258,8 @@ CANCEL = "cancel"
 def lock(path: Path, flags: int) -> Optional[IO[bytes]]:
     """Opens and locks a file. Returns None if another process has locked it, or if it has been removed."""
     try:
-        file = os.fdopen(os.open(path, flags | os.O_RDWR | os.O_NOFOLLOW | os.O_CLOEXEC, 0o666), "r+b", buffering=0)
+        file = os.fdopen(os.open(path, flags | os.O_RDWR | os.O_NOFOLLOW | os.O_CLOEXEC, 0o666), "r+b",
+                         buffering=0)
     except (FileNotFoundError, NotADirectoryError):
         return None
     try:

@@ -1,5 +1,5 @@
-"""Closed-loop senders in a session: transfers that wait for one another, requests and answers, web users, and any number of short
-flows, each with NewReno (RFC 6582), Reno (RFC 5681) or CUBIC (RFC 9438).
+"""Closed-loop senders in a session: transfers that wait for one another, requests and answers, web users, and
+any number of short flows, each with NewReno (RFC 6582), Reno (RFC 5681) or CUBIC (RFC 9438).
 
     import dnlab
     from dnlab.senders import Cubic, Network
@@ -24,4 +24,5 @@ from dnlab.senders.network import Arrivals, Chain, Requests, Web
 from dnlab.senders.windows import Timeout
 from dnlab.senders.windows import Cubic, NewReno, Reno, Window
 
-__all__ = ["Arrivals", "Chain", "Cubic", "Flow", "Network", "NewReno", "Reno", "Requests", "Timeout", "Web", "Window"]
+__all__ = ["Arrivals", "Chain", "Cubic", "Flow", "Network", "NewReno", "Reno", "Requests", "Timeout", "Web",
+           "Window"]

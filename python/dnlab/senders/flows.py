@@ -1,7 +1,9 @@
-"""A transfer over a link: a sender with a window and a timer, and a receiver that acknowledges what it has in order.
+"""A transfer over a link: a sender with a window and a timer, and a receiver that acknowledges what it has in
+order.
 
-It behaves like the link's own flows (docs/explanation/reno.md): no handshake, each segment acknowledged at once, segments of
-SMSS bytes and 40 of headers. With `Reno` it equals such a flow; a window can select NewReno's recovery (RFC 6582).
+It behaves like the link's own flows (docs/explanation/reno.md): no handshake, each segment acknowledged at
+once, segments of SMSS bytes and 40 of headers. With `Reno` it equals such a flow; a window can select
+NewReno's recovery (RFC 6582).
 """
 from typing import TYPE_CHECKING, Any, Callable, NamedTuple, Optional
 
@@ -36,21 +38,25 @@ class Flow:
     sent          segments sent, `retransmissions` those of them that were sent before, `timeouts`
     history       with `record`: (moment, cwnd, ssthresh) at the start and at each change, bytes"""
 
-    def __init__(self, network: "Network", number: int, source: Address, target: Address, size: int, window: Window, smss: int,
-                 limit: Optional[int] = None, timeout: Optional[Timeout] = None, record: bool = False) -> None:
+    def __init__(self, network: "Network", number: int, source: Address, target: Address, size: int,
+                 window: Window, smss: int, limit: Optional[int] = None, timeout: Optional[Timeout] = None,
+                 record: bool = False) -> None:
         if size < 1:
             raise ValueError(f"a flow has 1 byte or more, not {size}")
         self.network, self.number, self.source, self.target = network, number, source, target
         self.size, self.window, self.smss, self.limit = size, window, smss, limit
         self.timeout = timeout or Timeout()
-        self.begun, self.arrived, self.done = network.now, None, None  # type: int, Optional[int], Optional[int]
+        self.begun = network.now
+        self.arrived: Optional[int] = None
+        self.done: Optional[int] = None
         self.sent = self.retransmissions = self.timeouts = 0
         self.history: Optional[list[tuple[int, int, int]]] = [] if record else None
         self.una = self._next = self._max = self._duplicates = 0
         # Bytes that fast recovery adds to the window (or subtracts); its end, None outside of it.
         self._inflated, self._recover = 0, None  # type: int, Optional[int]
         self._backed_off = False
-        # When the timer expires, and the time of the call that was scheduled: with a later timer, that call does nothing.
+        # When the timer expires, and the time of the call that was scheduled: with a later timer, that call
+        # does nothing.
         self._due: Optional[int] = None
         self._called_at: Optional[int] = None
         # The sample that is running: the end of a segment, and when that was sent.
@@ -117,7 +123,8 @@ class Flow:
             self._set_timer()
 
     def _resend(self) -> None:
-        """Sends the first unacknowledged segment again. Segments that were sent twice give no RTT sample (RFC 6298, section 3)."""
+        """Sends the first unacknowledged segment again. Segments that were sent twice give no RTT sample (RFC
+        6298, section 3)."""
         self._timed = None
         after = min(self.una + self.smss, self.size)
         self._send(self.una, after)
@@ -152,7 +159,8 @@ class Flow:
         if self._recover is None:
             self.window.acknowledged(count, now, self.timeout.smoothed)
         elif is_partial:
-            # RFC 6582, section 3.2, step 3: deflate by the amount acknowledged, and add one segment; at least one remains.
+            # RFC 6582, section 3.2, step 3: deflate by the amount acknowledged, and add one segment; at least
+            # one remains.
             deflated = self._inflated - count + (self.smss if count >= self.smss else 0)
             self._inflated = max(deflated, self.smss - self.window.cwnd)
         else:

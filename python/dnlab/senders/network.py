@@ -1,4 +1,5 @@
-"""A network of flows with the senders of this package, and the patterns of applications: requests, bursts and web users."""
+"""A network of flows with the senders of this package, and the patterns of applications: requests, bursts and
+web users."""
 import heapq
 import itertools
 from typing import TYPE_CHECKING, Any, Callable, Iterable, Optional, Sequence, Union
@@ -24,8 +25,8 @@ Call = Callable[[], Any]
 class Network:
     """Flows over a link. `run` advances time; callbacks may start further flows, without a limit.
 
-    hold  how long (ns) the link continues after the first delivery before its flows are notified: 1 is exact, more is
-          faster, and delays each reaction by at most that much"""
+    hold  how long (ns) the link continues after the first delivery before its flows are notified: 1 is
+          exact, more is faster, and delays each reaction by at most that much"""
 
     def __init__(self, link: Link, hold: int = 1) -> None:
         self.link, self.hold = link, hold
@@ -41,20 +42,22 @@ class Network:
         return self.link.now
 
     def flow(self, size: int, window: Callable[[int], Window] = Reno, source: Optional[Address] = None,
-             target: Optional[Address] = None, smss: int = 1460, limit: Optional[int] = LIMIT, least_timeout: int = 10**9,
-             record: bool = False) -> Flow:
+             target: Optional[Address] = None, smss: int = 1460, limit: Optional[int] = LIMIT,
+             least_timeout: int = 10**9, record: bool = False) -> Flow:
         """Starts a flow of `size` bytes now, by default from 10.0.0.1 to 10.0.1.1 with a port of its own.
 
-        window         `Reno`, `NewReno`, `Cubic`, or your own class with the members of `dnlab.senders.Window`
-        limit          the receiver's window in bytes, by default 262144 (21 Mbit/s at 100 ms; the link's own flows have 65535);
-                       None is no limit: Reno then follows RFC 5681 literally and sends more for each duplicate while a lost retransmission
-                       waits for its timer, far beyond the capacity of the path
+        window         `Reno`, `NewReno`, `Cubic`, or your own class with the members of
+                       `dnlab.senders.Window`
+        limit          the receiver's window in bytes, by default 262144 (21 Mbit/s at 100 ms; the link's own
+                       flows have 65535); None is no limit: Reno then follows RFC 5681 literally and sends
+                       more for each duplicate while a lost retransmission waits for its timer, far beyond
+                       the capacity of the path
         least_timeout  the minimum retransmission time, ns (RFC 6298 has 1 s)
         record         whether the flow keeps its `history` of windows"""
         number = len(self.flows)
         port = _PORTS[number % len(_PORTS)]
-        flow = Flow(self, number + 1, source or (CLIENT, port), target or (SERVER, 80), size, window(smss), smss, limit,
-                    Timeout(least_timeout), record)
+        flow = Flow(self, number + 1, source or (CLIENT, port), target or (SERVER, 80), size, window(smss),
+                    smss, limit, Timeout(least_timeout), record)
         self.flows.append(flow)
         self._open += 1
         flow.begin()
@@ -77,8 +80,8 @@ class Network:
         self.at(self.now + time, call)
 
     def run(self, until: int = LATEST) -> None:
-        """Advances time to `until` (ns), or until all flows and calls are done. Raises `InputError` if the experiment's steps are
-        spent."""
+        """Advances time to `until` (ns), or until all flows and calls are done. Raises `InputError` if the
+        experiment's steps are spent."""
         while self.now < until:
             while self._timers and self._timers[0][0] <= self.now:
                 heapq.heappop(self._timers)[2]()
@@ -88,8 +91,9 @@ class Network:
             for event in self.link.until_mine(max(wanted, self.now), self.hold):
                 self._take(event)
             if self.link.is_over:
-                raise InputError(f"experiment {self.link.name}: its steps were spent at {self.now} ns, before all flows were done: begin"
-                             " it with more steps, or end it before")
+                raise InputError(
+                    f"experiment {self.link.name}: its steps were spent at {self.now} ns, before all flows "
+                    "were done: begin it with more steps, or end it before")
 
     def _take(self, event: Event) -> None:
         """Handles a delivery. Senders do not learn of drops."""
@@ -120,9 +124,9 @@ class Network:
     def rows(self) -> list[dict[str, Any]]:
         """Returns a row for each flow, in the order in which they started.
 
-        Columns: flow (number), window (the class), begin, arrived (ns), fct (flow completion time: from its start to the arrival of
-        its last missing byte, ns), bytes, goodput (bit/s over that time), segments (sent), retransmissions, timeouts. What has not
-        happened is None."""
+        Columns: flow (number), window (the class), begin, arrived (ns), fct (flow completion time: from its
+        start to the arrival of its last missing byte, ns), bytes, goodput (bit/s over that time), segments
+        (sent), retransmissions, timeouts. What has not happened is None."""
         return [_row(flow) for flow in self.flows]
 
     def table(self) -> "pd.DataFrame":
@@ -132,13 +136,16 @@ class Network:
         return results.of_rows(self.rows(), list(_COLUMNS))
 
 
-_COLUMNS = ("flow", "window", "begin", "arrived", "fct", "bytes", "goodput", "segments", "retransmissions", "timeouts")
+_COLUMNS = ("flow", "window", "begin", "arrived", "fct", "bytes", "goodput", "segments", "retransmissions",
+            "timeouts")
 
 
 def _row(flow: Flow) -> dict[str, Any]:
     fct = None if flow.arrived is None else flow.arrived - flow.begun
-    values: Iterable[Any] = (flow.number, type(flow.window).__name__, flow.begun, flow.arrived, fct, flow.size,
-                             flow.size * 8 * 10**9 // fct if fct else None, flow.sent, flow.retransmissions, flow.timeouts)
+    values: Iterable[Any] = (flow.number, type(flow.window).__name__, flow.begun, flow.arrived,
+                             fct, flow.size,
+                             flow.size * 8 * 10**9 // fct if fct else None, flow.sent, flow.retransmissions,
+                             flow.timeouts)
     return dict(zip(_COLUMNS, values))
 
 
@@ -157,11 +164,13 @@ def drawn(value: Drawn, chance: Chance) -> int:
 
 
 class Chain:
-    """Flows one after another: each starts `gap` ns after the one before has finished, which is when its sender knows.
+    """Flows one after another: each starts `gap` ns after the one before has finished, which is when its
+    sender knows.
 
     flows  those that have started, in order"""
 
-    def __init__(self, network: Network, sizes: Iterable[int], window: Make = Reno, gap: int = 0, **more: Any) -> None:
+    def __init__(self, network: Network, sizes: Iterable[int], window: Make = Reno, gap: int = 0,
+                 **more: Any) -> None:
         self.network, self.window, self.gap, self.more = network, window, gap, more
         self._left = list(sizes)[::-1]
         self.flows: list[Flow] = []
@@ -175,14 +184,14 @@ class Chain:
 
 
 class Requests:
-    """A client that sends requests to a server repeatedly: the answer starts `work` ns after the request has arrived, and the next
-    request `think` ns after the answer has arrived.
+    """A client that sends requests to a server repeatedly: the answer starts `work` ns after the request has
+    arrived, and the next request `think` ns after the answer has arrived.
 
     times  for each answer that has arrived, the time since the start of its request, ns"""
 
-    def __init__(self, network: Network, count: int, request: Drawn, answer: Drawn, seed: object = 0, window: Make = Reno,
-                 work: int = 0, think: Drawn = 1, client: str = CLIENT, server: str = SERVER, begin: int = 0,
-                 until: Optional[int] = None, **more: Any) -> None:
+    def __init__(self, network: Network, count: int, request: Drawn, answer: Drawn, seed: object = 0,
+                 window: Make = Reno, work: int = 0, think: Drawn = 1, client: str = CLIENT,
+                 server: str = SERVER, begin: int = 0, until: Optional[int] = None, **more: Any) -> None:
         self.network, self.count, self.request, self.answer = network, count, request, answer
         self.window, self.work, self.think, self.until, self.more = window, work, think, until, more
         self.client, self.server = client, server
@@ -197,7 +206,8 @@ class Requests:
         self._asked += 1
         begun, size = self.network.now, drawn(self.answer, self.chance)
         port = 1024 + len(self.network.flows) % 60000
-        asked = self.network.flow(drawn(self.request, self.chance), self.window, (self.client, port), (self.server, 80),
+        asked = self.network.flow(drawn(self.request, self.chance), self.window, (self.client, port),
+                                  (self.server, 80),
                                   **self.more)
 
         def answer() -> None:
@@ -212,8 +222,8 @@ class Requests:
 
 
 class Web:
-    """Users who request a page, read it and request the next, each as `Requests`. Every user has an independent random stream, so
-    settings are compared under the same requests.
+    """Users who request a page, read it and request the next, each as `Requests`. Every user has an
+    independent random stream, so settings are compared under the same requests.
 
     users  the `Requests` of each user"""
 
@@ -223,7 +233,8 @@ class Web:
         for user in range(1, users + 1):
             first = Chance(f"{seed} begin {user}").exponential(think)
             self.users.append(Requests(
-                network, count, request, page, f"{seed} user {user}", window, think=lambda chance: chance.exponential(think),
+                network, count, request, page, f"{seed} user {user}", window,
+                think=lambda chance: chance.exponential(think),
                 client=f"10.0.0.{1 + user % 250}", begin=first, until=until, **more))
 
     def times(self) -> list[int]:
@@ -232,7 +243,8 @@ class Web:
 
 
 class Arrivals:
-    """Flows that arrive at random, `mean` ns apart (a Poisson process). Each starts when it is due, whatever the others do.
+    """Flows that arrive at random, `mean` ns apart (a Poisson process). Each starts when it is due, whatever
+    the others do.
 
     flows  those that have started, in order"""
 

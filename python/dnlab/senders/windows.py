@@ -124,7 +124,8 @@ class CubicCurve:
         self.is_after_timeout = True
 
 
-# What a flow adds for duplicates during fast recovery belongs to the flow (`dnlab.senders.flows`); a window is the value after it.
+# What a flow adds for duplicates during fast recovery belongs to the flow (`dnlab.senders.flows`); a window
+# is the value after it.
 
 _SECOND = 10**9
 # The initial threshold (RFC 5681, section 3.1: it "SHOULD be set arbitrarily high").
@@ -134,8 +135,9 @@ HIGH = 2**62
 class Window(Protocol):
     """The interface that a flow requires of a window.
 
-    `cwnd` and `ssthresh` are bytes, times ns. `is_newreno` says whether a flow stays in fast recovery until everything sent before
-    the loss is acknowledged (RFC 6582), or leaves it at the first acknowledgement of new data (RFC 5681)."""
+    `cwnd` and `ssthresh` are bytes, times ns. `is_newreno` says whether a flow stays in fast recovery until
+    everything sent before the loss is acknowledged (RFC 6582), or leaves it at the first acknowledgement of
+    new data (RFC 5681)."""
     cwnd: int
     ssthresh: int
     is_newreno: bool
@@ -144,8 +146,8 @@ class Window(Protocol):
         """Creates a window for segments of this many bytes."""
 
     def acknowledged(self, count: int, now: int, rtt: int) -> None:
-        """Updates the window: `count` new bytes were acknowledged, outside of recovery. `rtt` is the smoothed round trip, ns, 0
-        if unknown."""
+        """Updates the window: `count` new bytes were acknowledged, outside of recovery. `rtt` is the smoothed
+        round trip, ns, 0 if unknown."""
 
     def lost(self, flight: int, now: int) -> None:
         """Updates the window for three duplicates, with `flight` bytes in flight."""
@@ -187,15 +189,17 @@ class Reno:
         self.cwnd = self.ssthresh
 
     def timed_out(self, flight: int, now: int, is_again: bool) -> None:
-        """Falls back to one segment (section 3.1). The threshold stays if the same segment was sent again before."""
+        """Falls back to one segment (section 3.1). The threshold stays if the same segment was sent again
+        before."""
         if not is_again:
             self.ssthresh = max(flight // 2, 2 * self.smss)
         self.cwnd = self.smss
 
 
 class NewReno(Reno):
-    """Reno's window with the recovery of RFC 6582, which lasts until everything sent before the loss is acknowledged, so that several
-    losses in one window need no timeout. Hosts do this; use it if the network's behaviour is what you study.
+    """Reno's window with the recovery of RFC 6582, which lasts until everything sent before the loss is
+    acknowledged, so that several losses in one window need no timeout. Hosts do this; use it if the network's
+    behaviour is what you study.
 
     >>> NewReno(1000).cwnd, NewReno.is_newreno
     (4000, True)
@@ -204,7 +208,8 @@ class NewReno(Reno):
 
 
 class Cubic:
-    """The window of RFC 9438, by `CubicCurve`, with an initial window of 10 segments (RFC 6928) and NewReno's recovery.
+    """The window of RFC 9438, by `CubicCurve`, with an initial window of 10 segments (RFC 6928) and NewReno's
+    recovery.
 
     >>> window = Cubic(1000)
     >>> window.acknowledged(1000, 0, 0); window.cwnd
@@ -235,7 +240,8 @@ class Cubic:
         self._take()
 
     def timed_out(self, flight: int, now: int, is_again: bool) -> None:
-        """Falls back to one segment (section 4.8); a further timeout for the same byte leaves threshold and plateau unchanged."""
+        """Falls back to one segment (section 4.8); a further timeout for the same byte leaves threshold and
+        plateau unchanged."""
         if is_again:
             self.own.cwnd = 1.0
         else:

@@ -1,5 +1,6 @@
-"""Sessions with `dnlab live`, and their experiments: your own program sends packets at chosen times, and learns when each is
-delivered or dropped. Needs only Python; `dnlab.hosts` has callbacks and generators, `dnlab.sim` an event loop for asyncio.
+"""Sessions with `dnlab live`, and their experiments: your own program sends packets at chosen times, and
+learns when each is delivered or dropped. Needs only Python; `dnlab.hosts` has callbacks and generators,
+`dnlab.sim` an event loop for asyncio.
 """
 import io
 from collections import deque
@@ -19,8 +20,8 @@ _MOST_GATHERED = 1 << 15
 
 
 class Link:
-    """An experiment of a session. Time advances only in `until`, `until_mine`, `until_any` and `end`, and for actions `at` a later time
-    (ns).
+    """An experiment of a session. Time advances only in `until`, `until_mine`, `until_any` and `end`, and for
+    actions `at` a later time (ns).
 
     now       the earliest time (ns) of the next action
     is_over   whether it has ended
@@ -46,15 +47,14 @@ class Link:
         self._adds_next = False
 
     def command(self, words: str, at: Optional[int] = None) -> None:
-        """Executes a command in scenario syntax, without its time. Raises `LineRejectedError` or `CommandRefusedError`."""
+        """Executes a command, without its time. Raises `LineRejectedError` or `CommandRefusedError`."""
         self._move(at)
         self._session.post(self, f"@{self.now} {words}")
         self._session.exchange()
 
     def send(self, source: Address, target: Address, size: int, payload: Any = None, protocol: str = "udp",
              at: Optional[int] = None) -> Packet:
-        """Queues a packet of 40 to 1500 bytes, headers included; the next call that needs a reply sends it. Raises `ValueError` if it
-        is invalid."""
+        """Queues a packet of 40 to 1500 bytes, with headers (else `ValueError`); the next reply sends it."""
         if not LEAST_SIZE <= size <= MOST_SIZE:
             raise ValueError(f"a packet has {LEAST_SIZE} to {MOST_SIZE} bytes, not {size}")
         header = header_of(protocol, source, target)
@@ -64,12 +64,12 @@ class Link:
         return packet
 
     def until(self, moment: int) -> list[Event]:
-        """Advances time to `moment` (ns). Returns the deliveries and drops of your own packets since the last call."""
+        """Advances time to `moment` (ns). Returns your packets' deliveries and drops since the last call."""
         return self._pass(f"#> until @{self._later(moment)}")
 
     def until_mine(self, moment: int = LATEST, hold: int = 1) -> list[Event]:
-        """Like `until`, but stops at most `hold` ns after the first of these deliveries or drops, so that you can react. A packet that
-        is dropped when sent doesn't stop time."""
+        """Like `until`, but stops at most `hold` ns after the first of these deliveries or drops, so that you
+        can react. A packet that is dropped when sent doesn't stop time."""
         self._later(moment)
         if self._events:
             # A command at a later time produced events: time stands still until the program has seen them.
@@ -107,8 +107,8 @@ class Link:
         return self._taken()
 
     def transcript(self) -> str:
-        """Returns the scenario of everything that was done. After the end, `dnlab alone` writes the same report for it, and
-        `dnlab alone --trace` that of a session with `trace=True`."""
+        """Returns the scenario of everything that was done. After the end, `dnlab alone` writes the same
+        report for it, and `dnlab alone --trace` that of a session with `trace=True`."""
         self._session.exchange()
         return _kept(self._transcript, "transcript").decode()
 
@@ -168,7 +168,7 @@ class Link:
         if packet is not None or self._wants_all:
             self._events.append(event)
         elif load == [b"plain"]:
-            # For a packet that was dropped or delivered on arrival: its record precedes the reply with its number.
+            # The record of a packet that is dropped or delivered at once precedes the reply with its number.
             self._early[number] = event
 
     def _name(self, packet: Packet) -> None:
@@ -302,7 +302,7 @@ class Session:
             self._trouble = self._trouble or CommandRefusedError(int(words[2]), line)
 
     def _explained(self, line: str) -> str:
-        """Returns the explanation of `check --explain` for a line, without the line itself; '' if the line alone has no fault."""
+        """Returns what `check --explain` says of a line, without the line; '' if it alone has no fault."""
         before = "" if line.startswith("experiment") else "experiment x seed 0 budget 1\n"
         text = f"{before}{line}\n@{10**15} end\n".encode(errors="replace")
         said = self.transport.explained(text).split("\n\n")[0].splitlines()[1:]
@@ -338,11 +338,13 @@ def _transport(dnlab: Optional[str], engine: str) -> Transport:
 
 
 def live(dnlab: Optional[str] = None, engine: str = "process", trace: bool = False) -> Session:
-    """Starts a session, for use as a block: `with dnlab.live() as session: link = session.experiment("mine", seed=1)`.
+    """Starts a session, for use as a block:
+    `with dnlab.live() as session: link = session.experiment("mine", seed=1)`.
 
     dnlab   the program; by default that of `dnlab.programs.program`
     engine  "process" starts the program; "library" calls libdnlab in this process
-    trace   whether reports also have the creations and arrivals of packets, from which their sizes and delays are read
+    trace   whether reports also have the creations and arrivals of packets, from which their sizes and
+            delays are read
 
     Raises `ProgramError` if there is no program."""
     return Session(dnlab, engine, trace)

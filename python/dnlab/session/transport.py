@@ -1,4 +1,5 @@
-"""The transports of sessions: a running `dnlab live`, or libdnlab in this process; and the events and errors that they bring."""
+"""The transports of sessions: a running `dnlab live`, or libdnlab in this process; and the events and errors
+that they bring."""
 import ipaddress
 import os
 import select
@@ -30,7 +31,8 @@ class LineRejectedError(InputError):
 
 
 class CommandRefusedError(InputError):
-    """A command was refused; only the transcript changed. Has `line`, and `code` (docs/reference/faults.md)."""
+    """A command was refused; only the transcript changed. Has `line`, and `code`
+    (docs/reference/faults.md)."""
 
     def __init__(self, code: int, line: str) -> None:
         super().__init__(f"refused {code}: {line} (docs/reference/faults.md says what each code means)")
@@ -41,15 +43,16 @@ class ExperimentEndedError(Exception):
     """The experiment has ended, or its steps are spent. Has `moment` (ns)."""
 
     def __init__(self, name: str, moment: int) -> None:
-        super().__init__(f"experiment {name} ended at {moment} ns, by `end` or because its steps are spent (begin it with "
-                         "more steps)")
+        super().__init__(
+            f"experiment {name} ended at {moment} ns, by `end` or because its steps are spent (begin it "
+            "with more steps)")
         self.moment = moment
 
 
 @dataclass(slots=True, eq=False)
 class Packet:
-    """A packet of `size` bytes that was sent at `sent` (ns). `payload` stays in your program. `number` is the serial number, -1 until
-    `dnlab` has replied."""
+    """A packet of `size` bytes that was sent at `sent` (ns). `payload` stays in your program. `number` is the
+    serial number, -1 until `dnlab` has replied."""
     source: Address
     target: Address
     size: int
@@ -60,8 +63,9 @@ class Packet:
 
 
 class Event(NamedTuple):
-    """The outcome of a packet at `moment` (ns): delivered if `cause` is '', otherwise dropped. `packet` is None for packets of flows and
-    trains, which only `until_any` returns. `number` and `load` are those of the report."""
+    """The outcome of a packet at `moment` (ns): delivered if `cause` is '', otherwise dropped. `packet` is
+    None for packets of flows and trains, which only `until_any` returns. `number` and `load` are those of the
+    report."""
     moment: int
     packet: Optional[Packet]
     cause: str
@@ -103,7 +107,8 @@ class LibraryTransport:
         return self._talk.has_ended
 
     def exchange(self, data: bytes, take: Callable[[bytes], bool]) -> None:
-        """Sends whole lines, and passes each line of the reply to `take`. Raises `ProgramError` if memory runs out."""
+        """Sends whole lines, and passes each line of the reply to `take`. Raises `ProgramError` if memory
+        runs out."""
         if self._is_torn and not self.has_ended:
             raise ProgramError(0, _TORN)
         self._is_torn = True
@@ -132,8 +137,8 @@ class LibraryTransport:
 
 
 class ProcessTransport:
-    """The running program. It has a process group of its own, so that Ctrl-C reaches only the caller, and ends with the thread that
-    started it."""
+    """The running program. It has a process group of its own, so that Ctrl-C reaches only the caller, and
+    ends with the thread that started it."""
 
     def __init__(self, called: str) -> None:
         self._called = called
@@ -160,8 +165,8 @@ class ProcessTransport:
         return self.process.returncode is not None
 
     def exchange(self, data: bytes, take: Callable[[bytes], bool]) -> None:
-        """Sends whole lines, and passes each line of the reply (without its line feed) to `take` until that returns False. Raises
-        `ProgramError` with the program's status and standard error if it has ended."""
+        """Sends whole lines, and passes each line of the reply (without its line feed) to `take` until that
+        returns False. Raises `ProgramError` with the program's status and standard error if it has ended."""
         self._check()
         self._is_torn = True
         left = memoryview(data)
@@ -205,7 +210,8 @@ class ProcessTransport:
         said = self._said()
         by = subprocesses.signal_of(status)
         if by:
-            self._failed = subprocesses.Killed(f"the session's program was {subprocesses.describe_exit(by)}", by)
+            self._failed = subprocesses.Killed(f"the session's program was {subprocesses.describe_exit(by)}",
+                                               by)
         else:
             self._failed = ProgramError(status, f"the session's program ended{': ' + said if said else ''}")
         self._release()
@@ -223,8 +229,8 @@ class ProcessTransport:
         subprocesses.remove_chore(self._chore)
 
     def close(self) -> None:
-        """Ends the program and waits for it. An experiment without its `end` is cut off there. Raises `ProgramError` if the program ends
-        with another fault."""
+        """Ends the program and waits for it. An experiment without its `end` is cut off there. Raises
+        `ProgramError` if the program ends with another fault."""
         if self.has_ended:
             return
         if self._is_torn:

@@ -1,5 +1,5 @@
-"""How a sweep runs its experiments elsewhere: on other machines, with ssh or as a Slurm array, like `spread`, or with Dask; and as
-programs, from a hosts file or a command that leaves transcript.txt and report.txt.
+"""How a sweep runs its experiments elsewhere: on other machines, with ssh or as a Slurm array, like `spread`,
+or with Dask; and as programs, from a hosts file or a command that leaves transcript.txt and report.txt.
 """
 import json
 import os
@@ -32,8 +32,8 @@ from dnlab.sweeps.sweeping import Sweep
 if TYPE_CHECKING:
     from dnlab.sweeps.measuring import Answered
 
-# The target time of a part on another machine, in seconds. With ssh it is one scenario, all of whose reports the program keeps
-# until its end; Slurm and Dask run several scenarios one after another.
+# The target time of a part on another machine, in seconds. With ssh it is one scenario, all of whose reports
+# the program keeps until its end; Slurm and Dask run several scenarios one after another.
 _PART = 60.0
 _PART_BY_SSH = 10.0
 # How long to run experiments on this machine to estimate that.
@@ -43,7 +43,8 @@ _FEW = 16
 
 
 def run_elsewhere(sweep: "Sweep", waiting: Sequence["Waiting"], program: str) -> Iterator["Answered"]:
-    """Yields results as they arrive, including those of the experiments that were run on this machine to estimate the time."""
+    """Yields results as they arrive, including those of the experiments that were run on this machine to
+    estimate the time."""
     if not waiting:
         return
     parts, tried = sweep.parts or len(waiting), 0
@@ -57,14 +58,16 @@ def run_elsewhere(sweep: "Sweep", waiting: Sequence["Waiting"], program: str) ->
         tried, took = len(known), time.monotonic() - begun
         waiting = [one for one in waiting if one.key not in known]
         is_ssh = sweep.on != "slurm" and not str(sweep.on).startswith(DASK)
-        parts = ceil(len(waiting) / experiments_per_part(tried, took, sweep.workers, _PART_BY_SSH if is_ssh else _PART))
+        parts = ceil(len(waiting) / experiments_per_part(tried, took, sweep.workers,
+                                                         _PART_BY_SSH if is_ssh else _PART))
     if waiting:
         way = by_dask if str(sweep.on).startswith(DASK) else by_spread
         yield from way(sweep, waiting, program, max(1, min(parts, len(waiting))))
 
 
 def experiments_per_part(tried: int, took: float, workers: int, wanted: float = _PART) -> int:
-    """Returns how many experiments take `wanted` seconds, if `tried` of them took `took` seconds with `workers` processes.
+    """Returns how many experiments take `wanted` seconds, if `tried` of them took `took` seconds with
+    `workers` processes.
 
     >>> experiments_per_part(16, 0.4, 4), experiments_per_part(2, 5.0, 4), experiments_per_part(0, 5.0, 4)
     (600, 12, 1)
@@ -82,7 +85,8 @@ def batches_of(waiting: Sequence["Waiting"], count: int) -> list[list[list["Wait
 
 
 def run_trial(sweep: "Sweep", sample: Sequence["Waiting"], program: str) -> Iterator["Answered"]:
-    """Runs experiments on this machine, one by one, for some seconds; those that fail are left for the other machines."""
+    """Runs experiments on this machine, one by one, for some seconds; those that fail are left for the other
+    machines."""
     begun = time.monotonic()
     with ProcessPool["Waiting"](sweep.workers) as pool:
         for one in sample:
@@ -99,8 +103,10 @@ def run_trial(sweep: "Sweep", sample: Sequence["Waiting"], program: str) -> Iter
 
 
 def by_spread(sweep: "Sweep", waiting: Sequence["Waiting"], program: str, count: int) -> Iterator["Answered"]:
-    """Runs experiments with the engines of `spread`, and reads each part on this machine as soon as it is done."""
-    how = RunOptions(count, ssh=None if sweep.on == "slurm" else str(sweep.on), slurm=sweep.on == "slurm", program=sweep.there,
+    """Runs experiments with the engines of `spread`, and reads each part on this machine as soon as it is
+    done."""
+    how = RunOptions(count, ssh=None if sweep.on == "slurm" else str(sweep.on), slurm=sweep.on == "slurm",
+                     program=sweep.there,
                      form=("--format", "npy"))
     fault = how.fault()
     if fault is not None:
@@ -112,7 +118,8 @@ def by_spread(sweep: "Sweep", waiting: Sequence["Waiting"], program: str, count:
         by_name = {one.case.name: one for one in waiting}
         texts = {one.case.name: sweep.text(one.case) for one in waiting}
         if sweep.on == "slurm":
-            named = [[one.case.name for one in batch] for part in batches_of(waiting, count) for batch in part]
+            named = [[one.case.name for one in batch] for part in batches_of(waiting, count)
+                     for batch in part]
         else:
             found = experiments_in([text.encode() for text in texts.values()])
             named = [[part.name for part in share] for share in shares(found, count)]
@@ -124,8 +131,8 @@ def by_spread(sweep: "Sweep", waiting: Sequence["Waiting"], program: str, count:
         while is_going or len(pool):
             try:
                 for job in next(going) if is_going else ():
-                    pool.submit(job.number, read_answers, str(job.file("whole")), [texts[name] for name in job.names], sweep.asks,
-                                sweep.span)
+                    pool.submit(job.number, read_answers, str(job.file("whole")),
+                                [texts[name] for name in job.names], sweep.asks, sweep.span)
             except StopIteration:
                 is_going = False
             except RunFailedError as stopped:
@@ -150,28 +157,33 @@ def _read(pool: ProcessPool[int], jobs: Sequence[Job], by_name: dict[str, "Waiti
 
 
 def by_dask(sweep: "Sweep", waiting: Sequence["Waiting"], program: str, count: int) -> Iterator["Answered"]:
-    """Runs and reads experiments on the workers of a Dask scheduler, which need this package and the program."""
+    """Runs and reads experiments on the workers of a Dask scheduler, which need this package and the
+    program."""
     try:
         import distributed
     except ModuleNotFoundError:
-        raise ProgramError(3, "distributed is missing (Debian: apt-get install python3-distributed)") from None
+        raise ProgramError(3,
+                           "distributed is missing (Debian: apt-get install python3-distributed)") from None
     dask: Any = distributed
     address = str(sweep.on).removeprefix(DASK)
     try:
         client = dask.Client(address, timeout=10)
     except (OSError, ValueError) as fault:
-        raise InputError(f"--on dask {address}: there is no scheduler: {str(fault) or type(fault).__name__}") from None
+        raise InputError(
+            f"--on dask {address}: there is no scheduler: {str(fault) or type(fault).__name__}") from None
     with client:
         futures = {}
         for part in batches_of(waiting, count):
             texts = [[sweep.text(one.case) for one in batch] for batch in part]
-            future = client.submit(measured_by_turns, texts, sweep.asks, sweep.there or program, sweep.span, pure=False)
+            future = client.submit(measured_by_turns, texts, sweep.asks, sweep.there or program, sweep.span,
+                                   pure=False)
             futures[future] = [one for batch in part for one in batch]
         for future in dask.as_completed(list(futures)):
             batch = futures.pop(future)
             if future.status != "finished":
                 raised = future.exception()
-                said = raised.said if isinstance(raised, ProgramError) else f"{type(raised).__name__}: {raised}"
+                said = (raised.said if isinstance(raised, ProgramError)
+                        else f"{type(raised).__name__}: {raised}")
                 more = f" or one of the {len(batch) - 1} after it" if len(batch) > 1 else ""
                 raise ProgramError(3, f"{batch[0].case.told()}{more}: {said}")
             yield batch, future.result()
@@ -232,9 +244,10 @@ class ProgramSweep(Sweep):
         return "the seeds change nothing: there is no {{ seed }} in it" if is_same else None
 
 
-def run_programs(texts: Sequence[str], kind: Kind, asks: Sequence[StatRequest], program: str, span: Span) -> list[StatResults]:
-    """Runs programs, one after the other, and returns the results of their reports in order. Raises `ProgramError` with a program's
-    message if its status is not 0."""
+def run_programs(texts: Sequence[str], kind: Kind, asks: Sequence[StatRequest], program: str,
+                 span: Span) -> list[StatResults]:
+    """Runs programs, one after the other, and returns the results of their reports in order. Raises
+    `ProgramError` with a program's message if its status is not 0."""
     found = []
     for text in texts:
         with TempDir() as room:
@@ -277,7 +290,8 @@ def view_of(folder: Path, program: str) -> View:
     except UnfitError as unfit:
         name, cause = unfit.args
         missing = not (folder / name).is_file()
-        raise ProgramError(3, f"the program left no {name}: {cause}" if missing else f"{name}: {cause}") from None
+        raise ProgramError(3, f"the program left no {name}: {cause}" if missing
+                           else f"{name}: {cause}") from None
     except InputError as fault:
         raise ProgramError(3, str(fault)) from None
 

@@ -13,7 +13,8 @@ from dnlab.errors import InputError, Note, ProgramError, ResourceError
 from dnlab.processes import subprocesses
 from dnlab.sweeps.measuring import StatResults
 
-_MADE = "CREATE TABLE IF NOT EXISTS answers (key TEXT PRIMARY KEY, found TEXT NOT NULL, checksum TEXT NOT NULL)"
+_MADE = (
+    "CREATE TABLE IF NOT EXISTS answers (key TEXT PRIMARY KEY, found TEXT NOT NULL, checksum TEXT NOT NULL)")
 # The maximum number of files that are read for a script, including scripts that it names.
 _MOST_FILES = 64
 
@@ -24,7 +25,8 @@ def checksum(text: str, program: str) -> str:
 
 
 def files_of(program: Path) -> list[Path]:
-    """Returns a program's file, and for a script also the programs that it names: by path, next to it, or on the PATH."""
+    """Returns a program's file, and for a script also the programs that it names: by path, next to it, or on
+    the PATH."""
     found: dict[Path, None] = {}
     waiting = [program.resolve()]
     while waiting and len(found) < _MOST_FILES:
@@ -37,7 +39,8 @@ def files_of(program: Path) -> list[Path]:
         if is_script:
             text = re.sub(r"\$(\w+|\{[^}]*\}|.)", " ", path.read_text(errors="replace"))
             words = re.findall(r"[^\s\"'`|&;<>(){}\[\]=]+", text)
-            named = [path.parent / word.lstrip("/") for word in words] + [Path(word) for word in words if word[0] == "/"]
+            named = [path.parent / word.lstrip("/")
+                     for word in words] + [Path(word) for word in words if word[0] == "/"]
             named += [Path(place) for place in map(shutil.which, dict.fromkeys(words)) if place]
             waiting += [one.resolve() for one in dict.fromkeys(named) if _is_program(one)]
     return list(found)
@@ -51,8 +54,9 @@ def _is_program(path: Path) -> bool:
 
 
 def program_checksum(program: str) -> str:
-    """Returns a checksum of everything besides the text that a result depends on: the program's version output (with its commit and
-    proof), the bytes of its file and, for a script, of those that it starts, and this package's sources."""
+    """Returns a checksum of everything besides the text that a result depends on: the program's version
+    output (with its commit and proof), the bytes of its file and, for a script, of those that it starts, and
+    this package's sources."""
     own = hashlib.sha256()
     for path in files_of(Path(program)):
         own.update(hashlib.sha256(path.read_bytes()).digest())
@@ -111,8 +115,11 @@ class ResultCache:
         return self._base
 
     def _refused(self, fault: sqlite3.Error) -> InputError:
-        is_room = str(getattr(fault, "sqlite_errorname", "")).startswith(("SQLITE_FULL", "SQLITE_IOERR", "SQLITE_READONLY"))
-        return (ResourceError if is_room else InputError)(f"{self.path}: results can't be stored there: {fault} (choose another file with --kept)")
+        is_room = str(getattr(fault, "sqlite_errorname",
+                              "")).startswith(("SQLITE_FULL", "SQLITE_IOERR", "SQLITE_READONLY"))
+        return (ResourceError if is_room
+                else InputError)(
+                    f"{self.path}: results can't be stored there: {fault} (choose another file with --kept)")
 
     def close(self) -> None:
         """Closes the file; incomplete transactions are rolled back."""
@@ -123,7 +130,8 @@ class ResultCache:
     def get(self, key: str, asks: Sequence[StatRequest]) -> Optional[StatResults]:
         """Returns the result of an experiment, or None if a requested statistic is missing."""
         known = self._known(key)
-        if known is None or any(stat not in known["values"].get(ask.of, {}) for ask in asks for stat in ask.stats):
+        if (known is None
+            or any(stat not in known["values"].get(ask.of, {}) for ask in asks for stat in ask.stats)):
             return None
         values = {ask.of: {stat: known["values"][ask.of][stat] for stat in ask.stats} for ask in asks}
         return StatResults(values, [Note(*note) for note in known["notes"]])
@@ -139,7 +147,8 @@ class ResultCache:
                         known["values"].setdefault(of, {}).update(stats)
                     known["notes"] = one.notes
                     text = json.dumps(known)
-                    base.execute("INSERT OR REPLACE INTO answers VALUES (?, ?, ?)", (key, text, _seal(key, text)))
+                    base.execute("INSERT OR REPLACE INTO answers VALUES (?, ?, ?)",
+                                 (key, text, _seal(key, text)))
         except sqlite3.Error as fault:
             raise self._refused(fault) from None
 

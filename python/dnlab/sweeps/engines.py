@@ -35,9 +35,10 @@ class RunFailedError(Exception):
 class RunOptions:
     """The options of a run: at most `parts` parts, `jobs` of them at once.
 
-    It runs on this machine, with `ssh` on machines in the form of parallel's --sshlogin, or as a `slurm` array; `program` is the
-    path of dnlab there. `work` is the folder of the parts if the run can be continued, and `resume` whether it is. `form` has the
-    options of `dnlab alone`: `--trace`, and `--format npy` for rows."""
+    It runs on this machine, with `ssh` on machines in the form of parallel's --sshlogin, or as a `slurm`
+    array; `program` is the path of dnlab there. `work` is the folder of the parts if the run can be
+    continued, and `resume` whether it is. `form` has the options of `dnlab alone`: `--trace`, and `--format
+    npy` for rows."""
     parts: int = 16
     jobs: Optional[int] = None
     ssh: Optional[str] = None
@@ -60,7 +61,8 @@ class RunOptions:
 class Job:
     """A part in the work folder: its scenario N.txt, and its report N.whole once it is done."""
 
-    def __init__(self, folder: Path, number: int, names: list[str], text: bytes, is_rows: bool = False) -> None:
+    def __init__(self, folder: Path, number: int, names: list[str], text: bytes,
+                 is_rows: bool = False) -> None:
         self.folder = folder
         self.is_rows = is_rows
         self.number = number
@@ -73,7 +75,8 @@ class Job:
         return self.folder / f"{self.number}.{kind}"
 
     def is_done(self) -> bool:
-        """Returns whether it is done: its report has the part's experiments in order and ends with counters."""
+        """Returns whether it is done: its report has the part's experiments in order and ends with
+        counters."""
         if not self.file("whole").is_file():
             return False
         if self.is_rows:
@@ -108,8 +111,9 @@ class Job:
         return f"status {number}" + (f", {said[-1]}" if said else "")
 
 
-# A task of the Slurm array runs the parts in its line of `tasks`, one after another. It writes each report under a name of its
-# own and renames it, so that a part has a complete report or none, even if an earlier, abandoned array still runs.
+# A task of the Slurm array runs the parts in its line of `tasks`, one after another. It writes each report
+# under a name of its own and renames it, so that a part has a complete report or none, even if an earlier,
+# abandoned array still runs.
 TASK = """#!/bin/sh
 ulimit -f {blocks}
 worst=0
@@ -147,7 +151,7 @@ def _most(parts: Sequence[Job]) -> int:
 
 
 def prepare_parts(how: RunOptions, program: str, parts: Sequence[Job], folder: Path) -> None:
-    """Writes the texts of the parts, or checks those of the previous run. Raises `RunFailedError` if they belong to another scenario."""
+    """Writes the texts of the parts, or checks the previous run's. Raises `RunFailedError` if they differ."""
     mark = version_of(program) + f"{len(parts)} parts{_words(how.form)}\n".encode()
     if how.resume:
         try:
@@ -156,7 +160,9 @@ def prepare_parts(how: RunOptions, program: str, parts: Sequence[Job], folder: P
         except OSError as error:
             raise RunFailedError(2, f"spread: --resume: {error.filename}: {error.strerror}\n") from error
         if not same:
-            raise RunFailedError(2, f"spread: --resume: {folder} belongs to another scenario, number of parts or program\n")
+            raise RunFailedError(2,
+                                 f"spread: --resume: {folder} belongs to another scenario, number of "
+                                 "parts or program\n")
         cancel(folder)
         _leave(folder)
         return
@@ -164,7 +170,9 @@ def prepare_parts(how: RunOptions, program: str, parts: Sequence[Job], folder: P
         try:
             folder.mkdir()
         except FileExistsError as error:
-            raise RunFailedError(2, f"spread: {folder} exists: continue it with --resume, or remove it\n") from error
+            raise RunFailedError(2,
+                                 f"spread: {folder} exists: continue it with --resume, "
+                                 "or remove it\n") from error
     for part in parts:
         part.file("txt").write_bytes(part.text)
     # Written last, so that a folder with a mark has all texts.
@@ -239,8 +247,10 @@ def by_parallel(how: RunOptions, program: str, waiting: Sequence[Job], folder: P
     (folder / "order").write_text("".join(f"{part.number}\n" for part in waiting))
     (folder / "joblog").unlink(missing_ok=True)
     with open(folder / "engine.err", "wb") as errors:
-        with subprocesses.child([*command, *(str(part.number) for part in waiting)], _end_parallel, death=signal.SIGTERM,
-                            most=_most(waiting), cwd=folder, stdin=subprocess.DEVNULL, stdout=subprocess.DEVNULL, stderr=errors,
+        with subprocesses.child([*command, *(str(part.number) for part in waiting)], _end_parallel,
+                                death=signal.SIGTERM,
+                            most=_most(waiting), cwd=folder, stdin=subprocess.DEVNULL,
+                                stdout=subprocess.DEVNULL, stderr=errors,
                             env={**os.environ, "PARALLEL_SHELL": "/bin/sh"}) as engine:
             yield from _waited(engine)
 
@@ -273,11 +283,13 @@ def most_tasks() -> int:
 
 
 def by_slurm(how: RunOptions, program: str, waiting: Sequence[Job], folder: Path) -> Iterator[None]:
-    """Runs parts as one array with as many tasks as Slurm allows; the array is cancelled if this run is interrupted."""
+    """Runs parts as one array with as many tasks as Slurm allows, which an interrupt cancels."""
     ends = groups([max(len(part.text), 1) for part in waiting], min(how.parts, most_tasks()))
     tasks = [waiting[begin:end] for begin, end in zip([0, *ends], ends)]
-    (folder / "task").write_text(TASK.format(program=shlex.quote(how.program or program), form=_words(how.form), blocks=_most(waiting) // 512 + 1))
-    (folder / "tasks").write_text("".join(" ".join(str(part.number) for part in task) + "\n" for task in tasks))
+    (folder / "task").write_text(TASK.format(program=shlex.quote(how.program or program),
+                                             form=_words(how.form), blocks=_most(waiting) // 512 + 1))
+    (folder / "tasks").write_text("".join(" ".join(str(part.number) for part in task) + "\n"
+                                          for task in tasks))
     array = f"1-{len(tasks)}" + (f"%{how.jobs}" if how.jobs else "")
     name = f"dnlab-{secrets.token_hex(8)}"
     (folder / CANCEL).write_text(f"scancel\n--user={getpass.getuser()}\n--name={name}")
@@ -285,7 +297,8 @@ def by_slurm(how: RunOptions, program: str, waiting: Sequence[Job], folder: Path
     subprocesses.add_chore(chore)
     try:
         with open(folder / "engine.err", "wb") as errors:
-            with subprocesses.child(["sbatch", "--wait", f"--job-name={name}", "--output=/dev/null", f"--chdir={folder}",
+            with subprocesses.child(["sbatch", "--wait", f"--job-name={name}", "--output=/dev/null",
+                                     f"--chdir={folder}",
                                  f"--array={array}", "task"], cwd=folder, stdin=subprocess.DEVNULL,
                                 stdout=subprocess.DEVNULL, stderr=errors) as engine:
                 yield from _waited(engine)
@@ -296,8 +309,8 @@ def by_slurm(how: RunOptions, program: str, waiting: Sequence[Job], folder: Path
 
 
 def run_parts(how: RunOptions, program: str, parts: Sequence[Job], folder: Path) -> Iterator[list[Job]]:
-    """Runs the parts that aren't done, and yields those that are done now, repeatedly. Raises `RunFailedError` at the end with the parts that
-    failed."""
+    """Runs the parts that aren't done, and yields those that are done now, repeatedly. Raises
+    `RunFailedError` at the end with the parts that failed."""
     prepare_parts(how, program, parts, folder)
     read_job_log(folder)
     waiting = {part.number: part for part in parts if not part.is_done()}
@@ -329,7 +342,8 @@ def failure(how: RunOptions, parts: Sequence[Job], failed: Sequence[Job], folder
     said = [f"spread: part {part.number} of {len(parts)} failed (experiments {part.names[0]} to "
             f"{part.names[-1]}): {part.why()}" for part in failed]
     log = folder / "engine.err"
-    said += ["spread: " + line for line in log.read_text(errors="replace").splitlines()[-3:]] if log.is_file() else []
+    said += (["spread: " + line for line in log.read_text(errors="replace").splitlines()[-3:]]
+             if log.is_file() else [])
     if how.work is not None:
         said.append(f"spread: {len(parts) - len(failed)} parts are kept in {folder}; "
                     "the same command with --resume runs the others")

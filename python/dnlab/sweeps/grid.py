@@ -1,4 +1,5 @@
-"""Grids of settings: their values, the cases that they make with the seeds, and hints from neighbouring cells."""
+"""Grids of settings: their values, the cases that they make with the seeds, and hints from neighbouring
+cells."""
 import hashlib
 import itertools
 import math
@@ -13,15 +14,17 @@ Value = Union[int, float, str]
 # Names that every template has besides the settings.
 GIVEN = ("name", "seed", "rng", "traffic")
 # The columns of the tables besides those of the settings.
-COLUMNS = ("experiment", "sender", "stat", "unit", "n", "mean", "low", "high", "min", "max", "level", "method", "warnings",
-           "needed", "base", "value", "differs")
+COLUMNS = ("experiment", "sender", "stat", "unit", "n", "mean", "low", "high", "min", "max", "level",
+           "method", "warnings", "needed", "base", "value", "differs")
 
 
 def why_reserved(name: str) -> Optional[str]:
     """Returns why a setting can't have this name, and what to call it; None if it can.
 
-    >>> why_reserved("n"), why_reserved("queue")
-    ('no setting can be called n: the tables have a column of this name: call it n_ here and in the template', None)
+    >>> why_reserved("n")
+    'no setting can be called n: the tables have a column of this name: call it n_ here and in the template'
+    >>> why_reserved("queue") is None
+    True
     """
     if name == "seed":
         why = "--seeds sets them"
@@ -69,7 +72,8 @@ def value_of(text: str) -> Value:
 
 
 def as_written(value: Any) -> Any:
-    """Returns a value as written in a scenario: floats without an exponent, and without the point if they are whole.
+    """Returns a value as written in a scenario: floats without an exponent, and without the point if they are
+    whole.
 
     >>> as_written(2.0), as_written(1e-06), as_written("x")
     (2, '0.000001', 'x')
@@ -104,8 +108,8 @@ class Case(NamedTuple):
 def name_of(settings: Mapping[str, Any], seed: int) -> str:
     """Returns an experiment's name: its settings and its seed.
 
-    A name with forbidden characters, or a long one, is shortened and gets eight digits of its checksum. It depends on nothing else
-    in the sweep.
+    A name with forbidden characters, or a long one, is shortened and gets eight digits of its checksum. It
+    depends on nothing else in the sweep.
 
     >>> name_of({"queue": 10, "plr": value_of("0.001")}, 3)
     'queue10-plr0_001-s3'
@@ -179,7 +183,8 @@ def seeds_of(text: str) -> list[int]:
     for word in text.split(","):
         parts = re.fullmatch(r"([0-9]{1,20})(?:-([0-9]{1,20}))?", word)
         if not parts or int(parts[2] or parts[1]) < int(parts[1]) or int(parts[2] or parts[1]) > _MOST_SEED:
-            raise ValueError(f"{word!r}: expected a seed from 0 to {_MOST_SEED}, or a range with the lower one first")
+            raise ValueError(
+                f"{word!r}: expected a seed from 0 to {_MOST_SEED}, or a range with the lower one first")
         if int(parts[2] or parts[1]) - int(parts[1]) >= _MOST:
             raise ValueError(f"{word!r}: more than {_MOST} seeds")
         found += range(int(parts[1]), int(parts[2] or parts[1]) + 1)
@@ -189,17 +194,19 @@ def seeds_of(text: str) -> list[int]:
 
 
 Row = Mapping[str, Any]
-# A value is a jump if both neighbours differ by this factor; a plateau has at least this many identical cells.
+# A value is a jump if both neighbours differ by this factor; a plateau has at least this many identical
+# cells.
 _JUMP, _ALIKE = 1.4, 3
 
 
 def hints_of(rows: Sequence[Row], settings: Sequence[str]) -> list[str]:
     """Returns the hints for a table's rows, at most one of each kind; `mean` is None if unknown.
 
-    >>> rows = [{"queue": queue, "sender": "flow 1", "stat": "goodput", "mean": 4.73, "half": 0.1} for queue in (25, 50, 100)]
+    >>> of = {"sender": "flow 1", "stat": "goodput"}
+    >>> rows = [{"queue": queue, **of, "mean": 4.73, "half": 0.1} for queue in (25, 50, 100)]
     >>> hints_of(rows, ["queue"])
     ['goodput of flow 1 is identical for queue 25 to 100: something else is the limit']
-    >>> rows = [{"queue": queue, "sender": "flow 1", "stat": "goodput", "mean": mean} for queue, mean in ((3, 0.8), (5, 0.3), (7, 0.9))]
+    >>> rows = [{"queue": queue, **of, "mean": mean} for queue, mean in ((3, 0.8), (5, 0.3), (7, 0.9))]
     >>> hints_of(rows, ["queue"])[0][:60]
     'goodput of flow 1 jumps at queue 5 (0.8, 0.3, 0.9): determin'
     """
@@ -224,7 +231,8 @@ def _lines_along(rows: Sequence[Row], settings: Sequence[str], name: str) -> Ite
     groups: dict[tuple[str, ...], list[Row]] = {}
     for row in rows:
         if isinstance(row[name], (int, float)) and row["mean"] is not None:
-            groups.setdefault((*(str(row[one]) for one in others), row["sender"], row["stat"]), []).append(row)
+            groups.setdefault((*(str(row[one]) for one in others), row["sender"], row["stat"]),
+                              []).append(row)
     for found in groups.values():
         if len(found) >= _ALIKE:
             yield Line(name, sorted(found, key=lambda row: float(row[name])))
@@ -236,7 +244,8 @@ def _plateau_hint(line: Line) -> Optional[str]:
         # A mean of 0 or 1 in many cells is not a limit that was reached.
         if len(same) >= _ALIKE and mean not in (0, 1):
             first, last = same[0][line.name], same[-1][line.name]
-            return f"{line.what()} is identical for {line.name} {first:g} to {last:g}: something else is the limit"
+            return (f"{line.what()} is identical for {line.name} {first:g} to {last:g}: something "
+                    "else is the limit")
     return None
 
 
@@ -246,6 +255,6 @@ def _jump_hint(line: Line) -> Optional[str]:
             continue
         if here > _JUMP * max(before, after) or _JUMP * here < min(before, after):
             shown = ", ".join(f"{mean:.3g}" for mean in (before, here, after))
-            return (f"{line.what()} jumps at {line.name} {line.rows[place][line.name]:g} ({shown}): deterministic flows may lock"
-                    " (docs/explanation/phase_effects.md)")
+            return (f"{line.what()} jumps at {line.name} {line.rows[place][line.name]:g} ({shown}): "
+                    "deterministic flows may lock (docs/explanation/phase_effects.md)")
     return None

@@ -1,4 +1,5 @@
-"""Runs experiments, and measures the statistics that a sweep collects, here, in other processes and on other machines."""
+"""Runs experiments, and measures the statistics that a sweep collects, here, in other processes and on other
+machines."""
 import re
 from fractions import Fraction
 from pathlib import Path
@@ -33,8 +34,8 @@ class StatResults(NamedTuple):
 
 
 def names_in(plans: Iterable[Plan]) -> list[str]:
-    """Returns the senders and pipes that can be measured, by the commands of some experiments; of each pipe only the first
-    instance."""
+    """Returns the senders and pipes that can be measured, by the commands of some experiments; of each pipe
+    only the first instance."""
     flows: dict[int, None] = {}
     trains: dict[int, None] = {}
     pipes: dict[int, None] = {}
@@ -56,7 +57,8 @@ def names_in(plans: Iterable[Plan]) -> list[str]:
 
 def usual(names: Sequence[str]) -> list[StatRequest]:
     """Returns the default statistics: for all flows together, each train and the injected packets."""
-    found = [StatRequest(of, USUAL) for of, name in (("flows", "flows"), ("train *", "trains"), ("injected", "injected"))
+    found = [StatRequest(of, USUAL)
+             for of, name in (("flows", "flows"), ("train *", "trains"), ("injected", "injected"))
              if name in names]
     return found or [StatRequest("all", ("delivered", "lost"))]
 
@@ -71,13 +73,15 @@ def check(asks: Sequence[StatRequest], names: Sequence[str]) -> None:
 
 
 def answer(view: View, asks: Sequence[StatRequest], span: Span = Span()) -> StatResults:
-    """Returns the statistics of an experiment within a time range. Your own functions always get the whole run."""
+    """Returns the statistics of an experiment within a time range. Your own functions always get the whole
+    run."""
     stats = [stat for ask in asks for stat in ask.stats if not isinstance(stat, CustomStat)]
     percentiles = sorted({found for found in map(percentile_of, stats) if found}, key=Fraction)
     tables = Tables(view, percentiles, with_mean="delay.mean" in stats, span=span)
     rows = list(_rows(tables, [ask.of for ask in asks]))
     values: Values = {
-        ask.of: {str(stat): {row["sender"]: stat.of(view, row["sender"]) if isinstance(stat, CustomStat) else figure(row, stat)
+        ask.of: {str(stat): {row["sender"]: stat.of(view, row["sender"]) if isinstance(stat, CustomStat)
+                             else figure(row, stat)
                              for row in rows if is_named(row["sender"], ask.of)}
                  for stat in ask.stats} for ask in asks}
     return StatResults(values, [note for note in view.notes if note.mark])
@@ -127,9 +131,11 @@ def _flows(tables: Tables, flows: Sequence[tuple[str, Ints]]) -> Row:
             "fct": None if None in times else max(time for time in times if time is not None)}
 
 
-def measured(texts: Sequence[str], asks: Sequence[StatRequest], program: str, span: Span = Span()) -> list[StatResults]:
-    """Runs experiments, each with a text of its own, as one scenario, and returns their results in order. Raises `ProgramError` with the
-    program's status and message, and if its report does not match the scenario."""
+def measured(texts: Sequence[str], asks: Sequence[StatRequest], program: str,
+             span: Span = Span()) -> list[StatResults]:
+    """Runs experiments, each with a text of its own, as one scenario, and returns their results in order.
+    Raises `ProgramError` with the program's status and message, and if its report does not match the
+    scenario."""
     with TempDir() as room:
         text = "".join(texts).encode()
         rows = room.path / "rows.npy"
@@ -140,14 +146,16 @@ def measured(texts: Sequence[str], asks: Sequence[StatRequest], program: str, sp
         return answers(rows, texts, asks, span)
 
 
-def measured_by_turns(batches: Sequence[Sequence[str]], asks: Sequence[StatRequest], program: str, span: Span = Span()) -> list[StatResults]:
+def measured_by_turns(batches: Sequence[Sequence[str]], asks: Sequence[StatRequest], program: str,
+                      span: Span = Span()) -> list[StatResults]:
     """Like `measured`, for several scenarios, one after another."""
     return [found for texts in batches for found in measured(texts, asks, program, span)]
 
 
-def answers(rows: Union[str, Path], texts: Sequence[str], asks: Sequence[StatRequest], span: Span = Span()) -> list[StatResults]:
-    """Returns the results of the experiments of a file of rows, each joined with its own text. Raises `ProgramError` if they don't
-    match."""
+def answers(rows: Union[str, Path], texts: Sequence[str], asks: Sequence[StatRequest],
+            span: Span = Span()) -> list[StatResults]:
+    """Returns the results of the experiments of a file of rows, each joined with its own text. Raises
+    `ProgramError` if they don't match."""
     plans: dict[str, Plan] = {}
     for text in texts:
         plans |= read(text.encode())
@@ -157,7 +165,9 @@ def answers(rows: Union[str, Path], texts: Sequence[str], asks: Sequence[StatReq
         for piece in pieces(rows, names=list(plans)):
             name = piece.name
             if piece.line >= 0:
-                raise ProgramError(3, "the program wrote a text where rows are expected: it must know --format npy")
+                raise ProgramError(3,
+                                   "the program wrote a text where rows are expected: it must "
+                                   "know --format npy")
             found.append(answer(View(piece.read(), plans[name]), asks, span))
     except ParseError as refused:
         of = f" (experiment {name})" if name else ""
@@ -167,7 +177,8 @@ def answers(rows: Union[str, Path], texts: Sequence[str], asks: Sequence[StatReq
     return found
 
 
-# Limits for a single run: the program keeps all reports of a scenario until its end, so the steps are limited too.
+# Limits for a single run: the program keeps all reports of a scenario until its end, so the steps are limited
+# too.
 _MOST_TOGETHER = 4
 _MOST_STEPS = 3 * 10**6
 
@@ -217,7 +228,8 @@ def judged(program: str, text: bytes) -> Optional[str]:
 
 
 def answer_of(outcome: Outcome[tuple[Waiting, ...]]) -> list[StatResults]:
-    """Returns the results of experiments. Raises `ProgramError` with the first of them if a signal ended the program."""
+    """Returns the results of experiments. Raises `ProgramError` with the first of them if a signal ended the
+    program."""
     if isinstance(outcome.fault, Killed):
         first, *others = outcome.token
         more = f" or one of the {len(others)} after it" if others else ""

@@ -22,16 +22,17 @@ def run(text: Union[str, bytes, Path], workers: int = 1, moves: Optional[int] = 
         names: Optional[Mapping[str, str]] = None) -> Report:
     """Runs a scenario and returns its report.
 
-    text           the scenario, or the path of its file, plain or gzip (a str of one line is a path). One too large for the
-                   program is run in parts
+    text           the scenario, or the path of its file, plain or gzip (a str of one line is a path). One
+                   too large for the program is run in parts
     workers        the number of threads that run its experiments, 1 to 16
     moves          after how many steps a thread offers an experiment to the others
-    out            the report's file: rows if its name ends in .npy, else text made with --trace; OUT.json, next to it, records
-                   what made it. By default rows in a temporary file
+    out            the report's file: rows if its name ends in .npy, else text made with --trace; OUT.json,
+                   next to it, records what made it. By default rows in a temporary file
     dnlab, engine  as in `live`; the library takes no workers or moves
     names          as in `read`
 
-    Raises `ProgramError` if the program refuses the scenario: `said` has `line L: CAUSE` and what `--explain` prints."""
+    Raises `ProgramError` if the program refuses the scenario: `said` has `line L: CAUSE` and what `--explain`
+    prints."""
     if isinstance(text, str) and text and "\n" not in text and not text.startswith("experiment "):
         text = Path(text)
     form = ("--format", "npy") if out is None or Path(out).suffix == ".npy" else ("--trace",)
@@ -50,7 +51,8 @@ def run(text: Union[str, bytes, Path], workers: int = 1, moves: Optional[int] = 
     try:
         plans = read(data)
     except ParseError as refused:
-        raise ProgramError(0, f"{runner.path} accepted an invalid scenario (is it dnlab?): {refused}") from None
+        raise ProgramError(0,
+                           f"{runner.path} accepted an invalid scenario (is it dnlab?): {refused}") from None
     origin = origin_of(plans, runner.path, [runner.path, *runner.words], runner.version)
     if out is not None:
         write_beside(report, origin)
@@ -59,7 +61,8 @@ def run(text: Union[str, bytes, Path], workers: int = 1, moves: Optional[int] = 
 
 def _bytes_of(text: Union[str, bytes, Path]) -> bytes:
     if isinstance(text, str):
-        # The last line feed of a Python string is easily forgotten; in a file, a missing one may mean that it was cut.
+        # The last line feed of a Python string is easily forgotten; in a file, a missing one may mean that it
+        # was cut.
         return (text if text.endswith("\n") or not text else text + "\n").encode()
     return unpacked(text.read_bytes()) if isinstance(text, Path) else text
 
@@ -130,11 +133,14 @@ class _Library(NamedTuple):
 _Runner = Union[_Program, _Library]
 
 
-def _runner(engine: str, workers: int, moves: Optional[int], dnlab: Optional[str], form: tuple[str, ...]) -> _Runner:
+def _runner(engine: str, workers: int, moves: Optional[int], dnlab: Optional[str],
+            form: tuple[str, ...]) -> _Runner:
     """Returns the engine that runs the scenarios. Raises `ValueError` if the arguments don't go together."""
     if engine == "library":
         if workers > 1 or moves is not None or dnlab is not None:
-            raise ValueError('engine="library" takes no workers, moves or program: leave them out, or use engine="process"')
+            raise ValueError(
+                'engine="library" takes no workers, moves or program: leave them out, or use '
+                'engine="process"')
         return _Library(library.library(), ("alone",), f"libdnlab {library.version()}")
     if engine != "process":
         raise ValueError(f'the engine is "process" or "library", not {engine!r}')
@@ -167,7 +173,8 @@ def _run_one(runner: _Runner, text: bytes, before: int, out: BinaryIO) -> None:
 
 
 def _check(runner: _Runner, names: list[str], written: BinaryIO, before: int) -> None:
-    """Raises `ProgramError` if a part's report doesn't have its experiments: then the program isn't dnlab, or was stopped."""
+    """Raises `ProgramError` if a part's report doesn't have its experiments: then the program isn't dnlab, or
+    was stopped."""
     if "npy" in runner.words:
         found = names[:experiments_in_rows(written)]
     else:
@@ -177,5 +184,6 @@ def _check(runner: _Runner, names: list[str], written: BinaryIO, before: int) ->
             raise ProgramError(0, f"{runner.path} wrote no report (is it dnlab?): {refused}") from None
     lost = [name for name in names if name not in found]
     if lost:
-        raise ProgramError(0, f"{runner.path} wrote no report of experiment {lost[0]}, and {len(lost)} of {len(names)} are missing:"
-                           " is it dnlab?")
+        raise ProgramError(0,
+                           f"{runner.path} wrote no report of experiment {lost[0]}, and {len(lost)} of "
+                           f"{len(names)} are missing: is it dnlab?")

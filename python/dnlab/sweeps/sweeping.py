@@ -1,4 +1,5 @@
-"""Sweeps: a template with a grid of settings and seeds. Each experiment is rendered, run and read, and groups get intervals."""
+"""Sweeps: a template with a grid of settings and seeds. Each experiment is rendered, run and read, and groups
+get intervals."""
 import re
 import shlex
 from functools import cached_property
@@ -30,7 +31,8 @@ _LOSS = re.compile(rb" plr +(?!0(\.0*)?( |$))", re.MULTILINE)
 
 
 class Sweep(SweepResults):
-    """The experiments of a template, in the order of `cases`. They run when `rows()` or `table()` is requested.
+    """The experiments of a template, in the order of `cases`. They run when `rows()` or `table()` is
+    requested.
 
     template  as in `sweep`
     grid      the values of each setting
@@ -46,17 +48,19 @@ class Sweep(SweepResults):
     allow     which of `refused` and `spent` don't raise `InputError`
     span      the time range to measure"""
 
-    def __init__(self, template: Union[str, Path], grid: Mapping[str, Sequence[Any]], seeds: Iterable[int] = (1,),
-                 asks: Sequence[StatRequest] = (), kept: Union[str, Path, None] = None, workers: Optional[int] = None,
-                 on: Optional[str] = None, there: Optional[str] = None, dnlab: Optional[str] = None,
-                 anew: bool = False, allow: Sequence[str] = (), parts: Optional[int] = None, span: Span = Span()) -> None:
+    def __init__(self, template: Union[str, Path], grid: Mapping[str, Sequence[Any]],
+                 seeds: Iterable[int] = (1,), asks: Sequence[StatRequest] = (),
+                 kept: Union[str, Path, None] = None, workers: Optional[int] = None, on: Optional[str] = None,
+                 there: Optional[str] = None, dnlab: Optional[str] = None, anew: bool = False,
+                 allow: Sequence[str] = (), parts: Optional[int] = None, span: Span = Span()) -> None:
         self.template = Template(template)
         for name in grid:
             taken = why_reserved(name)
             if taken is not None:
                 raise InputError(taken)
             if name not in self.template.names:
-                raise InputError(f"{self.template.name}: {name} is set, but there is no {{{{ {name} }}}} in it")
+                raise InputError(
+                    f"{self.template.name}: {name} is set, but there is no {{{{ {name} }}}} in it")
         self.settings = list(grid)
         self.cases = cases_of(grid, seeds)
         self.asks = merged(asks)
@@ -81,8 +85,9 @@ class Sweep(SweepResults):
         found = names_of(text.encode())
         if found != [case.name]:
             has = f"it has {', '.join(found)}" if found else "it has none"
-            raise InputError(f"{self.template.name}: {case.told()}: its text must have exactly this experiment, but {has}: it must"
-                         " start with `experiment {{ name }} seed {{ seed }} budget 1000`")
+            raise InputError(
+                f"{self.template.name}: {case.told()}: its text must have exactly this experiment, but "
+                f"{has}: it must start with `experiment {{{{ name }}}} seed {{{{ seed }}}} budget 1000`")
         return text
 
     def check_texts(self, cases: Sequence[tuple[Case, str]], program: str) -> None:
@@ -93,14 +98,19 @@ class Sweep(SweepResults):
         for case, text in cases:
             said = judged(program, text.encode())
             if said is not None:
-                words = [f"--set {shlex.quote(f'{name}={as_written(value)}')}" for name, value in case.settings.items()]
+                words = [f"--set {shlex.quote(f'{name}={as_written(value)}')}"
+                         for name, value in case.settings.items()]
                 seen = " ".join([*words, f"--seeds {case.seed} --dry-run"])
-                raise InputError(f"{self.template.name}: {case.told()}: a fault in the rendered scenario ({seen} shows it)\n{said}")
+                raise InputError(
+                    f"{self.template.name}: {case.told()}: a fault in the rendered scenario ({seen} "
+                    f"shows it)\n{said}")
 
     def _asked(self, program: str) -> None:
-        """Checks the requested statistics against the first scenarios of the settings, or chooses the default ones."""
+        """Checks the requested statistics against the first scenarios of the settings, or chooses the default
+        ones."""
         plans: list[Plan] = []
-        firsts = list({tuple(map(str, case.settings.values())): case for case in reversed(self.cases)}.values())[::-1]
+        firsts = list({tuple(map(str, case.settings.values())): case
+                       for case in reversed(self.cases)}.values())[::-1]
         if not self.asks:
             firsts = [firsts[0], firsts[-1]]
         for place, case in enumerate(firsts):
@@ -165,7 +175,8 @@ class Sweep(SweepResults):
                 answers = run_elsewhere(self, waiting, program)
             for batch, found in answers:
                 with subprocesses.signals_delayed():
-                    self.kept.put([(one.key, self._keepable(answered)) for one, answered in zip(batch, found)])
+                    self.kept.put([(one.key, self._keepable(answered))
+                                   for one, answered in zip(batch, found)])
                     self.found.update((one.case.name, answered) for one, answered in zip(batch, found))
                     self.ran += len(batch)
                 progress.step(len(batch))
@@ -176,17 +187,19 @@ class Sweep(SweepResults):
         """Returns the part of a result to store: not those of your own functions, which may change."""
         own = {str(stat) for ask in self.asks for stat in ask.stats if isinstance(stat, CustomStat)}
         return found if not own else found._replace(values={
-            of: {stat: values for stat, values in stats.items() if stat not in own} for of, stats in found.values.items()})
+            of: {stat: values for stat, values in stats.items() if stat not in own}
+            for of, stats in found.values.items()})
 
     def _judge(self, case: Case) -> None:
         """Raises `InputError` for an experiment that did not run as written, unless that is allowed."""
         for note in self.found[case.name].notes if case.name in self.found else []:
             if note.mark in STOPPING and note.mark not in self.allow:
-                raise InputError(f"{self.template.name}: {case.told()}: {note.text} (--allow {note.mark} continues)")
+                raise InputError(
+                    f"{self.template.name}: {case.told()}: {note.text} (--allow {note.mark} continues)")
 
     def here(self, waiting: Sequence[Waiting], program: str) -> Iterator[Answered]:
-        """Runs experiments in processes of this machine, and yields results as they arrive. Raises the first failure at the end, but at
-        once if a signal ended a process."""
+        """Runs experiments in processes of this machine, and yields results as they arrive. Raises the first
+        failure at the end, but at once if a signal ended a process."""
         failures: list[ProgramError] = []
         with ProcessPool[tuple[Waiting, ...]](min(self.workers, max(len(waiting), 1))) as pool:
             def begin(batch: Sequence[Waiting]) -> None:
@@ -202,11 +215,13 @@ class Sweep(SweepResults):
 
     def give(self, pool: "ProcessPool[tuple[Waiting, ...]]", batch: Sequence[Waiting], program: str) -> None:
         """Submits experiments to a process."""
-        pool.submit(tuple(batch), measured, [self.text(one.case) for one in batch], self.asks, program, self.span)
+        pool.submit(tuple(batch), measured, [self.text(one.case) for one in batch], self.asks, program,
+                    self.span)
 
-    def _taken(self, pool: ProcessPool[tuple[Waiting, ...]], begin: Any, failures: list[ProgramError]) -> Iterator[Answered]:
-        """Yields the results of the next job. The experiments of a failed scenario are run again one by one, which shows which of them failed,
-        and needs less memory at once."""
+    def _taken(self, pool: ProcessPool[tuple[Waiting, ...]], begin: Any,
+               failures: list[ProgramError]) -> Iterator[Answered]:
+        """Yields the results of the next job. The experiments of a failed scenario are run again one by one,
+        which shows which of them failed, and needs less memory at once."""
         outcome = pool.next_result()
         batch = list(outcome.token)
         if not isinstance(outcome.fault, ProgramError) or isinstance(outcome.fault, Killed):
@@ -235,7 +250,8 @@ class Sweep(SweepResults):
         if not self.unseeded:
             return None
         of = "" if len(self.unseeded) == len(self.cases) else f"of {len(self.unseeded)} experiments "
-        return f"{of}the seeds change nothing: the template does not use rng, and no pipe has a plr; so n is 1"
+        return (f"{of}the seeds change nothing: the template does not use rng, and no pipe has a "
+                "plr; so n is 1")
 
     def notes(self) -> list[tuple[str, Note]]:
         """Returns the warnings of experiments that were run, with their names."""
@@ -248,28 +264,32 @@ def _without_heading(text: bytes) -> bytes:
     return text[:place] + text[place + len(heading):]
 
 
-def sweep(template: Union[str, Path], *, seed: Union[int, Iterable[int]] = 1, of: Any = None, stat: Any = USUAL,
-          settings: Mapping[str, Any] = {}, kept: Union[str, Path, None] = None, workers: Optional[int] = None,
-          on: Optional[str] = None, dnlab: Optional[str] = None, allow: Sequence[str] = (), begin: int = 0,
-          end: Optional[int] = None, **grid: Any) -> Sweep:
-    """Runs a template with each setting and each seed: `dnlab.sweep("link.tmpl", queue=[10, 50], seed=range(30)).table()`.
+def sweep(template: Union[str, Path], *, seed: Union[int, Iterable[int]] = 1, of: Any = None,
+          stat: Any = USUAL, settings: Mapping[str, Any] = {}, kept: Union[str, Path, None] = None,
+          workers: Optional[int] = None, on: Optional[str] = None, dnlab: Optional[str] = None,
+          allow: Sequence[str] = (), begin: int = 0, end: Optional[int] = None, **grid: Any) -> Sweep:
+    """Runs a template with each setting and each seed:
+    `dnlab.sweep("link.tmpl", queue=[10, 50], seed=range(30)).table()`.
 
     template  the path of a Jinja2 template, or its text
     settings  settings named like a parameter of `sweep`
-    of, stat  senders and statistics: `of="train 9", stat=["delay.p95", "lost"]`, or of={"train 9": ["delay.p95"], ..}
+    of, stat  senders and statistics: `of="train 9", stat=["delay.p95", "lost"]`, or
+              `of={"train 9": ["delay.p95"], ..}`
     begin, end  as in `Experiment.summary`
     kept, workers, on, dnlab, allow  as in `Sweep`
 
-    Settings and seeds are values or lists; statistics are names or functions (docs/howto/sweeps.md). Raises `InputError` for faults in the
-    template and in its scenarios."""
+    Settings and seeds are values or lists; statistics are names or functions (docs/howto/sweeps.md). Raises
+    `InputError` for faults in the template and in its scenarios."""
     every = {name: [value] if isinstance(value, (str, int, float)) else list(value)
              for name, value in {**settings, **grid}.items()}
     asked = of if isinstance(of, Mapping) else {} if of is None else {
         one: stat for one in ([of] if isinstance(of, str) else of)}
     if of is None and stat is not USUAL:
         if not all(callable(one) for one in (stat if isinstance(stat, (list, tuple)) else [stat])):
-            raise InputError("stat needs of, a sender, as of='train 9' (a function alone applies to the whole run)")
+            raise InputError(
+                "stat needs of, a sender, as of='train 9' (a function alone applies to the whole run)")
         asked = {"all": stat}
     asks = [StatRequest(one, stats_given(stats)) for one, stats in asked.items()]
-    return Sweep(template, every, [seed] if isinstance(seed, int) else seed, asks, kept, workers, on, dnlab=dnlab,
+    return Sweep(template, every, [seed] if isinstance(seed, int) else seed, asks, kept, workers, on,
+                 dnlab=dnlab,
                  allow=allow, span=span_of(begin, end))

@@ -1,4 +1,5 @@
-"""Templates of scenarios in Jinja2 (Debian: python3-jinja2), with placeholders for settings, the seed and random numbers."""
+"""Templates of scenarios in Jinja2 (Debian: python3-jinja2), with placeholders for settings, the seed and
+random numbers."""
 import itertools
 import math
 import os
@@ -56,8 +57,8 @@ def nanoseconds(unit: int) -> Callable[[Any], int]:
 
 
 def _no_chance(*_: Any) -> NoReturn:
-    raise jinja2.TemplateRuntimeError("the filter `random` gives another value each time: use rng.choice(..), which depends on"
-                                      " the seed")
+    raise jinja2.TemplateRuntimeError(
+        "the filter `random` gives another value each time: use rng.choice(..), which depends on the seed")
 
 
 class _Numbers:
@@ -77,8 +78,9 @@ class _Numbers:
 
     def __iter__(self) -> Iterator[int]:
         if len(self._range) > _MOST_NUMBERS:
-            raise OverflowError(f"{self._range}: it has {len(self._range)} numbers, but a template may loop over"
-                                f" at most {_MOST_NUMBERS}")
+            raise OverflowError(
+                f"{self._range}: it has {len(self._range)} numbers, but a template may loop over at most "
+                f"{_MOST_NUMBERS}")
         return iter(self._range)
 
 
@@ -88,15 +90,19 @@ class _Sandbox(jinja2.sandbox.SandboxedEnvironment):
     intercepted_binops = frozenset(("*", "**", "+", "%"))
 
     def call_binop(self, context: jinja2.runtime.Context, operator: str, left: Any, right: Any) -> Any:
-        """Computes an operation unless its result, judged by the operands, would have more bytes than a scenario."""
+        """Computes an operation unless its result, judged by the operands, would have more bytes than a
+        scenario."""
         size = most = MOST_BYTES
         if isinstance(left, int) and isinstance(right, int):
-            bits = left.bit_length() * abs(right) if operator == "**" else left.bit_length() + right.bit_length()
+            bits = (left.bit_length() * abs(right) if operator == "**"
+                    else left.bit_length() + right.bit_length())
             size, most = bits // 8, _MOST_DIGITS
         elif operator == "%" and isinstance(left, str):
-            size = MOST_BYTES + 1 if "*" in left else max(map(int, re.findall(r"[0-9]{1,18}", left)), default=0)
+            size = (MOST_BYTES + 1 if "*" in left
+                    else max(map(int, re.findall(r"[0-9]{1,18}", left)), default=0))
         elif operator == "*":
-            size = math.prod(value if isinstance(value, int) else len(value) if hasattr(value, "__len__") else 1 for value in (left, right))
+            size = math.prod(value if isinstance(value, int) else len(value) if hasattr(value, "__len__")
+                             else 1 for value in (left, right))
         elif operator == "+":
             size = sum(len(value) for value in (left, right) if hasattr(value, "__len__"))
         if size > most:
@@ -109,8 +115,8 @@ class TooLong(jinja2.TemplateRuntimeError):
 
 
 class _Loader(jinja2.FileSystemLoader):
-    """Loads templates from a folder, but no hidden files and no links out of it; remembers which files were read, to find their lines in
-    tracebacks."""
+    """Loads templates from a folder, but no hidden files and no links out of it; remembers which files were
+    read, to find their lines in tracebacks."""
 
     def __init__(self, folder: Path, own: str) -> None:
         super().__init__(folder)
@@ -135,8 +141,8 @@ class _Loader(jinja2.FileSystemLoader):
 class Template:
     """A template: the path of its file, or its text (a str of more than one line).
 
-    Undefined names are errors. It may include and import other templates of its folder. Raises `InputError` with the file, the line and
-    the cause."""
+    Undefined names are errors. It may include and import other templates of its folder. Raises `InputError`
+    with the file, the line and the cause."""
 
     def __init__(self, source: Union[str, Path]) -> None:
         is_text = isinstance(source, str) and "\n" in source
@@ -147,8 +153,9 @@ class Template:
         self._loader = _Loader(folder, "" if self.path is None else self.path.name)
         self._environment = _Sandbox(
             loader=self._loader, undefined=jinja2.StrictUndefined, keep_trailing_newline=True,
-            # Rendering has limits (`making`), compiling has none: so the compiler must not evaluate constants. It evaluates none
-            # without its optimizer, and with a `finalize` that takes the context.
+            # Rendering has limits (`making`), compiling has none: so the compiler must not evaluate
+            # constants. It evaluates none without its optimizer, and with a `finalize` that takes the
+            # context.
             optimized=False, finalize=_as_written)
         self._environment.filters.update(s=nanoseconds(10**9), ms=nanoseconds(10**6), us=nanoseconds(10**3),
                                          random=_no_chance)
@@ -190,8 +197,8 @@ class Template:
         return found
 
     def render(self, name: str, seed: int, settings: Mapping[str, Any]) -> str:
-        """Returns the text of an experiment, which ends with a line feed. Raises `InputError` if it is longer than a scenario may
-        be."""
+        """Returns the text of an experiment, which ends with a line feed. Raises `InputError` if it is longer
+        than a scenario may be."""
         parts, size = [], 0
         try:
             rng = Chance(seed)
@@ -201,7 +208,9 @@ class Template:
                 parts.append("".join(batch))
                 size += len(parts[-1])
                 if size > MOST_BYTES:
-                    raise InputError(f"{self.name}: the text of {name} has more than {MOST_BYTES} bytes, the maximum of a scenario")
+                    raise InputError(
+                        f"{self.name}: the text of {name} has more than {MOST_BYTES} bytes, the "
+                        "maximum of a scenario")
         except InputError:
             raise
         except Exception as fault:  # A template computes, so any exception may occur in it.
@@ -220,7 +229,8 @@ class Template:
         elif isinstance(fault, jinja2.UndefinedError):
             undefined = re.match(r"'(\w+)' is undefined", cause)
             taken = why_reserved(undefined[1]) if undefined else None
-            cause += f" ({taken})" if taken else f" (--set defines settings, and every template has {', '.join(GIVEN)})"
+            cause += (f" ({taken})" if taken
+                      else f" (--set defines settings, and every template has {', '.join(GIVEN)})")
         elif isinstance(fault, MemoryError) and not str(fault):
             cause = f"a text may use at most {MOST_MEMORY} bytes of memory"
         elif not isinstance(fault, jinja2.TemplateError):
@@ -252,13 +262,15 @@ def _template(source: Union[str, Path]) -> Template:
     held = int(Path("/proc/self/statm").read_text().split()[0]) * resource.getpagesize()
     _, hard = resource.getrlimit(resource.RLIMIT_AS)
     most = held + MOST_MEMORY
-    resource.setrlimit(resource.RLIMIT_AS, (most if hard == resource.RLIM_INFINITY else min(most, hard), hard))
+    resource.setrlimit(resource.RLIMIT_AS,
+                       (most if hard == resource.RLIM_INFINITY else min(most, hard), hard))
     return Template(source)
 
 
-def render(source: Union[str, Path], name: str, seed: int, settings: Mapping[str, Any], seconds: float) -> str:
-    """Renders the text of an experiment in this process; call it in the main thread. Raises `InputError` with the line at which the time
-    is over."""
+def render(source: Union[str, Path], name: str, seed: int, settings: Mapping[str, Any],
+           seconds: float) -> str:
+    """Renders the text of an experiment in this process; call it in the main thread. Raises `InputError` with
+    the line at which the time is over."""
     def stop(*_: object) -> NoReturn:
         raise TooLong(f"rendering it takes more than {seconds:.0f} s")
 
@@ -283,7 +295,8 @@ class Renderer:
         return Renderer, (self._template,)
 
     def render(self, name: str, seed: int, settings: Mapping[str, Any], told: str) -> str:
-        """Returns the text of an experiment. Raises `InputError`, with `told`, if it takes too long or too much memory."""
+        """Returns the text of an experiment. Raises `InputError`, with `told`, if it takes too long or too
+        much memory."""
         key = name, seed, *map(str, settings.items())
         if key in self._kept:
             return self._kept[key]
@@ -295,7 +308,8 @@ class Renderer:
             outcome = self._pool.next_result(_PATIENCE * MOST_SECONDS)
         except TimeoutError:
             self.close()
-            raise InputError(f"{self._template.name}: {told}: rendering it takes more than {MOST_SECONDS:.0f} s") from None
+            raise InputError(
+                f"{self._template.name}: {told}: rendering it takes more than {MOST_SECONDS:.0f} s") from None
         except Killed as killed:
             self.close()
             raise killed.about(f"{told}: it could not be rendered") from None
