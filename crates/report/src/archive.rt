@@ -425,6 +425,6 @@ impl Source for Archive {
     #[inline(always)]
     fn put(&self, clock: &mut Clock, text: &mut [u8], at: usize, place: usize) -> Option<usize> {
         let word = word_at(self.words.as_slice(), &self.order, place);
-        put_parts(clock, text, at, unpack(word))
+        put_parts::<Archive>(clock, text, at, unpack(word))
     }
 }

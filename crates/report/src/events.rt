@@ -152,9 +152,10 @@ fn put_window(
 }
 
 /// Writes the line of a common record, and returns its end, or `None` if the record is stored
-/// elsewhere.
+/// elsewhere. `S` is the caller: each has a copy of its own, because the function is so large that
+/// only a single call of it is inlined.
 #[inline(always)]
-pub(crate) fn put_parts(
+pub(crate) fn put_parts<S>(
     clock: &mut Clock,
     text: &mut [u8],
     at: usize,

@@ -192,7 +192,7 @@ fn append_line(out: &mut Vec<u8>, moments: &mut Moments, line: &Record)
     let Some(parts) = parts_of(line) else {
         return append_other(out, moments, line);
     };
-    let Some(end) = put_parts(&mut moments.clock, &mut moments.page, 0, parts) else {
+    let Some(end) = put_parts::<Moments>(&mut moments.clock, &mut moments.page, 0, parts) else {
         unreachable_unchecked!()
     };
     append(out, &moments.page[..end]);

@@ -57,6 +57,6 @@ impl<'a> Source for Listed<'a> {
     #[inline(always)]
     fn put(&self, clock: &mut Clock, text: &mut [u8], at: usize, place: usize) -> Option<usize> {
         let parts = parts_of(&self.records[place])?;
-        put_parts(clock, text, at, parts)
+        put_parts::<Listed>(clock, text, at, parts)
     }
 }
