@@ -7,7 +7,7 @@ use Rattle.std.specs.Io.KnownBytes.{Appends, Consumes, Keeps, IsAtEnd}
 use Rattle.std.proofs.KnownBytes.{Consumes-nil, Consumes-kept, Consumes-trans}
 use Rattle.control.specs.declared.fault.Fault.{Fault}
 use Rattle.control.specs.declared.fault.Cause.TheVariants.{Cut, NoEnd}
-use Rattle.live.specs.Sessions.{Piece, written}
+use Rattle.session.specs.Sessions.{Piece, written}
 use Rattle.alone.specs.declared.fault.RunFault.{RunFault}
 use Rattle.alone.specs.declared.fault.RunFault.TheVariants.{Scenario, Read, Write, Memory, Strange, Gate}
 use Rattle.alone.specs.Bytes.{IsCut, IsWriting, Puts, Stops}

@@ -12,11 +12,11 @@ use Rattle.control.proofs.Joining.{some_line, lines-glue, onto, glue}
 use Rattle.control.specs.Scenario.{experiments}
 use Rattle.control_lines.specs.Entries.{Entry}
 use Rattle.control_words.specs.Text.{lines}
-use Rattle.live.specs.declared.answer.Answer.TheVariants as answers
-use Rattle.live.specs.Effects.{LineDoes}
-use Rattle.live.specs.Faults.{IsFaultOf}
-use Rattle.live.specs.Lines.{answer_line, comment_of}
-use Rattle.live.specs.Sessions.{KeptSession, Piece, IsPlain, TellsAll, Takes, told, written}
+use Rattle.session.specs.declared.answer.Answer.TheVariants as answers
+use Rattle.session.specs.Effects.{LineDoes}
+use Rattle.session.specs.Faults.{IsFaultOf}
+use Rattle.session.specs.Lines.{answer_line, comment_of}
+use Rattle.session.specs.Sessions.{KeptSession, Piece, IsPlain, TellsAll, Takes, told, written}
 use Rattle.alone.specs.declared.fault.RunFault.{RunFault}
 use Rattle.alone.specs.declared.fault.RunFault.TheVariants.{Scenario}
 use Rattle.alone.specs.Conversations.{AreClosed, Hinting, IsAwaited, IsRefusal, Replies, next_line, nobody, seen_of, with_earlier}

@@ -11,13 +11,13 @@ use Rattle.control.specs.declared.scenario.Experiment.{Experiment as Script}
 use Rattle.control.specs.Scenario.{experiments, AreSpelled, Spells}
 use Rattle.control_lines.specs.Entries.{Entry}
 use Rattle.control_words.specs.Text.{lines}
-use Rattle.live.specs.declared.open.Phase.{Phase}
-use Rattle.live.specs.declared.open.Phase.TheVariants.{Going, Over, Lost}
-use Rattle.live.specs.RunLaws.{report_of_commands}
-use Rattle.live.specs.Opens.{KeptOpen, IsToldIn}
-use Rattle.live.specs.Requests.{asked_of}
-use Rattle.live.specs.Sessions.{Piece, IsPlain, Stand, IsSoFar, TellsAll, Turns, told, written}
-use Rattle.live.specs.Tracing.{run_as, run_all_as}
+use Rattle.session.specs.declared.open.Phase.{Phase}
+use Rattle.session.specs.declared.open.Phase.TheVariants.{Going, Over, Lost}
+use Rattle.session.specs.RunLaws.{report_of_commands}
+use Rattle.session.specs.Opens.{KeptOpen, IsToldIn}
+use Rattle.session.specs.Requests.{asked_of}
+use Rattle.session.specs.Sessions.{Piece, IsPlain, Stand, IsSoFar, TellsAll, Turns, told, written}
+use Rattle.session.specs.Tracing.{run_as, run_all_as}
 use Rattle.control.specs.Traced.{traced}
 use Rattle.alone.specs.Conversations.{Hinting, with_earlier}
 use Rattle.alone.specs.Reports.{report_alone, reports}

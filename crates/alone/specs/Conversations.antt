@@ -5,11 +5,11 @@ use Rattle.control.specs.declared.fault.Cause.{Cause}
 use Rattle.control.specs.declared.fault.Cause.TheVariants as causes
 use Rattle.control.specs.declared.fault.Fault.{Fault}
 use Rattle.control_words.specs.Text.{lines}
-use Rattle.live.specs.declared.answer.Answer.TheVariants as answers
-use Rattle.live.specs.Effects.{LineDoes}
-use Rattle.live.specs.Faults.{IsFaultOf}
-use Rattle.live.specs.Lines.{answer_line, comment_of}
-use Rattle.live.specs.Sessions.{KeptSession}
+use Rattle.session.specs.declared.answer.Answer.TheVariants as answers
+use Rattle.session.specs.Effects.{LineDoes}
+use Rattle.session.specs.Faults.{IsFaultOf}
+use Rattle.session.specs.Lines.{answer_line, comment_of}
+use Rattle.session.specs.Sessions.{KeptSession}
 use Rattle.alone.specs.declared.fault.RunFault.{RunFault}
 use Rattle.alone.specs.declared.fault.RunFault.TheVariants as faults
 use Rattle.alone.specs.Bytes.{IsCut}

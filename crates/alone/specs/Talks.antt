@@ -5,8 +5,8 @@ use Rattle.control.specs.Scenario.{experiments}
 use Rattle.control_lines.specs.Entries.{Entry, Says}
 use Rattle.control.specs.declared.fault.Cause.{Cause}
 use Rattle.control.specs.declared.fault.Cause.TheVariants.{Cut, NoEnd}
-use Rattle.live.specs.declared.answer.Answer.TheVariants as answers
-use Rattle.live.specs.Sessions.{KeptSession, Piece, Answered, Hinted, IsPlain, Turns, Takes, TellsAll, told, written}
+use Rattle.session.specs.declared.answer.Answer.TheVariants as answers
+use Rattle.session.specs.Sessions.{KeptSession, Piece, Answered, Hinted, IsPlain, Turns, Takes, TellsAll, told, written}
 use Rattle.alone.specs.declared.fault.RunFault.{RunFault}
 use Rattle.alone.specs.declared.fault.RunFault.TheVariants as faults
 use Rattle.alone.specs.Bytes.{Stops}

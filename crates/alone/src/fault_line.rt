@@ -9,7 +9,7 @@ use crate::fault::RunFault;
 use arrayvec::ArrayVec;
 use control::Fault;
 use itoa::Buffer as Digits;
-use live::cause_word;
+use session::cause_word;
 
 /// The number of bytes that suffices for the line of any fault.
 const LONGEST: usize = 64;

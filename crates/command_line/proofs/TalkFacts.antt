@@ -7,8 +7,8 @@ use Rattle.std.proofs.KnownBytes.{Appends-nil}
 use Rattle.control.specs.Scenario.{Spells}
 use Rattle.control.specs.declared.scenario.Experiment.{Experiment as Script}
 use Rattle.control_words.specs.Text.{lines}
-use Rattle.live.specs.Sessions.{Piece, IsPlain, told, written}
-use Rattle.live.specs.Tracing.{run_all_as}
+use Rattle.session.specs.Sessions.{Piece, IsPlain, told, written}
+use Rattle.session.specs.Tracing.{run_all_as}
 use Rattle.alone.specs.declared.fault.RunFault.{RunFault}
 use Rattle.alone.specs.declared.fault.RunFault.TheVariants.{Scenario, Read, Write, Memory, Strange, Gate}
 use Rattle.alone.specs.Bytes.{IsCut}

@@ -5,8 +5,8 @@ use Rattle.std.specs.Io.KnownBytes.{Appends}
 use Rattle.control.specs.Scenario.{Spells}
 use Rattle.control.specs.declared.scenario.Experiment.{Experiment as Script}
 use Rattle.control_words.specs.Text.{lines}
-use Rattle.live.specs.Sessions.{Piece, IsPlain, told, written}
-use Rattle.live.specs.Tracing.{run_all_as}
+use Rattle.session.specs.Sessions.{Piece, IsPlain, told, written}
+use Rattle.session.specs.Tracing.{run_all_as}
 use Rattle.alone.specs.declared.fault.RunFault.{RunFault}
 use Rattle.alone.specs.declared.limits.Limits.{Limits}
 use Rattle.alone.specs.declared.limits.Stop.{Stop}

@@ -13,7 +13,7 @@ use Rattle.alone.specs.Within.{MakesWithin, StopsUnwritten}
 use Rattle.alone.specs.declared.limits.Stop.TheVariants.{Steps, Fault as Failed}
 use Rattle.experiment.specs.Rooms.{IsPutAt}
 use Rattle.control.specs.declared.fault.Cause.TheVariants.{NoEnd}
-use Rattle.live.specs.Opens.{KeptOpen}
+use Rattle.session.specs.Opens.{KeptOpen}
 use Rattle.dnlab_c.specs.declared.answer.Answer.{Answer}
 use Rattle.dnlab_c.specs.Guests.{KeptGuest, Ends, next_line}
 use Rattle.dnlab_c.specs.Answers.{Answers, AnswersWithin, IsPut, faulty, no_memory, plain, too_many_steps}

@@ -3,9 +3,9 @@ use Rattle.std.proofs.Common.{◌≡◌, ℕ, List, ◌++◌, sym, ◌∙◌, su
 use Rattle.std.specs.Prelude.{Option, None, flat_map}
 use Rattle.std.proofs.lemmas.List.{append_cancel_left}
 use Rattle.control.specs.declared.fault.Cause.{Cause}
-use Rattle.live.specs.Faults.{IsFaultOf}
-use Rattle.live.specs.Effects.{LineDoes}
-use Rattle.live.specs.Sessions.{KeptSession, Piece, Takes, written}
+use Rattle.session.specs.Faults.{IsFaultOf}
+use Rattle.session.specs.Effects.{LineDoes}
+use Rattle.session.specs.Sessions.{KeptSession, Piece, Takes, written}
 use Rattle.dnlab_c.specs.Guests.{IsSaidBy, IsSaidTo}
 
 pub taken_says : (line before after : List ℕ) (f : Option Cause) (old new : KeptSession) → f ≡ None → IsFaultOf line old f

@@ -2,11 +2,11 @@
 use Rattle.std.specs.Prelude.{◌≡◌, ℕ, ◌+◌, ◌-◌, ◌^◌, ◌<◌, ◌≤◌, ◌⊎◌, Bool, true, false, All, List, [], ◌++◌, length, flat_map, Option, Some, None, min}
 use Rattle.control.specs.declared.fault.Cause.{Cause}
 use Rattle.control.specs.declared.fault.Cause.TheVariants.{NoEnd}
-use Rattle.live.specs.declared.answer.Answer.TheVariants as answers
-use Rattle.live.specs.Lines.{answer_line}
-use Rattle.live.specs.Faults.{IsFaultOf}
-use Rattle.live.specs.Effects.{LineDoes}
-use Rattle.live.specs.Sessions.{KeptSession, Piece, Takes, written}
+use Rattle.session.specs.declared.answer.Answer.TheVariants as answers
+use Rattle.session.specs.Lines.{answer_line}
+use Rattle.session.specs.Faults.{IsFaultOf}
+use Rattle.session.specs.Effects.{LineDoes}
+use Rattle.session.specs.Sessions.{KeptSession, Piece, Takes, written}
 use Rattle.dnlab_c.specs.declared.answer.Answer.{Answer}
 use Rattle.dnlab_c.specs.Answers.{IsPut, plain, no_memory, faulty}
 

@@ -4,7 +4,7 @@ ghost use Rattle.std.specs.Prelude.{◌≡◌, ◌++◌, ℕ, List, false, OnOk}
 ghost use Rattle.dnlab_c.specs.Guests.{IsSaidTo, HandsOver, Hears, Ends, fresh, next_line};
 
 use crate::answer::{Answer, DONE, all_well, no_end, no_memory, put};
-use live::{Answer as Said, Session, put_answer};
+use session::{Answer as Said, Session, put_answer};
 use std::alloc::{AllocError, Global};
 use std::marker::Model;
 

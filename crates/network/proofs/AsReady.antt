@@ -10,8 +10,8 @@ use Rattle.emu_model.specs.declared.sources.SendSpec.{SendSpec}
 use Rattle.emu_model.specs.Rules.{RuleBook, verdict, start_behind}
 use Rattle.pipe_table.specs.Table.{Table, HasRoomIn}
 use Rattle.pipe_table.specs.Places.{HasRoomAtPlace, KeepsPlaces}
-use Rattle.traffic.specs.Kept.{KeptTraffic, with_traffic, HasRoomFor}
-use Rattle.traffic.specs.Sends.{reply_send}
+use Rattle.sources.specs.Kept.{KeptTraffic, with_traffic, HasRoomFor}
+use Rattle.sources.specs.Sends.{reply_send}
 use Rattle.network.specs.declared.flow_cache.Lookup.{Lookup}
 use Rattle.network.specs.declared.flow_cache.Lookup.TheVariants.{Cached, Searched}
 use Rattle.network.specs.declared.flow_cache.Route.{Route}

@@ -15,8 +15,8 @@ use Rattle.emu_model.specs.Net.{Net, FlowState, TrainState}
 use Rattle.emu_model.specs.Dues.{due, dues_of, is_before, line_dues, service_dues, instances_dues, pipe_dues, flow_dues, train_dues}
 use Rattle.pipe_core.specs.Keyed.{KeyedPipe}
 use Rattle.pipe_table.specs.Table.{IsExitDue, IsFinishDue, IsPiped}
-use Rattle.traffic.specs.Kept.{KeptTraffic}
-use Rattle.traffic.specs.Sends.{source_dues, IsAllowed, IsNumbered}
+use Rattle.sources.specs.Kept.{KeptTraffic}
+use Rattle.sources.specs.Sends.{source_dues, IsAllowed, IsNumbered}
 
 best-append : (a : Due) (xs ys : List Due) → best_of is_before a (xs ++ ys) ≡ best_of is_before (best_of is_before a xs) ys
 best-append a [] ys = refl

@@ -18,7 +18,7 @@ use Rattle.pipe_core.specs.Keyed.{KeyedPipe, seen_pipe}
 use Rattle.std.specs.Prelude.{find, ◌==◌}
 use Rattle.pipe_table.specs.Table.{Table, pipe_of, seen_pipes, HasRoomIn, with_pipes, pipe_keys}
 use Rattle.pipe_table.specs.Places.{HasRoomAtPlace, KeepsPlaces}
-use Rattle.traffic.specs.Kept.{KeptTraffic, with_traffic}
+use Rattle.sources.specs.Kept.{KeptTraffic, with_traffic}
 use Rattle.network.specs.Kept.{KeptNet, net_of, line_keys, IsHoused, Stands}
 use Rattle.network.specs.Changes.{Becomes, Notes}
 use Rattle.network.proofs.Frame.{direct-housed, direct-shown, pipes-housed}

@@ -20,7 +20,7 @@ use Rattle.emu_model.specs.Events.{event_of, pipe_exits}
 use Rattle.packet_store.specs.Pocket.{Pocket}
 use Rattle.pipe_core.specs.Moves.{Keeps}
 use Rattle.pipe_table.specs.Table.{Table, IsPipeNumber, with_pipes, pipe_keys, drops_by_deletion}
-use Rattle.traffic.specs.Kept.{KeptTraffic, with_traffic}
+use Rattle.sources.specs.Kept.{KeptTraffic, with_traffic}
 use Rattle.pipe_core.specs.Uses.{uses}
 use Rattle.network.specs.Kept.{KeptNet, net_of, line_keys, net_keys, IsHoused}
 use Rattle.network.specs.Changes.{Becomes, IsStill, Notes, Obeys}

@@ -8,7 +8,7 @@ use Rattle.emu_model.specs.declared.sources.Due.{Due}
 use Rattle.emu_model.specs.Net.{Net}
 use Rattle.emu_model.specs.Dues.{rank, dues_of, is_before, line_dues, pipe_dues}
 use Rattle.due_index.specs.Least.{least_of, lesser}
-use Rattle.traffic.specs.Sends.{source_dues, IsAllowed, IsNumbered}
+use Rattle.sources.specs.Sends.{source_dues, IsAllowed, IsNumbered}
 use Rattle.pipe_table.specs.Table.{IsExitDue, IsFinishDue, IsPiped}
 use Rattle.network.specs.Kept.{KeptNet}
 use Rattle.network.specs.Due.{IsDue}

@@ -6,8 +6,8 @@ use Rattle.emu_model.specs.declared.records.Record.{Record}
 use Rattle.emu_model.specs.declared.sources.SendSpec.{SendSpec}
 use Rattle.emu_model.specs.Net.{Net, initial_net, note_all}
 use Rattle.pipe_table.specs.Table.{pipe_keys}
-use Rattle.traffic.specs.Kept.{KeptTraffic, with_traffic, HasRoomFor}
-use Rattle.traffic.specs.Sends.{reply_send}
+use Rattle.sources.specs.Kept.{KeptTraffic, with_traffic, HasRoomFor}
+use Rattle.sources.specs.Sends.{reply_send}
 use Rattle.network.specs.Kept.{KeptNet, net_of, line_keys}
 use Rattle.network.specs.Changes.{IsStill, Notes, Turns}
 use Rattle.network.specs.declared.flow_cache.Lookup.{Lookup}

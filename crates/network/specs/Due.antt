@@ -1,7 +1,7 @@
 -- A due, and the preconditions of its event.
 use Rattle.emu_model.specs.declared.sources.Due.{Due}
 use Rattle.pipe_table.specs.Table.{IsExitDue, IsFinishDue, IsPiped}
-use Rattle.traffic.specs.Sends.{IsAllowed, IsNumbered}
+use Rattle.sources.specs.Sends.{IsAllowed, IsNumbered}
 use Rattle.network.specs.Kept.{KeptNet}
 
 -- a due that meets the preconditions of its event

@@ -12,7 +12,7 @@ use Rattle.pipe_core.specs.Uses.{uses}
 use Rattle.pipe_core.specs.Moves.{packet_at, found}
 use Rattle.pipe_table.specs.Table.{Table, seen_pipes, pipe_keys}
 use Rattle.pipe_table.specs.Log.{Log}
-use Rattle.traffic.specs.Kept.{KeptTraffic, states_of}
+use Rattle.sources.specs.Kept.{KeptTraffic, states_of}
 use Rattle.network.specs.declared.flow_cache.CacheEntry.{CacheEntry}
 
 -- the rules, the pipes, the link of `allow` with its packets' keys, the flows and trains, the number of packets created, whether a packet that leaves

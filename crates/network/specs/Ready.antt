@@ -14,8 +14,8 @@ use Rattle.emu_rules.specs.declared.search.Match.{Match}
 use Rattle.emu_rules.specs.Walk.{CountsAlone}
 use Rattle.emu_model.specs.Net.{Net, packet_of}
 use Rattle.pipe_table.specs.Table.{HasRoomIn}
-use Rattle.traffic.specs.Kept.{with_traffic, HasRoomFor}
-use Rattle.traffic.specs.Sends.{reply_send}
+use Rattle.sources.specs.Kept.{with_traffic, HasRoomFor}
+use Rattle.sources.specs.Sends.{reply_send}
 use Rattle.pipe_table.specs.Places.{HasRoomAtPlace}
 use Rattle.network.specs.declared.flow_cache.Route.{Route}
 use Rattle.network.specs.declared.flow_cache.Lookup.{Lookup}

@@ -23,8 +23,8 @@ use emu_model::{
 use emu_rules::{Match, NO_RULE};
 use packet_store::{Owner, Shelf};
 use pipe_core::{NO_INSTANCE, laws};
+use sources::Sending;
 use std::alloc::AllocError;
-use traffic::Sending;
 use unchecked::unreachable_unchecked;
 
 // Returns a packet with this header.

@@ -22,8 +22,8 @@ use emu_model::{
 use emu_rules::{AddError, RuleList};
 use packet_store::{Owner, Shelf};
 use pipe_table::{ConfigureError, RecordLog};
+use sources::Sending;
 use std::alloc::AllocError;
-use traffic::Sending;
 
 impl Network {
     /// Executes a command with this number, or refuses it, and records which. Allocates before it

@@ -16,7 +16,7 @@ ghost use Rattle.network.specs.Ready.{CanDeliver, CanPass, start_after};
 ghost use Rattle.network.specs.Due.{IsDue};
 ghost use Rattle.pipe_table.specs.Table.{IsFinishing, IsLeaving};
 ghost use Rattle.pipe_table.specs.Places.{StandsAt, KeepsPlaces};
-ghost use Rattle.traffic.specs.Sends.{IsEmitting};
+ghost use Rattle.sources.specs.Sends.{IsEmitting};
 
 use crate::flow_cache::{Lookup, Route, line_of};
 use crate::state::Network;
@@ -24,8 +24,8 @@ use emu_model::{Class, DropCause, Due, EventContext, FlowNumber, Packet, PipeNum
 use packet_store::{Owner, Shelf};
 use pipe_core::laws;
 use pipe_table::RecordLog;
+use sources::Sending;
 use std::alloc::AllocError;
-use traffic::Sending;
 use unchecked::unreachable_unchecked;
 
 /// The maximum number of records of an event, apart from one for each thing that is listed or

@@ -13,9 +13,9 @@ use emu_rules::RuleList;
 use link_core::DelayLine;
 use packet_store::Key;
 use pipe_table::{PipeTable, RecordLog};
+use sources::Traffic;
 use std::alloc::{AllocError, Global};
 use std::marker::Model;
-use traffic::Traffic;
 
 /// The rules, pipes, link of `allow`, flows and trains of one experiment, and its records. Its
 /// packets are on a shelf.

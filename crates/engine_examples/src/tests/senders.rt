@@ -1,4 +1,4 @@
 //! One sender, and all sources of an experiment.
 
+mod all_senders;
 mod senders;
-mod sources;

@@ -1,6 +1,6 @@
 use Rattle.std.proofs.Common.{◌≡◌, ℕ, List, ◌++◌, subst}
 use Rattle.std.specs.Prelude.{flat_map, OnOk}
-use Rattle.live.specs.Sessions.{written}
+use Rattle.session.specs.Sessions.{written}
 use Rattle.alone.specs.Talks.{refusal}
 use Rattle.alone.proofs.Talking.{taken-replies, refused-replies}
 use Rattle.alone.proofs.talk.answer_line.Goals as goal

@@ -1,6 +1,6 @@
 use Rattle.std.proofs.Common.{ℕ, List, ◌++◌, sym, ap, ◌∙◌, append_assoc, append-nil, subst}
-use Rattle.live.specs.declared.answer.Answer.TheVariants as answers
-use Rattle.live.specs.Lines.{answer_line, comment_of}
+use Rattle.session.specs.declared.answer.Answer.TheVariants as answers
+use Rattle.session.specs.Lines.{answer_line, comment_of}
 use Rattle.alone.proofs.talk.refuse.Goals as goal
 
 pub returns-clause-says : goal.returns-clause-says

@@ -2,7 +2,7 @@ use Rattle.std.proofs.Common.{◌≡◌, ◌+◌, ◌<◌, ◌++◌, [], true, f
 use Rattle.std.specs.Prelude.{flat_map}
 use Rattle.std.proofs.Common.{length-append}
 use Rattle.control.specs.declared.fault.Cause.TheVariants.{TooLong}
-use Rattle.live.specs.Sessions.{written}
+use Rattle.session.specs.Sessions.{written}
 use Rattle.alone.specs.Talks.{KeptTalk, GoesOn, refusal}
 use Rattle.alone.specs.contracts.talk.Talk.{the_view}
 use Rattle.alone.proofs.Talking.{goes-skipping, goes-added, said-long}

@@ -5,7 +5,7 @@ use Rattle.emu_model.specs.declared.sources.Due.{Due}
 use Rattle.emu_model.specs.Dues.{is_before, dues_of, line_dues}
 use Rattle.due_index.specs.Least.{lesser, least_of}
 use Rattle.packet_store.specs.Pocket.{Pocket, empty_pocket}
-use Rattle.traffic.specs.Sends.{source_dues}
+use Rattle.sources.specs.Sends.{source_dues}
 use Rattle.network.specs.contracts.state.Network.{the_view}
 use Rattle.network.specs.Kept.{KeptNet, net_of}
 use Rattle.network.specs.Due.{IsDue}

@@ -1,9 +1,9 @@
 use Rattle.std.proofs.Common.{◌≡◌, refl, sym, ap, ◌∙◌, subst, arith, Some}
 use Rattle.emu_model.specs.declared.sources.SendSpec.{SendSpec}
 use Rattle.emu_model.specs.Events.{emission}
-use Rattle.traffic.specs.Kept.{KeptTraffic, with_traffic}
-use Rattle.traffic.specs.Sends.{IsEmitting, next_send}
-use Rattle.traffic.specs.Standing.{source_place}
+use Rattle.sources.specs.Kept.{KeptTraffic, with_traffic}
+use Rattle.sources.specs.Sends.{IsEmitting, next_send}
+use Rattle.sources.specs.Standing.{source_place}
 use Rattle.network.specs.contracts.state.Network.{the_view}
 use Rattle.network.specs.Kept.{KeptNet, net_of}
 use Rattle.network.specs.Ready.{CanMake}

@@ -4,8 +4,8 @@ use Rattle.emu_model.specs.declared.sources.Class.{Class}
 use Rattle.emu_model.specs.Net.{Net, find_pipe}
 use Rattle.emu_model.specs.Events.{direct_exit, emission, event_of, pipe_exits, pipe_finishes}
 use Rattle.packet_store.specs.Pocket.{Pocket}
-use Rattle.traffic.specs.Kept.{KeptTraffic}
-use Rattle.traffic.specs.Sends.{IsEmitting}
+use Rattle.sources.specs.Kept.{KeptTraffic}
+use Rattle.sources.specs.Sends.{IsEmitting}
 use Rattle.network.specs.Kept.{KeptNet, net_of}
 use Rattle.network.proofs.Obeying.{event-exit, no-pipe, of-pipe, event-from_still, finish-from_still}
 use Rattle.network.proofs.state.Network.event.Goals as goal

@@ -7,7 +7,7 @@ use Rattle.packet_store.specs.Pocket.{Pocket}
 use Rattle.network.specs.Kept.{net_of, IsHoused}
 use Rattle.network.specs.Changes.{Becomes}
 use Rattle.network.proofs.Obeying.{injected}
-use Rattle.traffic.specs.declared.sends.Sending.{Sending}
+use Rattle.sources.specs.declared.sends.Sending.{Sending}
 use Rattle.network.proofs.state.Network.inject.Goals as goal
 
 pub returns-clause-ok : goal.returns-clause-ok

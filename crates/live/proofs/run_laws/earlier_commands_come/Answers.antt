@@ -1,5 +1,0 @@
-use Rattle.live.proofs.LeastFacts as law
-use Rattle.live.proofs.run_laws.earlier_commands_come.Goals as goal
-
-pub returns : goal.returns
-returns c = law.earlier_commands_come c.commands_go_on.ensures c.records_are_not_read.ensures c.waits_settle.ensures
