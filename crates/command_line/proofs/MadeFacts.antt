@@ -6,7 +6,7 @@ use Rattle.alone.specs.declared.limits.Format.{Format}
 use Rattle.alone.specs.declared.within.Made.{Made}
 use Rattle.alone.proofs.ReadFacts.{read_spells}
 use Rattle.explain.specs.Account.{Told}
-use Rattle.explain_text.specs.Accounts.{IsAccountOf}
+use Rattle.explain.specs.RunAccount.{IsAccountOf}
 use Rattle.command_line.specs.Status.{EndsStrictly, EndsWell, is_clean}
 
 -- it is of all that was left to read

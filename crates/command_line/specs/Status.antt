@@ -15,7 +15,7 @@ use Rattle.alone.specs.declared.limits.Stop.{Stop}
 use Rattle.alone.specs.declared.limits.Format.{Format}
 use Rattle.alone.specs.declared.within.Made.{Made}
 use Rattle.alone.specs.Within.{IsMade, done_of}
-use Rattle.explain_text.specs.Accounts.{IsAccountOf}
+use Rattle.explain.specs.RunAccount.{IsAccountOf}
 use Rattle.alone.specs.declared.limits.Stop.TheVariants as stops
 use Rattle.alone.specs.FaultLines.{fault_line}
 

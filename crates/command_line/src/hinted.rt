@@ -4,7 +4,7 @@ ghost use Rattle.std.specs.Prelude.{◌≡◌, [], false};
 
 use alone::Hints;
 use control::{Cause, Fault};
-use explain_text::faults_text;
+use explain::faults_text;
 use std::alloc::{AllocError, Global};
 
 /// The hint for a request with a bad word.

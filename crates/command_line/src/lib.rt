@@ -25,8 +25,10 @@ ghost use Rattle.command_line.specs.Words.{dnlab, plan_of};
 use alone::{Inlet, Made, Outlet, RunFault, Stop, check_kept, live, run_alone_within, write_fault};
 use clap::Error;
 use clap::error::ErrorKind;
-use explain::{Account, Note, RefusedCommand, Subject};
-use explain_text::{Run, account_of, explanation, faults_text, refusals_of, scenario_explained};
+use explain::{
+    Account, Note, RefusedCommand, Run, Subject, account_of, explanation, faults_text, refusals_of,
+    scenario_explained,
+};
 use hinted::LineHints;
 pub use meter::Meter;
 use std::alloc::{AllocError, Global};

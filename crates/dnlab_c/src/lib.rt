@@ -19,7 +19,7 @@ ghost use Rattle.dnlab_c.specs.Guests.{Opens, TakesAt, ClosesAt};
 use alone::{Format, Limits, RunFault, Silent, Stop, check_of, made_of, reports_of};
 pub use answer::Answer;
 use answer::{all_well, fault_answer, no_memory, no_session, put, put_all, too_many_steps};
-use explain_text::{explanation, faults_text};
+use explain::{explanation, faults_text};
 use guest::Guest;
 use loose::Loose;
 pub use place::{Hidden, Place};

@@ -1,4 +1,9 @@
-pub mod Faults
+mod Accounting
+pub mod Behind
 pub mod FrontWords
+pub mod FurtherFaults
 pub mod Numbers
+mod Rates
 pub mod Rows
+mod Sharing
+mod States

@@ -8,7 +8,7 @@ use Rattle.control.specs.declared.fault.Cause.TheVariants.{TooBig, Cut, TooLong,
 use Rattle.control.specs.declared.fault.Fault.{Fault}
 use Rattle.control.specs.Scenario.{Stands, HasFault}
 use Rattle.explain.specs.Lines.{nth_line}
-use Rattle.explain.specs.Shown.{finding_text}
+use Rattle.explain.specs.ShownFindings.{finding_text}
 use Rattle.explain.specs.declared.finding.Finding.{Finding}
 
 abbrev pub cause_alone : LineFault → Cause

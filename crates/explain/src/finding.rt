@@ -16,10 +16,11 @@ ghost use Rattle.explain.specs.Lines.{
 };
 ghost use Rattle.explain.specs.Past.{IsBefore, IsPastOf, line_for};
 
+use crate::expected_words::expected_at;
+use crate::hints::{byte_hint, hint, range_hint};
 use crate::past::{Earlier, Past, name_in, past_of};
 use crate::span::{Span, line_at, part, span_of_word};
 use control::{Cause, Check, Fault, blame};
-use explain_line::{byte_hint, expected_at, hint, range_hint};
 
 /// The finding in a line: where the first faulty word is, what was expected there, an example, and
 /// what to write instead.

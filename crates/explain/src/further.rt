@@ -5,7 +5,7 @@ ghost use Rattle.control_words.specs.Text.{lines};
 ghost use Rattle.explain.specs.Further.{cause_alone, cause_word, found_text, IsTold, AreTold, IsToldFrom, IsCut};
 
 use crate::finding::Finding;
-use crate::show::{put_number, show_finding};
+use crate::show_findings::{put_number, show_finding};
 use control::{Cause, Fault, ParseError, parse_scenario};
 use control_lines::{LineEntry, LineFault, read_line};
 use control_words::first_line;

@@ -1,6 +1,6 @@
 use Rattle.std.proofs.Common.{arith}
 use Rattle.control_words.specs.Text.{lines}
-use Rattle.explain.proofs.Faults.{told_more, last_more}
+use Rattle.explain.proofs.FurtherFaults.{told_more, last_more}
 use Rattle.explain.proofs.further.faults_behind.Goals as goal
 
 pub loop-count-preserved : goal.loop-count-preserved

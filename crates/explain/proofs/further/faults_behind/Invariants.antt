@@ -1,7 +1,7 @@
 use Rattle.std.proofs.Common.{◌≡◌, ◌≤◌, vec_len}
 use Rattle.control_words.specs.Text.{lines}
 use Rattle.explain.specs.Further.{AreTold}
-use Rattle.explain.proofs.Faults.{last_line}
+use Rattle.explain.proofs.FurtherFaults.{last_line}
 use Rattle.explain.proofs.further.faults_behind.Given as goal
 
 -- those so far are told, each behind the one before, and of the last the next is looked for

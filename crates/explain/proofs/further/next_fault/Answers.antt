@@ -1,7 +1,7 @@
 use Rattle.std.proofs.Common.{◌≡◌, ◌+◌, Some, ap, ◌∙◌, arith}
 use Rattle.control_words.specs.Text.{lines}
 use Rattle.explain.specs.Lines.{nth_line}
-use Rattle.explain.proofs.Faults.{lines_next, told_alone, told_cut}
+use Rattle.explain.proofs.FurtherFaults.{lines_next, told_alone, told_cut}
 use Rattle.explain.proofs.further.next_fault.Goals as goal
 
 pub returns-in-Err : goal.returns-in-Err

@@ -1,7 +1,7 @@
 //! Faulty words, by their numbers in the line, and the hints for them.
 
 use control::{Behind, Check, Expected, FlowSeen, FlowWord, RuleWord, blame, blame_behind};
-use explain_line::{byte_hint, expected_at, hint, range_hint};
+use explain::{byte_hint, expected_at, hint, range_hint};
 use std::process::Abort;
 use std::test::*;
 

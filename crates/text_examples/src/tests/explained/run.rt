@@ -2,8 +2,7 @@
 
 use control::parse_scenario;
 use emu_model::{PipeNumber, Protocol};
-use explain::{Note, Subject};
-use explain_text::{Concern, Ends, Sent, Warning, warnings};
+use explain::{Concern, Ends, Note, Sent, Subject, Warning, warnings};
 use std::process::Abort;
 use std::test::*;
 

@@ -1,5 +1,0 @@
-mod Accounting
-pub mod Behind
-mod Rates
-mod Sharing
-mod States

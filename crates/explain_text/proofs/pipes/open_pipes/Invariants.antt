@@ -1,7 +1,0 @@
-use Rattle.std.proofs.Common.{◌≡◌, ℕ, take, is_some}
-use Rattle.due_index.specs.Table.{place_in}
-use Rattle.explain_text.specs.Pipes.{is_open}
-use Rattle.explain_text.proofs.pipes.open_pipes.Given as goal
-
-abbrev pub invariant-loop-timed : goal.invariant-loop-timed
-invariant-loop-timed l = (n : ℕ) → is_some (place_in l.table n) ≡ is_open (take l.timed-index l.commands) n
