@@ -49,7 +49,7 @@ SEEN = (
           "command -v mkdocs && [ -d /usr/share/mkdocs/themes/material ]"),
     Piece("tools/gate/lint", "what linters say of Python and of scripts of the shell", ("tools/gate/lint",),
           50),
-    Piece("tools/gate/texts", "the texts of the crate text_examples are those of examples/",
+    Piece("tools/gate/texts", "the texts of the crate run_examples are those of examples/",
           ("tools/gate/texts", "--check"), 1),
     Piece("tools/definitions/spell",
           "each example of emu_laws spells the scenario of examples/ that it is named after",

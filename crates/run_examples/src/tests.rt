@@ -8,6 +8,10 @@ macro_rules! assert_holds {
 }
 
 mod benches;
+mod calls;
+mod explained;
+mod reports;
+mod scenarios;
 mod shards;
 mod wants;
 mod worlds;

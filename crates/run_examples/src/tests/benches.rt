@@ -6,6 +6,7 @@ mod refusals;
 mod threads;
 
 use crate::tests::wants::assert_same;
+use crate::texts;
 use bench::{Closing, Lost, OpenError, PostError, Registry, audit};
 use calls::{Advance, Kit, Move, Real, admit, adopt, last_turn, offer, retake, turn};
 use emu_model::{Budget, Command, Ending, PacketBudget, Spec, StepBudget, Timed};
@@ -13,7 +14,6 @@ use guests::{Guest, invite, post_all, settle, text_of};
 use shard::{PackError, Polled};
 use std::process::Abort;
 use std::slice;
-use text_examples as texts;
 
 /// The latest time (ns) of a command.
 const LATEST: u64 = 1_000_000_000_000_000;

@@ -10,6 +10,7 @@ mod refusals;
 mod turns;
 
 use crate::tests::wants::{assert_same, assert_with_message};
+use crate::texts;
 use agendas::{Anew, GivesUp};
 use calls::{
     Desk, Host, advance, arrive, counts_of, is_crowded, pack, packs_nobody, poll, put, seen_back,
@@ -25,7 +26,6 @@ use std::alloc::{AllocError, Global};
 use std::mem;
 use std::process::Abort;
 use std::test::Fail;
-use text_examples as texts;
 use timer_wheel::{Agenda, Wheel};
 
 // Checks polls, turns and posts of an empty shard, and then with one guest.

@@ -6,6 +6,7 @@ mod desk;
 mod refusals;
 
 use crate::tests::wants::assert_same;
+use crate::texts;
 use calls::{Stage, counts_of, run, step};
 use desk::{
     Guest, MAX_ROUNDS, finish, invite, invite_all, next_post, post_all, register, reports_of_ended,
@@ -61,27 +62,15 @@ fn draw_step(words: &mut ChaCha20Rng, guests: &mut [Guest]) -> Step {
 
 // Creates six guests.
 fn six_guests(rt: &(impl Abort + AllocGlobal)) -> Result<Vec<Guest>, AllocError> {
-    let texts = [
-        (text_examples::ONE_SLOT, text_examples::ONE_SLOT_REPORT),
-        (
-            text_examples::FAST_RETRANSMIT,
-            text_examples::FAST_RETRANSMIT_REPORT,
-        ),
-        (text_examples::NEW_RATE, text_examples::NEW_RATE_REPORT),
-        (
-            text_examples::CODEL_ONE_DROP,
-            text_examples::CODEL_ONE_DROP_REPORT,
-        ),
-        (
-            text_examples::TWO_PIPES_IN_TURN,
-            text_examples::TWO_PIPES_IN_TURN_REPORT,
-        ),
-        (
-            text_examples::PACKET_BUDGET,
-            text_examples::PACKET_BUDGET_REPORT,
-        ),
+    let cards = [
+        (texts::ONE_SLOT, texts::ONE_SLOT_REPORT),
+        (texts::FAST_RETRANSMIT, texts::FAST_RETRANSMIT_REPORT),
+        (texts::NEW_RATE, texts::NEW_RATE_REPORT),
+        (texts::CODEL_ONE_DROP, texts::CODEL_ONE_DROP_REPORT),
+        (texts::TWO_PIPES_IN_TURN, texts::TWO_PIPES_IN_TURN_REPORT),
+        (texts::PACKET_BUDGET, texts::PACKET_BUDGET_REPORT),
     ];
-    invite_all(rt, &texts)
+    invite_all(rt, &cards)
 }
 
 // Performs a list of steps in a new world, one by one, and then runs the world to its end. Returns
@@ -226,7 +215,7 @@ fn travels<W: Stage>(
     text: &'static str,
     report: &'static str,
 ) -> Result<u64, AllocError> {
-    let flood = (text_examples::FLOOD, text_examples::FLOOD_REPORT);
+    let flood = (texts::FLOOD, texts::FLOOD_REPORT);
     let mut guests = invite_all(rt, &[(text, report), flood, flood])?;
     let mut world = W::build(rt.alloc(), 2)?;
     travels_through(rt, &mut world, guests.as_mut_slice())
@@ -236,13 +225,13 @@ fn travels<W: Stage>(
 fn packed_every_event(rt: HostRuntime) -> Result<(), Fail> {
     assert_holds!(&rt; travels::<World<ListAgenda>>(
             &rt,
-            text_examples::FAST_RETRANSMIT,
-            text_examples::FAST_RETRANSMIT_REPORT
+            texts::FAST_RETRANSMIT,
+            texts::FAST_RETRANSMIT_REPORT
         )? > 10);
     assert_holds!(&rt; travels::<World<Wheel>>(
             &rt,
-            text_examples::TWO_PIPES_IN_TURN,
-            text_examples::TWO_PIPES_IN_TURN_REPORT
+            texts::TWO_PIPES_IN_TURN,
+            texts::TWO_PIPES_IN_TURN_REPORT
         )? > 10);
     Ok(())
 }
@@ -304,14 +293,11 @@ fn is_beside_a_flood<W: Stage>(
 }
 
 fn flood_world<W: Stage>(rt: &(impl Abort + AllocGlobal)) -> Result<(), AllocError> {
-    let texts = [
-        (text_examples::NEIGHBOUR, ""),
-        (
-            text_examples::PACKET_BUDGET,
-            text_examples::PACKET_BUDGET_REPORT,
-        ),
+    let cards = [
+        (texts::NEIGHBOUR, ""),
+        (texts::PACKET_BUDGET, texts::PACKET_BUDGET_REPORT),
     ];
-    let mut guests = invite_all(rt, &texts)?;
+    let mut guests = invite_all(rt, &cards)?;
     let mut world = W::build(rt.alloc(), 1)?;
     is_beside_a_flood(rt, &mut world, guests.as_mut_slice())
 }
@@ -355,7 +341,7 @@ fn begins<W: Stage>(rt: &(impl Abort + AllocGlobal), spec: Spec) -> Result<(), A
 
 #[test]
 fn nobody_is_in_a_new_world(rt: HostRuntime) -> Result<(), Fail> {
-    let spec = invite(&rt, text_examples::ONE_SLOT, "")?.spec();
+    let spec = invite(&rt, texts::ONE_SLOT, "")?.spec();
     begins::<World<ListAgenda>>(&rt, spec)?;
     Ok(())
 }

@@ -6,13 +6,13 @@ use super::calls::{
 };
 use super::guests::{Guest, Settled, invite, settle, take_guest, text_of};
 use crate::tests::wants::assert_same;
+use crate::texts;
 use bench::{PostError, Registry, audit};
 use emu_model::{Ending, Record, Timed};
 use shard::Polled;
 use std::alloc::AllocError;
 use std::mem;
 use std::process::Abort;
-use text_examples as texts;
 
 const GUESTS: u32 = 6;
 

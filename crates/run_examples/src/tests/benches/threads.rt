@@ -3,11 +3,11 @@
 use super::calls::{Kit, Move, Real, admit, adopt, last_turn, offer, retake};
 use super::guests::{Guest, invite, post_all, settle, take_guest, text_of};
 use crate::tests::wants::assert_same;
+use crate::texts;
 use bench::{Closing, Registry, audit};
 use std::process::Abort;
 use std::sync::atomic::{AtomicU64, Ordering};
 use std::thread;
-use text_examples as texts;
 
 const GUESTS: usize = 64;
 

@@ -8,13 +8,13 @@ use super::desk::{
     Guest, MAX_TURNS, Move, has_lines, has_report, invite_all, parcel, post, read_all,
 };
 use crate::tests::wants::{assert_same, assert_with_message};
+use crate::texts;
 use emu_model::Ending;
 use shard::{Dossier, ListMail, PackError, Parcel, Polled, Turned};
 use std::alloc::AllocError;
 use std::mem;
 use std::process::Abort;
 use std::test::Fail;
-use text_examples as texts;
 
 /// The number of failed allocations, and the number of guests that have ended.
 #[derive(Clone, Copy)]

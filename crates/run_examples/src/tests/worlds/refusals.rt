@@ -3,6 +3,7 @@
 use super::calls::{Sight, Stage, counted_run};
 use super::desk::{Guest, MAX_ROUNDS, invite_all, name_of, next_post, reports_of_ended};
 use crate::tests::wants::assert_same;
+use crate::texts;
 use std::alloc::AllocError;
 use std::process::Abort;
 use std::test::Fail;
@@ -17,19 +18,13 @@ const MAX_POSTS: u32 = 64;
 
 // Creates four guests.
 fn four_guests(rt: &(impl Abort + AllocGlobal)) -> Result<Vec<Guest>, AllocError> {
-    let texts = [
-        (text_examples::ONE_PACKET, text_examples::ONE_PACKET_REPORT),
-        (text_examples::LISTINGS, text_examples::LISTINGS_REPORT),
-        (
-            text_examples::RENO_FOUR_SEGMENTS,
-            text_examples::RENO_FOUR_SEGMENTS_REPORT,
-        ),
-        (
-            text_examples::STEP_BUDGET,
-            text_examples::STEP_BUDGET_REPORT,
-        ),
+    let cards = [
+        (texts::ONE_PACKET, texts::ONE_PACKET_REPORT),
+        (texts::LISTINGS, texts::LISTINGS_REPORT),
+        (texts::RENO_FOUR_SEGMENTS, texts::RENO_FOUR_SEGMENTS_REPORT),
+        (texts::STEP_BUDGET, texts::STEP_BUDGET_REPORT),
     ];
-    invite_all(rt, &texts)
+    invite_all(rt, &cards)
 }
 
 // Returns the visible properties of each guest.

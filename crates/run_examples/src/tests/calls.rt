@@ -1,5 +1,6 @@
 //! Worked examples over memory: the output, and the fault of each text that is not a scenario.
 
+use crate::texts;
 use alone::{
     Device, Format, Inlet, Limits, Outlet, RunFault, Silent, Stop, Trouble, check, run_alone,
     run_alone_within,
@@ -12,7 +13,6 @@ use std::process::Abort;
 use std::sync::Wait;
 use std::test::Fail;
 use std::thread::Threads;
-use text_examples as texts;
 
 mod crowd;
 mod devices;

@@ -1,15 +1,11 @@
-//! Worked examples of texts. The tests parse scenarios, check their faults and their explanations,
-//! and format reports. Other crates of tests use the texts too. They are those of examples/, and
-//! tools/gate/texts writes them. Our choice.
-#![tactic(auto)]
+//! Scenarios and reports that the tests use. They are those of examples/, and tools/gate/texts writes
+//! them.
 
 mod floods;
 mod flows;
 mod many;
 mod pipes;
 mod queues;
-#[cfg(test)]
-mod tests;
 
 pub use floods::{FLOOD, FLOOD_REPORT, NEIGHBOUR};
 pub use flows::{

@@ -1,4 +1,0 @@
-//! The tests, by subject.
-
-mod explained;
-mod texts;

@@ -1,4 +1,0 @@
-//! Parsing scenarios and formatting reports.
-
-mod reports;
-mod scenarios;
