@@ -24,11 +24,11 @@ def program(named: str | os.PathLike[str] | None = None) -> str:
     return done.stdout.rstrip("\n")
 
 
-def soak() -> str:
-    """Returns the path of the program of crates/soak: the one that the environment variable SOAK names, or
-    this repository's proved one. Exits with 3 if there is none."""
-    named = os.environ.get("SOAK") or str(ROOT / "crates" / "soak" / "out" / "soak")
+def probes() -> str:
+    """Returns the path of the program of crates/probes: the one that the environment variable PROBES names,
+    or this repository's proved one. Exits with 3 if there is none."""
+    named = os.environ.get("PROBES") or str(ROOT / "crates" / "probes" / "out" / "probes")
     if not os.access(named, os.X_OK):
-        print(f"there is no program {named}: 'rt run' in crates/soak proves and builds it", file=sys.stderr)
+        print(f"there is no program {named}: 'rt run' in crates/probes proves and builds it", file=sys.stderr)
         sys.exit(3)
     return named

@@ -6,7 +6,7 @@ use thiserror::Error;
 #[derive(Clone, Copy, Debug, Drop, Error, PartialEq)]
 pub enum Fault {
     /// The arguments are not those of the program.
-    #[error("words: LISTS STEPS SEED [on], of which LISTS is 1 or more")]
+    #[error("words: random LISTS STEPS SEED [on], of which LISTS is 1 or more")]
     Words,
     /// The text is not a scenario.
     #[error("the text is no scenario")]

@@ -3,8 +3,8 @@
 ghost use Rattle.packet_store.specs.Own.{own_pocket};
 ghost use Rattle.experiment.specs.Kept.{IsHousedIn};
 
-use crate::fault::Fault;
-use crate::plans::{Plan, flow_plan};
+use super::fault::Fault;
+use super::plans::{Plan, flow_plan};
 use experiment::{Event, Experiment};
 use packet_store::OwnShelf;
 use std::alloc::Global;

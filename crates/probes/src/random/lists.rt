@@ -1,8 +1,8 @@
 //! Random lists of steps, each in a world of its own.
 
-use crate::fault::Fault;
-use crate::guests::{Guest, name_of, next_post, was_posted};
-use crate::stage::Stage;
+use super::fault::Fault;
+use super::guests::{Guest, name_of, next_post, was_posted};
+use super::stage::Stage;
 use emu_model::Spec;
 use rand_chacha::ChaCha20Rng;
 use rand_core::SeedableRng;

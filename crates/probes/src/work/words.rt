@@ -1,8 +1,8 @@
 //! The arguments of the command line.
 
-use crate::agendas::{Act, Rounds};
-use crate::fault::Fault;
-use crate::lines::Told;
+use super::agendas::{Act, Rounds};
+use super::fault::Fault;
+use super::lines::Told;
 
 /// The kind of agenda.
 #[derive(Clone, Copy, Debug, PartialEq)]
@@ -35,15 +35,15 @@ fn number(word: Option<&String>) -> Result<u32, Fault> {
 
 // Returns the number of residents.
 fn residents(words: &[String]) -> Result<usize, Fault> {
-    Ok(number(words.get(2))? as usize)
+    Ok(number(words.get(3))? as usize)
 }
 
 // Returns the number of a resident's packets, and how often it is moved.
 fn moves(words: &[String]) -> Result<Work, Fault> {
-    let Ok(packets) = u16::try_from(number(words.get(2))?) else {
+    let Ok(packets) = u16::try_from(number(words.get(3))?) else {
         return Err(Fault::Range);
     };
-    let times = number(words.get(3))?;
+    let times = number(words.get(4))?;
     Ok(Work::Moves { packets, times })
 }
 
@@ -65,23 +65,23 @@ fn act(word: Option<&String>) -> Result<Act, Fault> {
 // Returns the work with an agenda.
 fn agenda(kind: Kind, words: &[String]) -> Result<Work, Fault> {
     let rounds = Rounds {
-        act: act(words.get(2))?,
-        entries: number(words.get(3))?,
-        times: number(words.get(4))?,
+        act: act(words.get(3))?,
+        entries: number(words.get(4))?,
+        times: number(words.get(5))?,
     };
     Ok(Work::Agenda { kind, rounds })
 }
 
 // Returns the work of a report about a subject.
 fn report(told: Told, words: &[String]) -> Result<Work, Fault> {
-    let lines = number(words.get(2))?;
-    let times = number(words.get(3))?;
+    let lines = number(words.get(3))?;
+    let times = number(words.get(4))?;
     Ok(Work::Report { told, lines, times })
 }
 
-/// Returns the work that the arguments (the program's name first) request.
+/// Returns the work that the arguments (the program's name and `work` first) request.
 pub fn work_of(words: &[String]) -> Result<Work, Fault> {
-    let Some(word) = words.get(1) else {
+    let Some(word) = words.get(2) else {
         return Err(Fault::Words);
     };
     match word.as_str() {
@@ -98,7 +98,7 @@ pub fn work_of(words: &[String]) -> Result<Work, Fault> {
         "train" => report(Told::Train, words),
         "drops" => report(Told::Drops, words),
         "read" => Ok(Work::Read {
-            times: number(words.get(2))?,
+            times: number(words.get(3))?,
         }),
         _ => Err(Fault::Words),
     }

@@ -1,6 +1,6 @@
 use Rattle.std.proofs.Common.{sym, subst, arith}
 use Rattle.experiment.specs.Kept.{IsHousedIn}
-use Rattle.timed.proofs.alone.run.Goals as goal
+use Rattle.probes.proofs.work.alone.run.Goals as goal
 
 pub play-played-requires : goal.play-played-requires
 play-played-requires c =

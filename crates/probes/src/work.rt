@@ -1,21 +1,20 @@
-//! `timed`: a given amount of work by one part, to be timed from outside. It reads no clock.
+//! A given amount of work by one part, to be timed from outside. It reads no clock.
 //!
-//! - `timed turns RESIDENTS`: RESIDENTS flows in one shard, turned to their ends.
-//! - `timed alone RESIDENTS`: the same flows one after the other, each by itself.
-//! - `timed moves PACKETS TIMES`: one resident with PACKETS packets, packed and taken in again
+//! - `probes work turns RESIDENTS`: RESIDENTS flows in one shard, turned to their ends.
+//! - `probes work alone RESIDENTS`: the same flows one after the other, each by itself.
+//! - `probes work moves PACKETS TIMES`: one resident with PACKETS packets, packed and taken in again
 //!   TIMES times.
-//! - `timed AGENDA WORK ENTRIES TIMES`: entries of an agenda, `wheel` or `list`, where WORK is
+//! - `probes work AGENDA ACT ENTRIES TIMES`: entries of an agenda, `wheel` or `list`, where ACT is
 //!   `fill` (ENTRIES entries are only set), `one` (TIMES rounds, in each of which ENTRIES entries
 //!   are set in one slot, and popped), `spread` (like `one`, over many slots), `set` (TIMES entries
 //!   of ENTRIES sources in one slot are replaced) or `clear` (they are cleared and set again).
-//! - `timed TOLD LINES TIMES`: TIMES times the report of LINES lines, where TOLD is `flow`
+//! - `probes work TOLD LINES TIMES`: TIMES times the report of LINES lines, where TOLD is `flow`
 //!   (finishes, deliveries of segments and of acknowledgements, windows), `train` (finishes and
 //!   deliveries) or `drops` (by a full queue).
-//! - `timed read TIMES`: a scenario from standard input is parsed TIMES times, and its experiments
-//!   are counted.
+//! - `probes work read TIMES`: a scenario from standard input is parsed TIMES times, and its
+//!   experiments are counted.
 //!
-//! Without arguments it does a little of each except the last.
-#![tactic(auto)]
+//! `probes work` alone does a little of each except the last.
 
 mod agendas;
 mod alone;
@@ -28,7 +27,6 @@ mod words;
 use agendas::{Act, Rounds, popped_of};
 use lines::{Told, bytes_of, experiments_of};
 use std::alloc::Global;
-use std::env;
 use std::io::Read;
 use timer_wheel::{Agenda, ListAgenda, Wheel};
 use words::{Kind, Work, work_of};
@@ -55,7 +53,7 @@ fn read(rt: &HostRuntime, alloc: Global, times: u32) -> anyhow::Result<u64> {
 }
 
 // Does the work, and prints its amount.
-fn work(rt: &HostRuntime, alloc: Global, work: Work) -> anyhow::Result<()> {
+fn carry_out(rt: &HostRuntime, alloc: Global, work: Work) -> anyhow::Result<()> {
     match work {
         Work::Turns { residents } => {
             let turns = together::turns(alloc, residents)?;
@@ -87,10 +85,10 @@ fn work(rt: &HostRuntime, alloc: Global, work: Work) -> anyhow::Result<()> {
 
 // Does a little of each part of a shard's work.
 fn turn_a_little(rt: &HostRuntime, alloc: Global) -> anyhow::Result<()> {
-    work(rt, alloc, Work::Turns { residents: 3 })?;
-    work(rt, alloc, Work::Alone { residents: 3 })?;
+    carry_out(rt, alloc, Work::Turns { residents: 3 })?;
+    carry_out(rt, alloc, Work::Alone { residents: 3 })?;
     let (packets, times) = (10, 5);
-    work(rt, alloc, Work::Moves { packets, times })
+    carry_out(rt, alloc, Work::Moves { packets, times })
 }
 
 // Does a little with each agenda.
@@ -103,7 +101,7 @@ fn pop_a_little(rt: &HostRuntime, alloc: Global) -> anyhow::Result<()> {
                 entries,
                 times,
             };
-            work(rt, alloc, Work::Agenda { kind, rounds })?;
+            carry_out(rt, alloc, Work::Agenda { kind, rounds })?;
         }
     }
     Ok(())
@@ -113,18 +111,22 @@ fn pop_a_little(rt: &HostRuntime, alloc: Global) -> anyhow::Result<()> {
 fn tell_a_little(rt: &HostRuntime, alloc: Global) -> anyhow::Result<()> {
     for told in [Told::Flow, Told::Train, Told::Drops] {
         let (lines, times) = (10, 2);
-        work(rt, alloc, Work::Report { told, lines, times })?;
+        carry_out(rt, alloc, Work::Report { told, lines, times })?;
     }
     Ok(())
 }
 
-fn main(rt: HostRuntime) -> anyhow::Result<()> {
-    let alloc = rt.alloc();
-    let words = env::args(&rt)?.collect::<Vec<String>>(alloc)?;
-    if words.len() > 1 {
-        return work(&rt, alloc, work_of(words.as_slice())?);
+/// Does a little of each part's work.
+pub fn do_a_little(rt: &HostRuntime, alloc: Global) -> anyhow::Result<()> {
+    turn_a_little(rt, alloc)?;
+    pop_a_little(rt, alloc)?;
+    tell_a_little(rt, alloc)
+}
+
+/// Does the work that the arguments (the program's name and `work` first) request.
+pub fn run(rt: &HostRuntime, alloc: Global, words: &[String]) -> anyhow::Result<()> {
+    if words.len() > 2 {
+        return carry_out(rt, alloc, work_of(words)?);
     }
-    turn_a_little(&rt, alloc)?;
-    pop_a_little(&rt, alloc)?;
-    tell_a_little(&rt, alloc)
+    do_a_little(rt, alloc)
 }

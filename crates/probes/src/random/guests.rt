@@ -1,6 +1,6 @@
 //! The experiments of a scenario as guests of a world, whose commands are posted in their order.
 
-use crate::fault::Fault;
+use super::fault::Fault;
 use control::{Experiment, ParseError, parse_scenario};
 use emu_model::Spec;
 use std::alloc::{AllocError, Global};

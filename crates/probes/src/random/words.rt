@@ -1,6 +1,6 @@
 //! The arguments of the command line.
 
-use crate::fault::Fault;
+use super::fault::Fault;
 
 /// The task: the number of lists, the steps of each, the seed of the random stream, and whether the
 /// run continues after failed allocations.
@@ -42,13 +42,13 @@ fn is_on(word: Option<&String>) -> Result<bool, Fault> {
     Ok(true)
 }
 
-/// Returns the task that the arguments (the program's name first) request.
+/// Returns the task that the arguments (the program's name and a word first) request.
 pub fn task_of(words: &[String]) -> Result<Task, Fault> {
-    let lists = small_number(words.get(1))?;
-    let steps = small_number(words.get(2))?;
-    let seed = number(words.get(3))?;
-    let goes_on = is_on(words.get(4))?;
-    if lists == 0 || words.len() > 5 {
+    let lists = small_number(words.get(2))?;
+    let steps = small_number(words.get(3))?;
+    let seed = number(words.get(4))?;
+    let goes_on = is_on(words.get(5))?;
+    if lists == 0 || words.len() > 6 {
         return Err(Fault::Words);
     }
     Ok(Task {

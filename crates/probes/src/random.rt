@@ -1,12 +1,13 @@
-//! `soak LISTS STEPS SEED [on]`: reads a scenario from standard input, and runs LISTS random lists
-//! of STEPS steps each, drawn from SEED. Each list has a world of its own with the scenario's
+//! Random steps of worlds, which must leave the reports that each experiment has when it runs alone.
+//!
+//! `probes random LISTS STEPS SEED [on]` reads a scenario from standard input, and runs LISTS random
+//! lists of STEPS steps each, drawn from SEED. Each list has a world of its own with the scenario's
 //! experiments, which then runs to its end.
 //!
 //! Standard output has the reports of the worlds, which are the same for each list. If they are
 //! not, the program exits with status 1 and prints on standard error which list left different
 //! ones. It also prints there how many steps were performed and done. With `on` it continues after
 //! failed allocations; a line `halted` follows the report of an experiment that was halted.
-#![tactic(auto)]
 
 mod fault;
 mod guests;
@@ -18,7 +19,6 @@ use fault::Fault;
 use guests::Guest;
 use lists::{Plan, Tally, left_by};
 use std::alloc::Global;
-use std::env;
 use std::io::{self, Read, Write};
 use timer_wheel::{ListAgenda, Wheel};
 use words::task_of;
@@ -56,10 +56,9 @@ fn all(
     Ok(wanted)
 }
 
-fn main(rt: HostRuntime) -> anyhow::Result<()> {
-    let alloc = rt.alloc();
-    let words = env::args(&rt)?.collect::<Vec<String>>(alloc)?;
-    let task = task_of(words.as_slice())?;
+/// Performs the task that the arguments (the program's name and a word first) request.
+pub fn run(rt: &HostRuntime, alloc: Global, words: &[String]) -> anyhow::Result<()> {
+    let task = task_of(words)?;
     let mut text = Vec::new(alloc);
     rt.reader().read_to_end(&mut text)?;
     let mut guests = guests::guests_in(alloc, text.as_slice())?;
@@ -70,7 +69,7 @@ fn main(rt: HostRuntime) -> anyhow::Result<()> {
         seed: task.seed,
     };
     let reports = all(alloc, guests.as_mut_slice(), first, task.lists, &mut tally)?;
-    io::writer(&rt).write_all(reports.as_slice())?;
+    io::writer(rt).write_all(reports.as_slice())?;
     eprintln!(rt;
         "steps {}, of these done {}, refused {}, moves {}",
         tally.steps, tally.done, tally.refused, tally.moves

@@ -1,7 +1,7 @@
 //! Experiments in one shard: their turns, and a resident's moves.
 
-use crate::fault::Fault;
-use crate::plans::{Plan, flow_plan, train_plan};
+use super::fault::Fault;
+use super::plans::{Plan, flow_plan, train_plan};
 use emu_model::Ending;
 use shard::{Dossier, ListMail, Parcel, Polled, Shard, Turned};
 use std::alloc::Global;
