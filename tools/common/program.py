@@ -4,9 +4,24 @@ import pathlib
 import shutil
 import subprocess
 import sys
+from collections.abc import Sequence
+from typing import NamedTuple
 
 ROOT = pathlib.Path(__file__).resolve().parents[2]
 SCRIPT = ROOT / "dnlab"
+
+
+class Outcome(NamedTuple):
+    """The status and the output of a call."""
+    status: int
+    out: bytes
+    err: bytes
+
+
+def call(words: Sequence[str | bytes | os.PathLike[str]], text: bytes = b"", limit: float = 120) -> Outcome:
+    """Runs a command on a text. Raises subprocess.TimeoutExpired after `limit` seconds."""
+    done = subprocess.run(words, input=text, capture_output=True, timeout=limit, check=False)
+    return Outcome(done.returncode, done.stdout, done.stderr)
 
 
 def program(named: str | os.PathLike[str] | None = None) -> str:
