@@ -11,7 +11,7 @@ from typing import Callable, Optional, Sequence
 import crates
 import rt_ci
 import stamp
-from work import Work
+from work import Work, remove
 
 ROOT = pathlib.Path(__file__).resolve().parents[2]
 
@@ -54,11 +54,11 @@ def key_of(root: pathlib.Path, names: Sequence[str], version: Optional[str],
 def forget(room: pathlib.Path, beside: pathlib.Path, kept: int) -> None:
     """Removes the least recently used builds, except for a few and one more, and what a killed call left."""
     for it in room.glob("making-*"):
-        rt_ci.remove(it)
+        remove(it)
     found = sorted((it for it in room.iterdir() if it.is_dir() and it != beside),
                    key=lambda it: -it.stat().st_mtime)
     for it in found[kept - 1:]:
-        rt_ci.remove(it)
+        remove(it)
 
 
 def made(work: Work, crate: str, what: str, makers: Sequence[ModuleType], kept: int,
@@ -71,7 +71,8 @@ def made(work: Work, crate: str, what: str, makers: Sequence[ModuleType], kept: 
     room.mkdir(parents=True, exist_ok=True)
     build = room / key_of(ROOT, names, version, makers)
     if not is_whole(build):
-        work.lock(room / "lock")
+        (room / "lock").touch(0o600)
+        work.lock(room / "lock", "waiting for another checked build to be made")
     if not is_whole(build):
         forget(room, build, kept)
         work.told.tell(f"making the {what} build, once for these sources: the kit reads them")
@@ -83,6 +84,6 @@ def made(work: Work, crate: str, what: str, makers: Sequence[ModuleType], kept: 
             stamp.put(own / "copy", version, crate)
             make(own / "copy", own, build)
         finally:
-            rt_ci.remove(own)
+            remove(own)
     os.utime(build)
     return build

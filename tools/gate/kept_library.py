@@ -8,10 +8,9 @@ import crates
 import kit_build
 import library_build
 import module_parts
-import rt_ci
 from kit_build import Unknown
 from library_build import CRATE
-from work import Work
+from work import Work, remove
 
 ROOT = pathlib.Path(__file__).resolve().parents[2]
 PROVED = ROOT / "crates" / CRATE / "out" / "library"
@@ -34,7 +33,7 @@ def is_settled() -> bool:
 
 def note_lacking(why: str, since: int) -> None:
     """Keeps why there is no library, as old as the sources, so that a proof isn't made again for it."""
-    rt_ci.remove(PROVED)
+    remove(PROVED)
     PROVED.mkdir(parents=True)
     LACKING.write_text(f"{why}\n", encoding="utf-8")
     os.utime(LACKING, ns=(since, since))

@@ -1,4 +1,5 @@
 """Lists the third-party parts of the program and the library, with licences and checksums."""
+import contextlib
 import hashlib
 import pathlib
 import sys
@@ -45,7 +46,7 @@ def licence_in(folder: pathlib.Path) -> str:
 def kit_crates(kit: pathlib.Path, crate: str) -> list[Component]:
     """Returns the kit's crates that a crate of this repository uses."""
     folder = ROOT / "crates" / crate
-    with kit_build.in_folder(folder):
+    with contextlib.chdir(folder):
         module = kit_build.kit_module(kit)
         own = module.Crate(str(folder), module.root_above(str(folder)), {})
         words = module.kit_sources(name for it in [own, *own.below()] for name in it.of_kit)
