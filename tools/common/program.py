@@ -4,7 +4,7 @@ import pathlib
 import shutil
 import subprocess
 import sys
-from collections.abc import Sequence
+from collections.abc import Mapping, Sequence
 from typing import NamedTuple
 
 ROOT = pathlib.Path(__file__).resolve().parents[2]
@@ -18,10 +18,26 @@ class Outcome(NamedTuple):
     err: bytes
 
 
-def call(words: Sequence[str | bytes | os.PathLike[str]], text: bytes = b"", limit: float = 120) -> Outcome:
-    """Runs a command on a text. Raises subprocess.TimeoutExpired after `limit` seconds."""
-    done = subprocess.run(words, input=text, capture_output=True, timeout=limit, check=False)
+def call(words: Sequence[str | bytes | os.PathLike[str]], text: bytes = b"", limit: float = 120,
+         names: Mapping[str, str] | None = None) -> Outcome:
+    """Runs a command on a text, with these environment variables too. Raises subprocess.TimeoutExpired after
+    `limit` seconds."""
+    done = subprocess.run(words, input=text, capture_output=True, timeout=limit, check=False,
+                          env={**os.environ, **(names or {})})
     return Outcome(done.returncode, done.stdout, done.stderr)
+
+
+def make(words: Sequence[str | os.PathLike[str]], what: str) -> bool:
+    """Calls a tool that makes something of proved sources, or else of sources without a proof, and prints
+    which it was. Returns false if it can't be made."""
+    for more in "", "--unproved":
+        status, _, said = call([*words, *more.split()], limit=1800)
+        if not status:
+            print(f"{what} is of {'sources without a proof' if more else 'the proved sources'}", flush=True)
+            return True
+    print(f"{what} can't be made: {(said.decode().splitlines() or ['no reason is known'])[-1]}",
+          file=sys.stderr)
+    return False
 
 
 def program(named: str | os.PathLike[str] | None = None) -> str:

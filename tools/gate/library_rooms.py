@@ -1,18 +1,16 @@
 """What tools/gate/check_library tries of libdnlab beneath the package's module: rooms that just fit or are
-too small, which nothing may be written past, limits of steps, and allocations that are refused."""
+too small, which nothing may be written past, and allocations that are refused."""
 import ctypes
 import pathlib
 from collections.abc import Sequence
 
+from examples import Example
 from tally import Trials
 
 # As library/dnlab.h has them.
-DONE, FAULT, CLOSED, MEMORY, STEPS, ROOM = range(6)
+DONE, FAULT, CLOSED, MEMORY, _, ROOM = range(6)
 NOEND = 7
 FILL, GUARD = b"\xa5", 64
-TWO = b"experiment a seed 0 budget 1 steps 5\n@0 end\nexperiment b seed 0 budget 1 steps 6\n@0 end\n"
-# Limits of steps for these two, and the status and line of each.
-LIMITS = ((11, DONE, 0), (10, STEPS, 1), (5, STEPS, 1), (4, STEPS, 0), (0, STEPS, 0))
 LITTLE, LARGE = 5, 1 << 16
 
 
@@ -79,35 +77,28 @@ class Library:
         return status, said, is_well and self.place("close", session) == CLOSED
 
 
-def of_steps(library: Library) -> Trials:
-    """Two experiments, which may take 5 and 6 steps, within limits around their sum."""
-    for most, status, line in LIMITS:
-        answer, room = library.call("alone_within", TWO, 512, ctypes.c_uint64(most))
-        wanted = (status, 0, line, 11 if status == STEPS else answer.length)
-        yield f"a limit of {most} steps", answer.all() == wanted and (status == DONE or room == FILL * 512)
-
-
-def of_rooms(library: Library, name: str, text: bytes, call: str, report: bytes) -> Trials:
+def of_rooms(library: Library, one: Example) -> Trials:
     """A text whose report is known, in rooms around its length."""
-    answer, room = library.call(call, text, len(report))
-    yield f"{name} in a room that just fits", answer.all() == (DONE, 0, 0, len(report)) and room == report
-    answer, _ = library.call(call, text, max(len(report) - 1, 0))
-    yield f"{name} in a room that is a byte too small", not report or answer.all() == (
-        ROOM, 0, 0, len(report))
-    if call == "alone":
-        length = library.call("records", text, 0)[0].length
-        answers = [library.call("records", text, size)[0].all() for size in (length - 1, length)]
-        yield f"{name}: rooms for records", answers == [(ROOM, 0, 0, length),
-                                                        (DONE, 0, 0, length)] and length % 40 == 32
+    call, size = "check" if one.is_check else "alone", len(one.report)
+    answer, room = library.call(call, one.text, size)
+    yield f"{one.name} in a room that just fits", (answer.all(), room) == ((DONE, 0, 0, size), one.report)
+    answer, _ = library.call(call, one.text, max(size - 1, 0))
+    yield f"{one.name} in a room that is a byte too small", not size or answer.all() == (ROOM, 0, 0, size)
+    if not one.is_check:
+        length = library.call("records", one.text, 0)[0].length
+        answers = [library.call("records", one.text, it)[0].all() for it in (length - 1, length)]
+        yield f"{one.name}: rooms for records", answers == [(ROOM, 0, 0, length),
+                                                            (DONE, 0, 0, length)] and length % 40 == 32
 
 
-def of_sessions(library: Library, name: str, text: bytes, said: bytes) -> Trials:
+def of_sessions(library: Library, one: Example, said: bytes) -> Trials:
     """A text as a session, in rooms that are large enough and that are too small."""
     for size in LARGE, LITTLE:
-        yield f"{name} as a session in rooms of {size} bytes", library.talk(text, size) == (DONE, said, True)
+        yield f"{one.name} as a session in rooms of {size} bytes", library.talk(one.text,
+                                                                                size) == (DONE, said, True)
 
 
-def refused(path: pathlib.Path, name: str, text: bytes) -> Trials:
+def refused(path: pathlib.Path, one: Example) -> Trials:
     """Refuses each allocation of a call and of a session in turn: the call must report it and lose no
     memory."""
     library = Library(path)
@@ -116,9 +107,9 @@ def refused(path: pathlib.Path, name: str, text: bytes) -> Trials:
     def counted(number: int, is_session: bool) -> tuple[int, bytes, bool]:
         refused.value, asked.value, before = number, 0, held.value
         if is_session:
-            status, said, is_well = library.talk(text, LARGE)
+            status, said, is_well = library.talk(one.text, LARGE)
         else:
-            answer, room = library.call("alone", text, LARGE)
+            answer, room = library.call("alone", one.text, LARGE)
             status, said = answer.status, room[:answer.length]
             is_well = status != MEMORY or answer.all() == (MEMORY, 0, 0, 0)
         refused.value = 0
@@ -126,12 +117,12 @@ def refused(path: pathlib.Path, name: str, text: bytes) -> Trials:
 
     for is_session in False, True:
         whole, many, told = counted(0, is_session), asked.value, 0
-        yield f"{name}: memory is asked for, and given back", whole[2] and many > 0
+        yield f"{one.name}: memory is asked for, and given back", whole[2] and many > 0
         for number in range(1, many + 1):
             status, said, is_well = counted(number, is_session)
             told += status == MEMORY
             is_right = whole[1].startswith(said) if status == MEMORY else (status, said) == whole[:2]
-            yield f"{name}: allocation {number} refused, status {status}", is_well and is_right
-        print(f"{name}{' as a session' * is_session}: {many} allocations refused in turn, {told} "
+            yield f"{one.name}: allocation {number} refused, status {status}", is_well and is_right
+        print(f"{one.name}{' as a session' * is_session}: {many} allocations refused in turn, {told} "
               "times 'memory'")
-        yield f"{name}: a refusal is reported", told > 0
+        yield f"{one.name}: a refusal is reported", told > 0
