@@ -5,7 +5,7 @@ import shutil
 import subprocess
 import sys
 from collections.abc import Mapping, Sequence
-from typing import NamedTuple
+from typing import Any, NamedTuple
 
 ROOT = pathlib.Path(__file__).resolve().parents[2]
 SCRIPT = ROOT / "dnlab"
@@ -25,6 +25,18 @@ def call(words: Sequence[str | bytes | os.PathLike[str]], text: bytes = b"", lim
     done = subprocess.run(words, input=text, capture_output=True, timeout=limit, check=False,
                           env={**os.environ, **(names or {})})
     return Outcome(done.returncode, done.stdout, done.stderr)
+
+
+def outcome(words: Sequence[str | bytes | os.PathLike[str]], text: bytes, limit: float = 60,
+            **how: Any) -> Outcome | None:
+    """Runs a command on a text like subprocess.run. Returns its outcome, or None if it exceeds the limit
+    (s)."""
+    streams: dict[str, Any] = {"stdout": subprocess.PIPE, "stderr": subprocess.PIPE, **how}
+    try:
+        done = subprocess.run(words, input=text, timeout=limit, check=False, **streams)
+    except subprocess.TimeoutExpired:
+        return None
+    return Outcome(done.returncode, done.stdout or b"", done.stderr)
 
 
 def make(words: Sequence[str | os.PathLike[str]], what: str) -> bool:
