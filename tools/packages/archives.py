@@ -7,22 +7,23 @@ import pathlib
 import shutil
 import subprocess
 import tarfile
-from collections.abc import Sequence
+from collections.abc import Mapping, Sequence
 
 
 class Lacking(Exception):
     """The machine or the tree lacks something. The text is a sentence about it."""
 
 
-def run(words: Sequence[str | os.PathLike[str]], date: int, folder: pathlib.Path | None = None) -> str:
-    """Runs a packaging program, with the date for the files that it writes (seconds since 1970). Returns its
-    output."""
+def run(words: Sequence[str | os.PathLike[str]], date: int, folder: pathlib.Path | None = None,
+        more: Mapping[str, str] | None = None) -> str:
+    """Runs a packaging program, with the date for the files that it writes (seconds since 1970) and more
+    environment variables. Returns its output."""
     if shutil.which(words[0]) is None:
         raise Lacking(f"{words[0]} is not there")
     # Debian's packaging needs Debian's own Python, whatever the caller's PATH is.
     path = os.pathsep.join(["/usr/bin", os.environ.get("PATH", os.defpath)])
     names = {**os.environ, "PATH": path, "SOURCE_DATE_EPOCH": str(date), "LC_ALL": "C.UTF-8", "TZ": "UTC",
-             "PYTHONDONTWRITEBYTECODE": "1"}
+             "PYTHONDONTWRITEBYTECODE": "1", **(more or {})}
     done = subprocess.run(words, cwd=folder, env=names, stdin=subprocess.DEVNULL, stdout=subprocess.PIPE,
                           stderr=subprocess.STDOUT, text=True, check=False)
     if done.returncode:

@@ -1,11 +1,10 @@
 """Compares the files of a release with the proof in a checkout."""
 import pathlib
-import subprocess
 import sys
-import tarfile
 import zipfile
 from collections.abc import Sequence
 
+import archives
 import linking
 from archives import Lacking
 from components import sha256
@@ -14,30 +13,18 @@ from components import sha256
 def _unpacked(file: pathlib.Path, room: pathlib.Path) -> None:
     """Unpacks a Debian package, a wheel or an archive into a folder."""
     if file.name.endswith(".deb"):
-        done = subprocess.run(["dpkg-deb", "-x", str(file), str(room)], stdin=subprocess.DEVNULL,
-                              capture_output=True, text=True, check=False)
-        if done.returncode:
-            raise Lacking(f"{file}: {done.stderr.strip()[-400:]}")
+        archives.run(["dpkg-deb", "-x", file, room], 0)
     elif file.name.endswith(".whl"):
         with zipfile.ZipFile(file) as packed:
             packed.extractall(room)
     else:
-        with tarfile.open(file) as packed:
-            for member in packed.getmembers():
-                content = packed.extractfile(member) if member.isfile() and ".." not in member.name else None
-                if content is not None:
-                    path = room / member.name.lstrip("/")
-                    path.parent.mkdir(parents=True, exist_ok=True)
-                    path.write_bytes(content.read())
+        archives.run(["tar", "-xf", file, "-C", room], 0)
 
 
 def _expected(root: pathlib.Path, room: pathlib.Path) -> dict[str, list[str]]:
     """Returns the checksums that each kind of file may have, by its name. Builds the libraries and the static
     program again for this."""
-    done = subprocess.run([root / "tools" / "library", str(room / "library")], stdin=subprocess.DEVNULL,
-                          capture_output=True, text=True, check=False)
-    if done.returncode:
-        raise Lacking(f"the library can't be made again: {done.stderr.strip()[-400:]}")
+    archives.run([root / "tools" / "library", room / "library"], 0)
     linking.link_static(room / "static")
     library = room / "library" / "lib"
     return {"dnlab": [sha256(linking.OUT / "dnlab"), sha256(room / "static")],
