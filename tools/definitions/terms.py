@@ -1,8 +1,13 @@
 """The terms of a scenario's commands and of a report's lines, as emu_laws writes them."""
-import ipaddress
+import pathlib
 import re
+import sys
 from collections.abc import Callable
 from typing import NamedTuple
+
+sys.path.append(str(pathlib.Path(__file__).resolve().parents[1] / "second"))
+
+from second_text import Config, number_of  # noqa: E402  (the path is set first)
 
 REFUSALS = {10: "BadNumber", 11: "BadSkip", 12: "RulesFull", 13: "NoRule", 20: "NoSuchPipe",
             21: "MaskFixed", 22: "FlowThere", 23: "NoFlow", 24: "TooManyPipes", 25: "TooManyFlows"}
@@ -10,11 +15,6 @@ CAUSES = {"denied": "Denied", "nopipe": "NoPipe", "noinstance": "NoInstance", "l
           "full": "Full", "codel": "Codel", "deleted": "Deleted", "budget": "Budget"}
 ACTIONS = {"allow": "Allow", "deny": "Deny", "count": "Count", "skipto": "(SkipTo {})", "pipe": "(Pipe {})"}
 PROTOCOLS = {"ip": "AnyProtocol", "tcp": "OnlyTcp", "udp": "OnlyUdp"}
-SCALES = {"": 1, "K": 10**3, "M": 10**6, "G": 10**9}
-TIMES = {"": 10**6, "s": 10**9, "ms": 10**6, "us": 10**3}
-FIELDS = ("proto", "src-ip", "dst-ip", "src-port", "dst-port")
-ALL = (0xff, 2**32 - 1, 2**32 - 1, 0xffff, 0xffff)
-
 # The time of a command (ns), and its term.
 Timed = tuple[int, str]
 
@@ -27,16 +27,12 @@ class Experiment(NamedTuple):
     commands: list[Timed]
 
 
-def address(word: str) -> int:
-    return int(ipaddress.IPv4Address(word))
-
-
 def place(words: list[str]) -> str:
     """Returns the terms of a rule's prefix and ports. Like `Prefix::new`, it clears the bits after the
     length."""
     base, _, length = words[0].partition("/")
     prefix = ("anywhere" if base == "any"
-              else f"(address_span {address(base)} {int(length) if length else 32})")
+              else f"(address_span {number_of(base)} {int(length) if length else 32})")
     if len(words) == 1:
         return f"{prefix} None"
     low, _, high = words[1].partition("-")
@@ -56,27 +52,8 @@ def rule(number: int, words: list[str]) -> str:
     return f"rule {number} {action} {PROTOCOLS[words[1]]} {ends}"
 
 
-def bandwidth(word: str) -> int:
-    """Returns a rate in bit/s."""
-    number, scale, unit = re.fullmatch(r"(\d+)([KMG]?)(bit/s|Byte/s|)",
-                                       word).groups()  # type: ignore[union-attr]
-    return int(number) * SCALES[scale] * (8 if unit == "Byte/s" else 1)
-
-
-def codel_time(word: str) -> int:
-    """Returns a time in ns."""
-    number = re.match(r"\d+", word)[0]  # type: ignore[index]
-    return int(number) * TIMES[word[len(number):]]
-
-
 def queue(word: str) -> str:
     return f"({'Slots' if word.isdigit() else 'KBytes'} {int(word.rstrip('KBbytes'))})"
-
-
-def loss(word: str) -> int:
-    """Returns a loss rate in millionths."""
-    whole, _, part = word.partition(".")
-    return int(whole) * 10**6 + int((part + "000000")[:6])
 
 
 def pipe_with(bw: int, delay: int, limit: str, plr: int, mask: tuple[int, ...], discipline: str) -> str:
@@ -86,28 +63,23 @@ def pipe_with(bw: int, delay: int, limit: str, plr: int, mask: tuple[int, ...], 
 
 def config(words: list[str]) -> str:
     """Returns the term of a pipe's configuration, from its options."""
-    # Each word is a key here: options, and those of `mask` and `codel`, have different names.
-    found = dict(zip(words, [*words[1:], ""]))
-    mask = ALL if found.get("mask") == "all" else tuple(int(found.get(name, "0"), 16) for name in FIELDS)
-    codel = (
-        f"(ControlledDelay {codel_time(found.get('target', '5'))} "
-        f"{codel_time(found.get('interval', '100'))})")
-    return pipe_with(bandwidth(found.get("bw", "0")), int(found.get("delay", "0").removesuffix("ms")),
-                     queue(found.get("queue", "50")), loss(found.get("plr", "0")), mask,
-                     codel if "codel" in found else "TailDrop")
+    read = Config(words)
+    discipline = f"(ControlledDelay {read.target} {read.interval})" if read.is_codel else "TailDrop"
+    limit = f"({'KBytes' if read.kbytes else 'Slots'} {read.queue})"
+    return pipe_with(read.bw, read.delay, limit, read.plr, tuple(read.mask.values()), discipline)
 
 
 def packet(protocol: str, words: list[str]) -> str:
     source, sport, target, dport, size = words
-    return (f"packet {protocol.capitalize()} {address(source)} {int(sport)} {address(target)} "
+    return (f"packet {protocol.capitalize()} {number_of(source)} {int(sport)} {number_of(target)} "
             f"{int(dport)} {int(size)}")
 
 
 def flow(words: list[str]) -> str:
     options = dict(ssthresh="65535", window="65535", rto="1000") | dict(zip(words[8::2], words[9::2]))
     timing = "Adaptive" if options["rto"] == "adaptive" else f"(Fixed {int(options['rto'])})"
-    return (f"flow {address(words[0])} {int(words[1])} {address(words[2])} {int(words[3])} {int(words[5])}"
-            f" {int(words[7])} {int(options['ssthresh'])} {int(options['window'])} {timing}")
+    return (f"flow {number_of(words[0])} {int(words[1])} {number_of(words[2])} {int(words[3])} "
+            f"{int(words[5])} {int(words[7])} {int(options['ssthresh'])} {int(options['window'])} {timing}")
 
 
 def pipe(words: list[str]) -> str:
@@ -161,8 +133,8 @@ def made(moment: str, words: list[str], plain: str) -> str:
     """Returns the term of a line `make`, if a packet without a load has the origin `plain`."""
     term, (protocol, source, sport, target, dport, size) = load(words[1:])
     by = {"Plain": plain}.get(term, term.replace("Seg", "BySender").replace("Ack", "ByReceiver")).strip("()")
-    return (f"PacketMade {moment} {words[0]} ({by}) {protocol.capitalize()} {address(source)} {sport} "
-            f"{address(target)} {dport} {size}")
+    return (f"PacketMade {moment} {words[0]} ({by}) {protocol.capitalize()} {number_of(source)} {sport} "
+            f"{number_of(target)} {dport} {size}")
 
 
 def dropped(moment: str, words: list[str]) -> str:
