@@ -119,17 +119,20 @@ module _ {A : Type 0} (f : A → List ℕ) where
       (stops_behind a b c k l (flat_map f (take i rs)) (flat_map f (drop i rs)) g (stops_any b c l (flat_map f (drop i rs)) h))
 
 -- the rows of some records more
-pub some_rows_puts : (n : ℕ) (a b c : Option (List ℕ)) (k l m bytes : List ℕ) (rs : List Record) (i some : ℕ) → bytes ≡ flat_map (record_bytes n) (take some (drop i rs)) →
+pub some_rows_puts : (n : ℕ) (a b c : Option (List ℕ)) (k l m bytes : List ℕ) (rs left : List Record) (i some : ℕ) → left ≡ drop i rs → bytes ≡ flat_map (record_bytes n) (take some left) →
     Puts a k b l (flat_map (record_bytes n) (take i rs)) → Puts b l c m bytes → Puts a k c m (flat_map (record_bytes n) (take (i + some) rs))
-some_rows_puts n a b c k l m bytes rs i some is g h = pieces_further (record_bytes n) a b c k l m rs i some g (subst (Puts b l c m) is h)
+some_rows_puts n a b c k l m bytes rs left i some rest is g h =
+    pieces_further (record_bytes n) a b c k l m rs i some g (subst (Puts b l c m) (is ∙ ap (λ x. flat_map (record_bytes n) (take some x)) rest) h)
 
-pub some_rows_stops : (n : ℕ) (a b c : Option (List ℕ)) (k l bytes : List ℕ) (rs : List Record) (i some : ℕ) → bytes ≡ flat_map (record_bytes n) (take some (drop i rs)) →
+pub some_rows_stops : (n : ℕ) (a b c : Option (List ℕ)) (k l bytes : List ℕ) (rs left : List Record) (i some : ℕ) → left ≡ drop i rs → bytes ≡ flat_map (record_bytes n) (take some left) →
     Puts a k b l (flat_map (record_bytes n) (take i rs)) → Stops b l c bytes → Stops a k c (flat_map (record_bytes n) rs)
-some_rows_stops n a b c k l bytes rs i some is g h = pieces_amid (record_bytes n) a b c k l rs i some g (subst (Stops b l c) is h)
+some_rows_stops n a b c k l bytes rs left i some rest is g h =
+    pieces_amid (record_bytes n) a b c k l rs i some g (subst (Stops b l c) (is ∙ ap (λ x. flat_map (record_bytes n) (take some x)) rest) h)
 
-pub lines_puts : (a b c : Option (List ℕ)) (k l m : List ℕ) (rs : List Record) (i n : ℕ) →
-    Puts a k b l (flat_map line_of (take i rs)) → Puts b l c m (flat_map line_of (take n (drop i rs))) → Puts a k c m (flat_map line_of (take (i + n) rs))
-lines_puts = pieces_further line_of
+pub lines_puts : (a b c : Option (List ℕ)) (k l m : List ℕ) (rs left : List Record) (i n : ℕ) → left ≡ drop i rs →
+    Puts a k b l (flat_map line_of (take i rs)) → Puts b l c m (flat_map line_of (take n left)) → Puts a k c m (flat_map line_of (take (i + n) rs))
+lines_puts a b c k l m rs left i n rest g h =
+    pieces_further line_of a b c k l m rs i n g (subst (λ x. Puts b l c m (flat_map line_of (take n x))) rest h)
 
 pub lines_stops : (a b c : Option (List ℕ)) (k l : List ℕ) (rs : List Record) (i : ℕ) →
     Puts a k b l (flat_map line_of (take i rs)) → Stops b l c [] → Stops a k c (flat_map line_of rs)

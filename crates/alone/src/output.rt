@@ -8,7 +8,7 @@ ghost use Rattle.alone.specs.Bytes.{Puts, Stops};
 
 use crate::ends::{Failed, Outlet, flush_all, write_all};
 use experiment::{Report, count_rows};
-use report::{Archive, Moments, ROW, Source, npy_header, put_counters, put_rows, write_some};
+use report::{Archive, Moments, ROW, Reader, npy_header, put_counters, put_rows, write_some};
 use std::alloc::{AllocError, Global};
 use std::marker::Model;
 
@@ -147,27 +147,28 @@ impl Buffer {
             (flat_map line_of records.now)) }
         ensures failed { OnErr result (W.failed writer.new ≡ true) }
     {
+        let mut reader = records.reader();
         let mut done = 0;
         while done < records.len() {
-            done += self.put_some(writer, moments, records, done)?;
+            done += self.put_some(writer, moments, &mut reader)?;
         }
         Ok(())
     }
 
-    // Appends the lines of some records, beginning at `from`, and returns their number.
-    #[tactic(auto, using(crate::proofs::Writing::puts_next, crate::proofs::Writing::puts_kept_as, crate::proofs::Writing::puts_none, crate::proofs::Writing::stops_any))]
+    // Appends the lines of the next records, and returns their number.
+    #[tactic(auto, using(report::proofs::Taken::some_read, crate::proofs::Writing::puts_next, crate::proofs::Writing::puts_kept_as, crate::proofs::Writing::puts_none, crate::proofs::Writing::stops_any))]
     fn put_some<W: Outlet>(
         &mut self,
         writer: &mut W,
         moments: &mut Moments,
-        records: &Archive,
-        from: usize,
+        records: &mut Reader<'_>,
     ) -> Result<usize, Failed>
-        requires { from < length records.now }
-        ensures count { IfOk result (λ n. (0 < n) × (from + n ≤ length records.now)) }
+        requires { 0 < length records.old }
+        ensures count { IfOk result (λ n. (0 < n) × (n ≤ length records.old)) }
+        ensures left { IfOk result (λ n. records.new ≡ drop n records.old) }
         ensures ok { IfOk result (λ n.
             Puts (W.contents writer.old) self.old (W.contents writer.new) self.new
-            (flat_map line_of (take n (drop from records.now)))) }
+            (flat_map line_of (take n records.old))) }
         ensures cut { OnErr result
             (Stops (W.contents writer.old) self.old (W.contents writer.new) []) }
         ensures failed { OnErr result (W.failed writer.new ≡ true) }
@@ -175,7 +176,7 @@ impl Buffer {
         if self.kept.len() > CAPACITY - PAGE {
             self.hand_on(writer)?;
         }
-        let Ok(count) = write_some(&mut self.kept, moments, records, from) else {
+        let Ok(count) = write_some(&mut self.kept, moments, records) else {
             unreachable!()
         };
         Ok(count)
@@ -270,9 +271,10 @@ impl Buffer {
             (flat_map (record_bytes number) records.now)) }
         ensures failed { OnErr result (W.failed writer.new ≡ true) }
     {
+        let mut reader = records.reader();
         let mut done = 0;
         while done < records.len() {
-            let count = put_rows(page, records, done, number);
+            let count = put_rows(page, &mut reader, number);
             self.put(writer, &page[..count * ROW])?;
             done += count;
         }

@@ -108,9 +108,6 @@ impl Mail for RingMail {
     }
 
     fn kept_record(&self, place: usize) -> Option<Record> {
-        if place < self.kept.len() {
-            return Some(self.kept.record(place));
-        }
-        None
+        self.kept.record(place)
     }
 }

@@ -189,7 +189,7 @@ impl Report {
         let mut text = Vec::new(alloc);
         let mut moments = Moments::new();
         text.extend_from_slice(self.heading.as_slice())?;
-        write_source(&mut text, &mut moments, &self.archive)?;
+        write_source(&mut text, &mut moments, &mut self.archive.reader())?;
         text.extend_from_slice(self.last.as_slice())?;
         Ok(text)
     }

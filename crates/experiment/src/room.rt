@@ -8,7 +8,7 @@ ghost use Rattle.experiment.specs.Written.{npy_of, rows_from, text_of, texts_of}
 
 use crate::keeper::Report;
 use crate::rows::count_rows;
-use report::{Archive, Moments, ROW, Source, npy_header, put_counters, put_rows, write_some};
+use report::{Archive, Moments, ROW, Reader, npy_header, put_counters, put_rows, write_some};
 use std::alloc::{AllocError, Global};
 
 /// The size (bytes) of the page on which rows are built.
@@ -30,23 +30,24 @@ fn put_bytes(room: &mut [u8], at: usize, bytes: &[u8]) -> Result<usize, AllocErr
     Ok(end)
 }
 
-// Writes the lines of some records, built on a sheet, and returns their number and their end.
+// Writes the lines of the next records, built on a sheet, and returns their number and their end.
+#[tactic(auto, using(report::proofs::Taken::some_read))]
 fn put_some(
     room: &mut [u8],
     at: usize,
     sheet: &mut Vec<u8>,
     moments: &mut Moments,
-    records: &Archive,
-    from: usize,
+    records: &mut Reader<'_>,
 ) -> Result<(usize, usize), AllocError>
-    requires { from < length records.now }
-    ensures count { IfOk result (λ r. (0 < r.0) × (from + r.0 ≤ length records.now)) }
+    requires { 0 < length records.old }
+    ensures count { IfOk result (λ r. (0 < r.0) × (r.0 ≤ length records.old)) }
+    ensures left { IfOk result (λ r. records.new ≡ drop r.0 records.old) }
     ensures put { IfOk result (λ r.
-        IsPutAt (flat_map line_of (take r.0 (drop from records.now))) at room.old room.new r.1) }
+        IsPutAt (flat_map line_of (take r.0 records.old)) at room.old room.new r.1) }
     ensures room { length room.new ≡ length room.old }
 {
     sheet.clear();
-    let count = write_some(sheet, moments, records, from)?;
+    let count = write_some(sheet, moments, records)?;
     let end = put_bytes(room, at, sheet.as_slice())?;
     Ok((count, end))
 }
@@ -63,10 +64,11 @@ fn put_lines(
     ensures put { IfOk result (IsPutAt (flat_map line_of records.now) at room.old room.new) }
     ensures room { length room.new ≡ length room.old }
 {
+    let mut reader = records.reader();
     let mut done = 0;
     let mut end = at;
     while done < records.len() {
-        let (count, next) = put_some(room, end, sheet, moments, records, done)?;
+        let (count, next) = put_some(room, end, sheet, moments, &mut reader)?;
         done += count;
         end = next;
     }
@@ -125,10 +127,11 @@ fn put_record_rows(
         (IsPutAt (flat_map (record_bytes number) records.now) at room.old room.new) }
     ensures room { length room.new ≡ length room.old }
 {
+    let mut reader = records.reader();
     let mut done = 0;
     let mut end = at;
     while done < records.len() {
-        let count = put_rows(page, records, done, number);
+        let count = put_rows(page, &mut reader, number);
         end = put_bytes(room, end, &page[..count * ROW])?;
         done += count;
     }

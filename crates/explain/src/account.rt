@@ -102,12 +102,10 @@ impl Account {
             (self.new.notes ≡ self.old.notes ++ notes_of experiment records.now) }
     {
         let mut notes = Vec::new(self.alloc);
-        let mut done = 0;
-        while done < records.len() {
-            let entry = records.record(done);
+        let mut reader = records.reader();
+        while let Some(entry) = reader.next() {
             add_refusal(&mut self.refusals, experiment, &entry)?;
             count_record(&mut notes, experiment, &entry)?;
-            done += 1;
         }
         self.notes.extend_from_slice(notes.as_slice())
     }

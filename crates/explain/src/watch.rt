@@ -261,10 +261,9 @@ pub fn watch_flows(
         ≡ watched commands.now n records.now None) }
 {
     let mut watches = Vec::new(alloc);
-    let mut done = 0;
-    while done < records.len() {
-        put_record(&mut watches, commands, &records.record(done))?;
-        done += 1;
+    let mut reader = records.reader();
+    while let Some(entry) = reader.next() {
+        put_record(&mut watches, commands, &entry)?;
     }
     Ok(watches)
 }

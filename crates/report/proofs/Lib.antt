@@ -9,5 +9,7 @@ pub mod Taken
 pub mod Equalities
 mod Packing
 mod WholeRecords
+mod NextWords
+mod Places
 pub mod RowLengths
 pub mod Orders

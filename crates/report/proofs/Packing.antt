@@ -2,7 +2,7 @@
 use Rattle.std.proofs.Common.{◌≡◌, ℕ, ◌+◌, ◌*◌, ◌/◌, ◌%◌, ◌^◌, ◌<◌, arith, ap, ◌∙◌, refl}
 use Rattle.report.specs.Archive.{kind_at, rank, words_of, parts_in}
 use Rattle.report.specs.declared.packed.Kind.{Kind}
-use Rattle.report.specs.declared.packed.Kind.TheVariants.{Whole, Done, Arrived, Finished, Delivered, Segment, Acknowledged, Passed, Dropped, Window, Expired, Made}
+use Rattle.report.specs.declared.packed.Kind.TheVariants.{Whole, Done, Arrived, Finished, Delivered, Segment, Acknowledged, Passed, Dropped, Window, Expired, Made, Entered}
 use Rattle.report.specs.declared.packed.Parts.{Parts}
 
 -- parts below one another
@@ -35,6 +35,7 @@ kind_ranked Dropped = refl
 kind_ranked Window = refl
 kind_ranked Expired = refl
 kind_ranked Made = refl
+kind_ranked Entered = refl
 
 rank_few : (k : Kind) → rank k < 2 ^ 4
 rank_few Whole = omega arith
@@ -49,6 +50,7 @@ rank_few Dropped = omega arith
 rank_few Window = omega arith
 rank_few Expired = omega arith
 rank_few Made = omega arith
+rank_few Entered = omega arith
 
 pub packed : (x : Parts) → x.tag < 2 ^ 16 → x.packet < 2 ^ 26 → parts_in (words_of x) ≡ x
 packed x tag packet =

@@ -1,20 +1,15 @@
 //! The records of an experiment in sixteen bytes each, until its report is written (our choice).
 
-ghost use Rattle.std.specs.Prelude.{◌≡◌, ◌+◌, ◌-◌, ◌^◌, ◌<◌, ◌≤◌, ◌∷◌, ◌++◌, [], drop, false, length, map, slice_index_or, take, vec_len, vec_capacity, ℕ, List, IfSome, IsTrue, OnOk, OnErr};
-ghost use Rattle.std.specs.List.{All};
-ghost use Rattle.report.specs.Archive.{entry_of, IsEntry};
-ghost use Rattle.report.specs.Orders.{AreRuns, in_order};
+ghost use Rattle.std.specs.Prelude.{◌≡◌, ◌+◌, ◌-◌, ◌<◌, ◌≤◌, ◌∷◌, ◌++◌, [], drop, false, length, slice_get, take, true, vec_len, vec_capacity, IfOk, IfSome, IsTrue, OnOk, OnErr};
+ghost use Rattle.std.specs.List.{All, flat_map};
+ghost use Rattle.report.specs.Archive.{entries_of, IsEntry, Stay};
+ghost use Rattle.report.specs.Orders.{IsRun, in_order};
 ghost use Rattle.report.specs.Room.{spare};
-ghost use Rattle.report.specs.Rows.{record_bytes};
-ghost use Rattle.emu_model.specs.declared.records.Record.{Record};
-ghost use Rattle.emu_model.specs.declared.records.Record.TheVariants.{StepsSpent};
 
-use crate::clock::Clock;
-use crate::events::put_parts;
-use crate::made::{Firsts, made_as};
-use crate::packed::{Kind, Packed, Parts, pack, parts_of, place_mark, record_of, unpack};
-use crate::rows::{self, put_made, put_whole};
-use crate::source::Source;
+use crate::made::Firsts;
+use crate::packed::{Kind, Packed, pack, parts_of, place_mark, unpack};
+use crate::reader::{Reader, nth, record_at};
+use crate::stretches::Stretches;
 use emu_model::Record;
 use std::alloc::{AllocError, Global};
 use std::marker::Model;
@@ -26,24 +21,17 @@ pub struct Archive {
     // The records that don't fit into a word, or that are rare, and the first of each source's packets.
     others: Vec<Record>,
     firsts: Firsts,
-    order: Order,
-    listings: Listings,
-}
-
-// The order of the records: those of the runs, `closed` in all, and then those from the word `tail`
-// on.
-#[derive(Drop)]
-struct Order {
+    // The order of the words: those of the runs, and then those from `tail` on.
     runs: Vec<Run>,
-    closed: usize,
     tail: usize,
+    listings: Listings,
+    // The number of records.
+    count: usize,
 }
 
-/// A run of records: the number of records before it, the place of its first word, and the place
-/// after its last one.
+/// A run of words: the place of its first one, and the place after its last one.
 #[derive(Clone, Copy)]
 pub(crate) struct Run {
-    pub(crate) first: usize,
     pub(crate) from: usize,
     pub(crate) end: usize,
 }
@@ -76,21 +64,22 @@ impl Listings {
 }
 
 impl Model for Archive {
-    ghost use Rattle.std.specs.Prelude.{List, ◌+◌, ◌-◌, ◌<◌, ◌≤◌, ◌^◌, length, map};
-    ghost use Rattle.std.specs.List.{All};
+    ghost use Rattle.std.specs.Prelude.{◌≡◌, List, ◌≤◌, length};
+    ghost use Rattle.std.specs.List.{All, flat_map};
     ghost use Rattle.emu_model.specs.declared.records.Record.{Record};
-    ghost use Rattle.report.specs.Archive.{entry_of, IsEntry};
-    ghost use Rattle.report.specs.Orders.{AreRuns, in_order};
+    ghost use Rattle.report.specs.Archive.{entries_of, IsEntry};
+    ghost use Rattle.report.specs.Orders.{IsRun, in_order};
 
     ghost Value = { List Record };
 
-    ghost view = { λ a. in_order a.order.runs.items a.order.tail
-        (map (entry_of a.others.items) a.words.items) };
+    ghost view = { λ a. flat_map (entries_of a.others.items)
+        (in_order a.runs.items a.tail a.words.items) };
 
     ghost invariant = { λ a. All (IsEntry a.others.items) a.words.items
-        × (a.order.tail ≤ length a.words.items)
-        × AreRuns a.order.tail 0 a.order.closed a.order.runs.items
-        × (a.order.closed + (length a.words.items - a.order.tail) < 2 ^ 64) };
+        × (a.tail ≤ length a.words.items)
+        × All (IsRun a.tail) a.runs.items
+        × (a.count ≡ length (flat_map (entries_of a.others.items)
+        (in_order a.runs.items a.tail a.words.items))) };
 }
 
 // Returns true if a record is a line of a listing.
@@ -104,7 +93,7 @@ fn is_listed(entry: &Record) -> bool {
 // Returns the word at a place, if it refers to a whole record that is equal to this one.
 fn same_at(words: &[Packed], others: &[Record], place: usize, entry: &Record) -> Option<Packed>
     requires sound { All (IsEntry others.now) words.now }
-    ensures same { IfSome result (λ w. entry_of others.now w ≡ entry.now) }
+    ensures same { IfSome result (λ w. entries_of others.now w ≡ entry.now ∷ []) }
     ensures stands { IfSome result (IsEntry others.now) }
 {
     let word = *words.get(place)?;
@@ -117,35 +106,7 @@ fn same_at(words: &[Packed], others: &[Record], place: usize, entry: &Record) ->
     Some(word)
 }
 
-// Appends a record, for whose word there must be room. After `AllocError` nothing has changed.
-#[tactic(auto, unfolding(crate::specs::Room::spare))]
-#[inline(always)]
-fn note(
-    words: &mut Vec<Packed>,
-    others: &mut Vec<Record>,
-    firsts: &mut Firsts,
-    listings: &mut Listings,
-    entry: &Record,
-) -> Result<(), AllocError>
-    requires room { vec_len words.old < vec_capacity words.old }
-    requires sound { All (IsEntry others.old.items) words.old.items }
-    ensures ok { OnOk result (map (entry_of others.new.items) words.new.items
-        ≡ map (entry_of others.old.items) words.old.items ++ entry.now ∷ []) }
-    ensures err { OnErr result
-        ((words.new.items ≡ words.old.items) × (others.new.items ≡ others.old.items)) }
-    ensures sound { All (IsEntry others.new.items) words.new.items }
-    ensures room { spare words.old ≤ spare words.new + 1 }
-{
-    if let Some(parts) = parts_of(entry) {
-        if let Some(word) = pack(parts) {
-            words.push_reserved(word);
-            return Ok(());
-        }
-    }
-    note_rare(words, others, firsts, listings, entry)
-}
-
-// Appends a record like `note`, by its difference from another one or as a whole.
+// Appends a record like `note`, as the line of a listing before or as a whole.
 #[tactic(auto, unfolding(crate::specs::Room::spare))]
 #[inline(never)]
 fn note_rare(
@@ -157,10 +118,10 @@ fn note_rare(
 ) -> Result<(), AllocError>
     requires room { vec_len words.old < vec_capacity words.old }
     requires sound { All (IsEntry others.old.items) words.old.items }
-    ensures ok { OnOk result (map (entry_of others.new.items) words.new.items
-        ≡ map (entry_of others.old.items) words.old.items ++ entry.now ∷ []) }
-    ensures err { OnErr result
-        ((words.new.items ≡ words.old.items) × (others.new.items ≡ others.old.items)) }
+    ensures ok { OnOk result (flat_map (entries_of others.new.items) words.new.items
+        ≡ flat_map (entries_of others.old.items) words.old.items ++ entry.now ∷ []) }
+    ensures stay { Stay others.old.items others.new.items }
+    ensures kept { take (length words.old.items) words.new.items ≡ words.old.items }
     ensures sound { All (IsEntry others.new.items) words.new.items }
     ensures room { spare words.old ≤ spare words.new + 1 }
 {
@@ -175,14 +136,135 @@ fn note_rare(
             return Ok(());
         }
     }
+    store(words, others, firsts, entry)
+}
+
+// Appends a record as a whole, for whose word there must be room, and registers it for the next
+// packets of its source.
+#[tactic(auto, unfolding(crate::specs::Room::spare))]
+#[inline(never)]
+fn store(
+    words: &mut Vec<Packed>,
+    others: &mut Vec<Record>,
+    firsts: &mut Firsts,
+    entry: &Record,
+) -> Result<(), AllocError>
+    requires room { vec_len words.old < vec_capacity words.old }
+    requires sound { All (IsEntry others.old.items) words.old.items }
+    ensures ok { OnOk result (flat_map (entries_of others.new.items) words.new.items
+        ≡ flat_map (entries_of others.old.items) words.old.items ++ entry.now ∷ []) }
+    ensures stay { Stay others.old.items others.new.items }
+    ensures kept { take (length words.old.items) words.new.items ≡ words.old.items }
+    ensures sound { All (IsEntry others.new.items) words.new.items }
+    ensures room { spare words.old ≤ spare words.new + 1 }
+{
     others.reserve(1)?;
-    firsts.register(entry, others.len());
-    words.push_reserved(place_mark(others.len()));
+    // By the slice the kit learns of which types a record is.
+    let place = others.as_slice().len();
+    firsts.register(entry, place);
+    words.push_reserved(place_mark(place));
     others.push_reserved(*entry);
     Ok(())
 }
 
-// Appends records, for whose words there must be room. After `AllocError` a prefix of them has been
+// Appends two records as wholes, for whose words there must be room.
+#[tactic(auto, unfolding(crate::specs::Room::spare))]
+#[inline(never)]
+fn note_two(
+    words: &mut Vec<Packed>,
+    others: &mut Vec<Record>,
+    firsts: &mut Firsts,
+    entry: &Record,
+    next: &Record,
+) -> Result<(), AllocError>
+    requires room { vec_len words.old + 1 < vec_capacity words.old }
+    requires sound { All (IsEntry others.old.items) words.old.items }
+    ensures ok { OnOk result (flat_map (entries_of others.new.items) words.new.items
+        ≡ flat_map (entries_of others.old.items) words.old.items ++ entry.now ∷ next.now ∷ []) }
+    ensures stay { Stay others.old.items others.new.items }
+    ensures kept { take (length words.old.items) words.new.items ≡ words.old.items }
+    ensures sound { All (IsEntry others.new.items) words.new.items }
+    ensures room { spare words.old ≤ spare words.new + 2 }
+{
+    store(words, others, firsts, entry)?;
+    store(words, others, firsts, next)
+}
+
+// Appends a packet's creation and its arrival, the next record, in two words. Returns false and does
+// nothing if they are to be appended one by one.
+#[tactic(auto, unfolding(crate::specs::Room::spare))]
+#[inline(always)]
+fn note_pair(
+    words: &mut Vec<Packed>,
+    others: &mut Vec<Record>,
+    firsts: &mut Firsts,
+    entry: &Record,
+    next: &Record,
+) -> Result<bool, AllocError>
+    requires room { vec_len words.old + 1 < vec_capacity words.old }
+    requires sound { All (IsEntry others.old.items) words.old.items }
+    ensures ok { IfOk result (λ paired. paired ≡ true →
+        flat_map (entries_of others.new.items) words.new.items
+        ≡ flat_map (entries_of others.old.items) words.old.items ++ entry.now ∷ next.now ∷ []) }
+    ensures left { IfOk result (λ paired. paired ≡ false →
+        (words.new ≡ words.old) × (others.new ≡ others.old)) }
+    ensures stay { Stay others.old.items others.new.items }
+    ensures kept { take (length words.old.items) words.new.items ≡ words.old.items }
+    ensures sound { All (IsEntry others.new.items) words.new.items }
+    ensures room { spare words.old ≤ spare words.new + 2 }
+{
+    if let Some(word) = firsts.pair_of(others.as_slice(), entry, next) {
+        words.push_reserved(word);
+        return Ok(true);
+    }
+    if firsts.wants_pair(others.as_slice(), entry, next) {
+        note_two(words, others, firsts, entry, next)?;
+        return Ok(true);
+    }
+    Ok(false)
+}
+
+// Appends the record at a place, and perhaps the one behind it, for whose words there must be room.
+// Returns their number.
+#[tactic(auto, unfolding(crate::specs::Room::spare))]
+#[inline(always)]
+fn note(
+    words: &mut Vec<Packed>,
+    others: &mut Vec<Record>,
+    firsts: &mut Firsts,
+    listings: &mut Listings,
+    records: &[Record],
+    place: usize,
+) -> Result<usize, AllocError>
+    requires inside { place < length records.now }
+    requires room { length records.now - place ≤ spare words.old }
+    requires sound { All (IsEntry others.old.items) words.old.items }
+    ensures count { IfOk result (λ n. (0 < n) × (place + n ≤ length records.now)) }
+    ensures ok { IfOk result (λ n. flat_map (entries_of others.new.items) words.new.items
+        ≡ flat_map (entries_of others.old.items) words.old.items
+        ++ take n (drop place records.now)) }
+    ensures stay { Stay others.old.items others.new.items }
+    ensures kept { take (length words.old.items) words.new.items ≡ words.old.items }
+    ensures sound { All (IsEntry others.new.items) words.new.items }
+    ensures room { IfOk result (λ n. spare words.old ≤ spare words.new + n) }
+{
+    let entry = &records[place];
+    if let Some(parts) = parts_of(entry) {
+        if let Some(word) = pack(parts) {
+            words.push_reserved(word);
+            return Ok(1);
+        }
+    }
+    if let Some(next) = records.get(place + 1) {
+        if note_pair(words, others, firsts, entry, next)? {
+            return Ok(2);
+        }
+    }
+    note_rare(words, others, firsts, listings, entry)?;
+    Ok(1)
+}
+
+// Appends records, for whose words there must be room. After `AllocError` some of them have been
 // appended.
 #[tactic(auto, unfolding(crate::specs::Room::spare))]
 fn note_all(
@@ -194,16 +276,15 @@ fn note_all(
 ) -> Result<(), AllocError>
     requires room { length records.now ≤ spare words.old }
     requires sound { All (IsEntry others.old.items) words.old.items }
-    ensures ok { OnOk result (map (entry_of others.new.items) words.new.items
-        ≡ map (entry_of others.old.items) words.old.items ++ records.now) }
-    ensures err { OnErr result ((k : ℕ) × (map (entry_of others.new.items) words.new.items
-        ≡ map (entry_of others.old.items) words.old.items ++ take k records.now)) }
+    ensures ok { OnOk result (flat_map (entries_of others.new.items) words.new.items
+        ≡ flat_map (entries_of others.old.items) words.old.items ++ records.now) }
+    ensures stay { Stay others.old.items others.new.items }
+    ensures kept { take (length words.old.items) words.new.items ≡ words.old.items }
     ensures sound { All (IsEntry others.new.items) words.new.items }
 {
     let mut done = 0;
     while done < records.len() {
-        note(words, others, firsts, listings, &records[done])?;
-        done += 1;
+        done += note(words, others, firsts, listings, records, done)?;
     }
     Ok(())
 }
@@ -225,105 +306,45 @@ fn same_words(words: &[Packed], before: usize, last: usize, size: usize) -> bool
     true
 }
 
-// Returns the run that contains the record at a place.
-fn run_at(runs: &[Run], closed: usize, tail: usize, place: usize) -> Run
-    requires runs { AreRuns tail 0 closed runs.now }
-    requires place { place < closed }
-    ensures { (k : ℕ) × (k < length runs.now) × (result ≡ slice_index_or runs.now k result)
-        × (result.first ≤ place) × (place < result.first + (result.end - result.from)) }
-{
-    let mut low = 0;
-    let mut high = runs.len();
-    while high - low > 1 {
-        let middle = low + (high - low) / 2;
-        if runs[middle].first <= place {
-            low = middle;
-        } else {
-            high = middle;
-        }
-    }
-    runs[low]
-}
-
-// Returns the place of the word of a record. There are `stored` words.
-#[inline(always)]
-fn word_of(order: &Order, stored: usize, place: usize) -> usize
-    requires runs { AreRuns order.now.tail 0 order.now.closed order.now.runs.items }
-    requires inside { place < order.now.closed + (stored - order.now.tail) }
-    requires few { (order.now.tail ≤ stored)
-        × (order.now.closed + (stored - order.now.tail) < 2 ^ 64) }
-    ensures inside { result < stored }
-    ensures is { (es : List Record) → length es ≡ stored →
-        slice_index_or es result (StepsSpent 0)
-        ≡ slice_index_or (in_order order.now.runs.items order.now.tail es) place (StepsSpent 0) }
-{
-    if place >= order.closed {
-        return order.tail + (place - order.closed);
-    }
-    let run = run_at(order.runs.as_slice(), order.closed, order.tail, place);
-    run.from + (place - run.first)
-}
-
-// Returns the word of a record.
-#[inline(always)]
-fn word_at(words: &[Packed], order: &Order, place: usize) -> Packed
-    requires runs { AreRuns order.now.tail 0 order.now.closed order.now.runs.items }
-    requires few { (order.now.tail ≤ length words.now)
-        × (order.now.closed + (length words.now - order.now.tail) < 2 ^ 64) }
-    requires inside { place < order.now.closed + (length words.now - order.now.tail) }
-    ensures { (os : List Record) → All (IsEntry os) words.now → IsEntry os result
-        × (entry_of os result
-        ≡ slice_index_or (in_order order.now.runs.items order.now.tail
-        (map (entry_of os) words.now)) place (StepsSpent 0)) }
-{
-    words[word_of(order, words.len(), place)]
-}
-
 // Stores the last listing as a run of the words of the listing before it, if both are equal and it
-// ends the archive. There must be room for two runs.
-fn fold(words: &mut Vec<Packed>, order: &mut Order, listings: &mut Listings)
-    requires room { vec_len order.old.runs + 2 ≤ vec_capacity order.old.runs }
-    requires runs { AreRuns order.old.tail 0 order.old.closed order.old.runs.items }
-    requires few { (order.old.tail ≤ length words.old.items)
-        × (order.old.closed + (length words.old.items - order.old.tail) < 2 ^ 64) }
-    ensures order { (entry : Packed → Record) →
-        in_order order.new.runs.items order.new.tail (map entry words.new.items)
-        ≡ in_order order.old.runs.items order.old.tail (map entry words.old.items) }
-    ensures runs { AreRuns order.new.tail 0 order.new.closed order.new.runs.items }
-    ensures few { (order.new.tail ≤ length words.new.items)
-        × (order.new.closed + (length words.new.items - order.new.tail) < 2 ^ 64) }
+// ends the archive. There must be room for two runs. Returns the place of the first word that is in
+// no run.
+fn fold(words: &mut Vec<Packed>, runs: &mut Vec<Run>, tail: usize, listings: &mut Listings) -> usize
+    requires room { vec_len runs.old + 2 ≤ vec_capacity runs.old }
+    requires runs { All (IsRun tail) runs.old.items }
+    requires few { tail ≤ length words.old.items }
+    ensures order { in_order runs.new.items result words.new.items
+        ≡ in_order runs.old.items tail words.old.items }
+    ensures runs { All (IsRun result) runs.new.items }
+    ensures few { result ≤ length words.new.items }
     ensures words { words.new.items ≡ take (length words.new.items) words.old.items }
 {
     let Listings { before, last, end } = *listings;
-    if end != words.len() || last < order.tail || last <= before || end <= last {
-        return;
+    if end != words.len() || last < tail || last <= before || end <= last {
+        return tail;
     }
     let size = end - last;
     if size < LONG || last - before < size {
-        return;
+        return tail;
     }
     if !same_words(words.as_slice(), before, last, size) {
-        return;
+        return tail;
     }
-    let behind = order.closed + (last - order.tail);
-    order.runs.push_reserved(Run {
-        first: order.closed,
-        from: order.tail,
+    runs.push_reserved(Run {
+        from: tail,
         end: last,
     });
-    order.runs.push_reserved(Run {
-        first: behind,
+    runs.push_reserved(Run {
         from: before,
         end: before + size,
     });
     words.truncate(last);
-    order.closed = behind + size;
-    order.tail = last;
     *listings = Listings {
         before,
         last: before,
         end: usize::MAX,
     };
+    last
 }
 
 impl Archive {
@@ -335,16 +356,14 @@ impl Archive {
             words: Vec::new(alloc),
             others: Vec::new(alloc),
             firsts: Firsts::new(alloc),
-            order: Order {
-                runs: Vec::new(alloc),
-                closed: 0,
-                tail: 0,
-            },
+            runs: Vec::new(alloc),
+            tail: 0,
             listings: Listings {
                 before: 0,
                 last: 0,
                 end: 0,
             },
+            count: 0,
         }
     }
 
@@ -355,14 +374,13 @@ impl Archive {
         ensures ok { OnOk result (self.new ≡ self.old ++ records.now) }
         ensures err { OnErr result (self.new ≡ self.old) }
     {
-        self.words.reserve(records.len())?;
-        self.order.runs.reserve(2)?;
-        let before = self.words.as_slice().len();
         // No experiment makes 2^64 records, but no contract says so.
-        let room = usize::MAX - (before - self.order.tail);
-        if self.order.closed > room || records.len() > room - self.order.closed {
+        let Some(count) = self.count.checked_add(records.len()) else {
             return Err(AllocError);
-        }
+        };
+        self.words.reserve(records.len())?;
+        self.runs.reserve(2)?;
+        let before = self.words.as_slice().len();
         let Ok(()) = note_all(
             &mut self.words,
             &mut self.others,
@@ -373,58 +391,45 @@ impl Archive {
             self.words.truncate(before);
             return Err(AllocError);
         };
-        fold(&mut self.words, &mut self.order, &mut self.listings);
+        self.tail = fold(
+            &mut self.words,
+            &mut self.runs,
+            self.tail,
+            &mut self.listings,
+        );
+        self.count = count;
         Ok(())
     }
-}
 
-impl Archive {
-    /// Writes the row of the record at a place. A common record is written where it is found, by one
-    /// choice among all kinds.
+    /// Returns the number of records.
     #[inline(always)]
-    pub(crate) fn put_row(&self, page: &mut [u8], at: usize, experiment: u8, place: usize)
-        requires room { at + 40 ≤ length page.old }
-        requires inside { place < length self.now }
-        ensures { let entry = slice_index_or self.now place (StepsSpent 0) in
-            take (at + 40) page.new ≡ take at page.old ++ record_bytes experiment entry }
+    pub fn len(&self) -> usize
+        ensures { result ≡ length self.now }
     {
-        let word = word_at(self.words.as_slice(), &self.order, place);
-        let parts = unpack(word);
-        if rows::put_parts(page, at, experiment, parts) {
-            return;
-        }
-        match parts.kind {
-            Kind::Made => {
-                let first = &self.others[usize::from(parts.tag)];
-                put_made(page, at, experiment, first, parts);
-            }
-            _ => put_whole(page, at, experiment, &self.others[word.high as usize]),
-        }
-    }
-}
-
-impl Source for Archive {
-    ghost list = { λ a. a };
-
-    #[inline(always)]
-    fn len(&self) -> usize {
-        self.order.closed + (self.words.len() - self.order.tail)
+        self.count
     }
 
-    #[inline(always)]
-    fn record(&self, place: usize) -> Record {
-        let word = word_at(self.words.as_slice(), &self.order, place);
-        let parts = unpack(word);
-        match parts.kind {
-            Kind::Whole => self.others[word.high as usize],
-            Kind::Made => made_as(&self.others[usize::from(parts.tag)], parts),
-            _ => record_of(parts),
+    /// Returns the record at a place, or `None` if there is none. If words have two records, or
+    /// listings are stored as runs, all records before it are read.
+    pub fn record(&self, place: usize) -> Option<Record>
+        ensures { result ≡ slice_get self.now place }
+    {
+        if place >= self.count {
+            return None;
         }
+        if self.count != self.words.as_slice().len() || self.tail != 0 {
+            let words = Stretches::new(self.words.as_slice(), self.runs.as_slice(), self.tail);
+            return nth(self.others.as_slice(), words, place);
+        }
+        let word = self.words[place];
+        Some(record_at(self.others.as_slice(), word, unpack(word)))
     }
 
-    #[inline(always)]
-    fn put(&self, clock: &mut Clock, text: &mut [u8], at: usize, place: usize) -> Option<usize> {
-        let word = word_at(self.words.as_slice(), &self.order, place);
-        put_parts::<Archive>(clock, text, at, unpack(word))
+    /// Returns the records, to be read one after the other.
+    pub fn reader(&self) -> Reader<'_>
+        ensures { result ≡ self.now }
+    {
+        let words = Stretches::new(self.words.as_slice(), self.runs.as_slice(), self.tail);
+        Reader::new(self.others.as_slice(), words)
     }
 }

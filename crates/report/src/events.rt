@@ -176,7 +176,7 @@ pub(crate) fn put_parts<S>(
         number,
     } = parts;
     let end = match kind {
-        Kind::Whole | Kind::Made => return None,
+        Kind::Whole | Kind::Made | Kind::Entered => return None,
         Kind::Finished => {
             let (pipe, instance) = (pipe_of(tag), number as u8);
             put_at_instance(

@@ -1,13 +1,15 @@
 //! Packets that were created, each stored by its difference from an earlier one of the same source
 //! (our choice).
 
-ghost use Rattle.std.specs.Prelude.{◌≡◌, ◌^◌, ◌<◌, IfSome};
-ghost use Rattle.report.specs.Archive.{IsEntry, entry_of, made_as, origin_with};
-ghost use Rattle.report.specs.declared.packed.Kind.TheVariants.{Made};
+ghost use Rattle.std.specs.Prelude.{◌≡◌, ◌^◌, ◌<◌, ◌∷◌, [], length, slice_index_or, suc, IfSome, IsTrue};
+ghost use Rattle.emu_model.specs.declared.records.Record.TheVariants.{StepsSpent};
+ghost use Rattle.report.specs.Archive.{IsArrival, IsEntry, Names, arrived_as, entries_of, made_as, origin_with, record_of};
+ghost use Rattle.report.specs.declared.packed.Kind.TheVariants.{Arrived};
 
-use crate::packed::{Kind, Packed, Parts, pack};
+use crate::packed::{Kind, Packed, Parts, at_instance, pack};
 use emu_model::{Origin, Record};
 use std::alloc::Global;
+use unchecked::unreachable_unchecked;
 
 /// The places of whole records from which the packets of a source differ only in time, packet and
 /// number. A place may be of any record: it is compared before it is used.
@@ -101,6 +103,51 @@ pub(crate) fn made_as(first: &Record, parts: Parts) -> Record
     }
 }
 
+/// Returns the parts of the arrival that follows the creation of a packet with these parts.
+#[inline(always)]
+pub(crate) fn arrival_parts(others: &[Record], parts: Parts) -> Parts
+    requires inside { suc parts.tag < length others.now }
+    requires arrival { IsArrival (slice_index_or others.now (suc parts.tag) (StepsSpent 0)) }
+    ensures record { record_of result
+        ≡ arrived_as (slice_index_or others.now (suc parts.tag) (StepsSpent 0)) parts }
+    ensures kind { result.kind ≡ Arrived }
+    ensures names { Names result.kind result.tag result.number }
+{
+    let Record::PacketArrived { pipe, instance, .. } = others[usize::from(parts.tag) + 1] else {
+        unreachable_unchecked!()
+    };
+    at_instance(Kind::Arrived, parts.moment, parts.packet, pipe, instance)
+}
+
+// Returns true if a record is the arrival of the packet with these parts, at their time, where
+// another record says that a packet arrived.
+#[inline(always)]
+fn is_arrival_as(known: &Record, parts: Parts, entry: &Record) -> bool
+    ensures { IsTrue result → IsArrival known.now × (arrived_as known.now parts ≡ entry.now) }
+{
+    let Record::PacketArrived {
+        pipe: known_pipe,
+        instance: known_instance,
+        ..
+    } = *known
+    else {
+        return false;
+    };
+    let Record::PacketArrived {
+        moment,
+        packet,
+        pipe,
+        instance,
+    } = *entry
+    else {
+        return false;
+    };
+    moment == parts.moment
+        && packet == parts.packet
+        && pipe.get() == known_pipe.get()
+        && instance == known_instance
+}
+
 // Returns the number of an origin that differs from another one in its number alone: that of a
 // command, a first byte or an acknowledged number.
 #[inline(always)]
@@ -130,9 +177,9 @@ fn number_from(known: Origin, origin: Origin) -> Option<u64>
 // Returns the parts of a packet that was created as the record at a place, but for its number, its
 // time and its packet.
 #[inline(always)]
-fn parts_from(first: &Record, place: u16, entry: &Record) -> Option<Parts>
+fn parts_from(first: &Record, place: u16, kind: Kind, entry: &Record) -> Option<Parts>
     ensures { IfSome result
-        (λ p. (made_as first.now p ≡ entry.now) × (p.kind ≡ Made) × (p.tag ≡ place)) }
+        (λ p. (made_as first.now p ≡ entry.now) × (p.kind ≡ kind) × (p.tag ≡ place)) }
 {
     let Record::PacketMade {
         origin: known,
@@ -169,7 +216,7 @@ fn parts_from(first: &Record, place: u16, entry: &Record) -> Option<Parts>
     }
     let number = number_from(known, origin)?;
     Some(Parts {
-        kind: Kind::Made,
+        kind,
         moment,
         tag: place,
         packet,
@@ -185,16 +232,56 @@ impl Firsts {
         }
     }
 
-    /// Returns the word of a packet that was created as an earlier one of the same source. Returns
-    /// `None` for any other record, and for one that doesn't fit.
+    // Returns the parts, of a kind, of a packet that was created as an earlier one of the same source.
     #[inline(always)]
-    pub(crate) fn word_of(&self, others: &[Record], entry: &Record) -> Option<Packed>
-        ensures same { IfSome result (λ w. entry_of others.now w ≡ entry.now) }
-        ensures stands { IfSome result (IsEntry others.now) }
+    fn parts_of(&self, others: &[Record], kind: Kind, entry: &Record) -> Option<Parts>
+        ensures { IfSome result (λ p. (p.tag < length others.now) × (p.kind ≡ kind)
+            × (made_as (slice_index_or others.now p.tag (StepsSpent 0)) p ≡ entry.now)) }
     {
         let place = *self.places.get(source_key(entry)?)?;
         let first = others.get(usize::from(place))?;
-        pack(parts_from(first, place, entry)?)
+        parts_from(first, place, kind, entry)
+    }
+
+    /// Returns the words of a packet that was created as an earlier one of the same source. Returns
+    /// `None` for any other record, and for one that doesn't fit.
+    #[inline(always)]
+    pub(crate) fn word_of(&self, others: &[Record], entry: &Record) -> Option<Packed>
+        ensures same { IfSome result (λ w. entries_of others.now w ≡ entry.now ∷ []) }
+        ensures stands { IfSome result (IsEntry others.now) }
+    {
+        pack(self.parts_of(others, Kind::Made, entry)?)
+    }
+
+    /// Returns the words of a packet's creation and of the arrival that follows it, both as for an
+    /// earlier packet of the same source. Returns `None` for any other records, and for those that
+    /// don't fit.
+    #[inline(always)]
+    pub(crate) fn pair_of(&self, others: &[Record], entry: &Record, next: &Record) -> Option<Packed>
+        ensures same { IfSome result (λ w. entries_of others.now w ≡ entry.now ∷ next.now ∷ []) }
+        ensures stands { IfSome result (IsEntry others.now) }
+    {
+        let parts = self.parts_of(others, Kind::Entered, entry)?;
+        let known = others.get(usize::from(parts.tag) + 1)?;
+        if !is_arrival_as(known, parts, next) {
+            return None;
+        }
+        pack(parts)
+    }
+
+    /// Returns true if two whole records would serve later packets of their source: a packet's
+    /// creation and its arrival, if no arrival stands behind an earlier creation.
+    pub(crate) fn wants_pair(&self, others: &[Record], entry: &Record, next: &Record) -> bool {
+        let Record::PacketArrived { .. } = *next else {
+            return false;
+        };
+        let Some(parts) = self.parts_of(others, Kind::Made, entry) else {
+            return source_key(entry).is_some();
+        };
+        match others.get(usize::from(parts.tag) + 1) {
+            Some(Record::PacketArrived { .. }) => false,
+            _ => true,
+        }
     }
 
     /// Registers a whole record's place for the next packets of the same source, if it is of a packet

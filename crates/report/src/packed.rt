@@ -11,7 +11,7 @@ use emu_model::{DropCause, FlowNumber, Load, PipeNumber, Record};
 use unchecked::unreachable_unchecked;
 
 /// The kind of a record that fits into sixteen bytes; a `Whole` record is stored elsewhere, and the
-/// header of a `Made` one.
+/// header of a `Made` one. `Entered` is two records: a packet was created, and arrived at a pipe.
 #[derive(Clone, Copy)]
 pub(crate) enum Kind {
     Whole,
@@ -26,6 +26,7 @@ pub(crate) enum Kind {
     Window,
     Expired,
     Made,
+    Entered,
 }
 
 /// The parts of a common record: its kind; its time (ns); its flow, its pipe, or the cause of a
@@ -76,6 +77,7 @@ fn rank(kind: Kind) -> u64
         Kind::Window => 9,
         Kind::Expired => 10,
         Kind::Made => 11,
+        Kind::Entered => 12,
     }
 }
 
@@ -98,7 +100,7 @@ fn kind_at(rank: u64) -> Kind
         9 => Kind::Window,
         10 => Kind::Expired,
         11 => Kind::Made,
-        12 => Kind::Whole,
+        12 => Kind::Entered,
         13 => Kind::Whole,
         14 => Kind::Whole,
         15 => Kind::Whole,
@@ -197,9 +199,15 @@ pub(crate) fn parts_of(entry: &Record) -> Option<Parts>
     Some(parts)
 }
 
-// Returns the parts of an event of a packet at an instance.
+/// Returns the parts of an event of a packet at an instance.
 #[inline(always)]
-fn at_instance(kind: Kind, moment: u64, packet: u64, pipe: PipeNumber, instance: u8) -> Parts
+pub(crate) fn at_instance(
+    kind: Kind,
+    moment: u64,
+    packet: u64,
+    pipe: PipeNumber,
+    instance: u8,
+) -> Parts
     ensures { (result.kind ≡ kind) × (result.moment ≡ moment) × (result.tag ≡ pipe)
         × (result.packet ≡ packet) × (result.number ≡ instance) × (0 < result.tag)
         × (result.number < 256) }
@@ -273,7 +281,7 @@ pub(crate) fn record_of(parts: Parts) -> Record
         number,
     } = parts;
     match kind {
-        Kind::Whole | Kind::Made => unreachable_unchecked!(),
+        Kind::Whole | Kind::Made | Kind::Entered => unreachable_unchecked!(),
         Kind::Done => Record::CommandDone {
             moment,
             command: number,

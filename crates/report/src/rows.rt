@@ -7,11 +7,10 @@ ghost use Rattle.emu_model.specs.declared.records.Record.TheVariants.{PacketMade
 ghost use Rattle.report.specs.Lines.{is_common};
 ghost use Rattle.report.specs.Rows as rows;
 
-use crate::archive::Archive;
 use crate::forward::put_bytes;
 use crate::made::with_number;
 use crate::packed::{Kind, Parts, cause_at, flow_of, number_of, parts_of, pipe_of};
-use crate::source::Source;
+use crate::reader::Reader;
 use emu_model::{Counters, FlowNumber, Load, Origin, PipeNumber, Protocol, Record, SendSpec};
 use itoa::Buffer;
 use std::alloc::{AllocError, Global};
@@ -449,7 +448,7 @@ pub(crate) fn put_parts(page: &mut [u8], at: usize, experiment: u8, parts: Parts
     ensures left { result ≡ false → (is_elsewhere parts.kind ≡ true) × (page.new ≡ page.old) }
 {
     match parts.kind {
-        Kind::Whole | Kind::Made => return false,
+        Kind::Whole | Kind::Made | Kind::Entered => return false,
         Kind::Finished => put_instance(page, at, experiment, FINISHED, parts),
         Kind::Segment => {
             let load = Load::Seg {
@@ -485,23 +484,22 @@ pub(crate) fn put_parts(page: &mut [u8], at: usize, experiment: u8, parts: Parts
     true
 }
 
-/// Writes the rows of some records, as many as the page holds, and returns their number. The first
-/// of the records is at `from`.
-pub fn put_rows(page: &mut [u8], records: &Archive, from: usize, experiment: u8) -> usize
-    requires from { from < length records.now }
+/// Writes the rows of the next records, as many as the page holds, and returns their number.
+pub fn put_rows(page: &mut [u8], records: &mut Reader<'_>, experiment: u8) -> usize
+    requires left { 0 < length records.old }
     requires room { 40 ≤ length page.old }
-    ensures count { (0 < result) × (from + result ≤ length records.now) }
+    ensures count { (0 < result) × (result ≤ length records.old) }
+    ensures left { records.new ≡ drop result records.old }
     ensures room { (result * 40 ≤ length page.new) × (length page.new ≡ length page.old) }
     ensures rows { take (result * 40) page.new
-        ≡ flat_map (rows.record_bytes experiment) (take result (drop from records.now)) }
+        ≡ flat_map (rows.record_bytes experiment) (take result records.old) }
 {
-    let count = (records.len() - from).min(page.len() / ROW);
+    let most = page.len() / ROW;
     let mut done = 0;
-    while done < count {
-        records.put_row(page, done * ROW, experiment, from + done);
+    while done < most && records.put_row(page, done * ROW, experiment) {
         done += 1;
     }
-    count
+    done
 }
 
 /// Writes the row of an experiment's counters at the beginning of a page.

@@ -1,7 +1,7 @@
 //! The lines of many records. The lines of events are built on one page and appended together, so
 //! that the cost of an append isn't paid for each line.
 
-ghost use Rattle.std.specs.Prelude.{◌≡◌, ◌+◌, ◌-◌, ◌*◌, ◌<◌, ◌≤◌, ◌++◌, drop, length, take, slice_index_or, vec_len, vec_capacity, IfOk, IsOk, OnOk, OnErr};
+ghost use Rattle.std.specs.Prelude.{◌≡◌, ◌+◌, ◌*◌, ◌≤◌, ◌++◌, [], drop, length, take, vec_len, vec_capacity, IfOk, IsOk, OnOk, OnErr};
 ghost use Rattle.std.specs.List.{flat_map};
 ghost use Rattle.report.specs.Lines.{line_of};
 ghost use Rattle.report.specs.Room.{spare};
@@ -12,21 +12,20 @@ use crate::source::{Listed, Source};
 use emu_model::Record;
 use std::alloc::AllocError;
 
-// Writes lines on the page from a place on, until the page is full or the source leaves a line to
-// its caller. Returns the number of lines, and their end.
-fn put_lines<S: Source>(moments: &mut Moments, source: &S, from: usize) -> (usize, usize)
-    requires { from < length (S.list source.now) }
-    ensures count { from + result.0 ≤ length (S.list source.now) }
+// Writes the next lines on the page, until it is full or the source leaves a record to its caller.
+// Returns the number of lines, and their end.
+fn put_lines<S: Source>(moments: &mut Moments, source: &mut S) -> (usize, usize)
+    ensures count { result.0 ≤ length (S.list source.old) }
+    ensures left { S.list source.new ≡ drop result.0 (S.list source.old) }
     ensures end { (result.1 ≤ 4224) × (result.1 ≤ 128 * result.0) }
     ensures items { take result.1 moments.new.page
-        ≡ flat_map line_of (take result.0 (drop from (S.list source.now))) }
+        ≡ flat_map line_of (take result.0 (S.list source.old)) }
 {
-    let left = source.len() - from;
     let mut count = 0;
     let mut end = 0;
-    while count < left && end < FULL {
+    while end < FULL && count < FULL {
         let (clock, page) = (&mut moments.clock, &mut moments.page);
-        let Some(next) = source.put(clock, page, end, from + count) else {
+        let Some(next) = source.put(clock, page, end) else {
             return (count, end);
         };
         end = next;
@@ -35,28 +34,31 @@ fn put_lines<S: Source>(moments: &mut Moments, source: &S, from: usize) -> (usiz
     (count, end)
 }
 
-/// Appends the lines of some records from a place on, and returns their number. After `AllocError`
-/// the text is unchanged. Room for a page (4,624 bytes) is enough.
+/// Appends the lines of the next records, and returns their number, which is 0 if there are none.
+/// After `AllocError` the text is unchanged. Room for a page (4,624 bytes) is enough.
 #[tactic(auto, unfolding(crate::specs::Room::spare))]
 pub fn write_some<S: Source>(
     out: &mut Vec<u8>,
     moments: &mut Moments,
-    source: &S,
-    from: usize,
+    source: &mut S,
 ) -> Result<usize, AllocError>
-    requires { from < length (S.list source.now) }
-    ensures count { IfOk result (λ n. (0 < n) × (from + n ≤ length (S.list source.now))) }
+    ensures count { IfOk result (λ n. n ≤ length (S.list source.old)) }
+    ensures some { IfOk result (λ n. n ≡ 0 → S.list source.old ≡ []) }
+    ensures left { IfOk result (λ n. S.list source.new ≡ drop n (S.list source.old)) }
     ensures ok { IfOk result (λ n. out.new.items
-        ≡ out.old.items ++ flat_map line_of (take n (drop from (S.list source.now)))) }
+        ≡ out.old.items ++ flat_map line_of (take n (S.list source.old))) }
     ensures err { OnErr result (out.new.items ≡ out.old.items) }
     ensures room { IfOk result (λ n. spare out.old ≤ spare out.new + 400 * n) }
     ensures capacity { vec_capacity out.old ≤ vec_capacity out.new }
-    ensures succeeds { 400 * (length (S.list source.now) - from) ≤ spare out.old → IsOk result }
+    ensures succeeds { 400 * length (S.list source.old) ≤ spare out.old → IsOk result }
     ensures page { vec_len out.old + 4624 ≤ vec_capacity out.old → IsOk result }
 {
-    let (count, end) = put_lines(moments, source, from);
+    let (count, end) = put_lines(moments, source);
     if count == 0 {
-        write_record(out, moments, &source.record(from))?;
+        let Some(entry) = source.next() else {
+            return Ok(0);
+        };
+        write_record(out, moments, &entry)?;
         return Ok(1);
     }
     out.extend_from_slice(&moments.page[..end])?;
@@ -68,19 +70,20 @@ pub fn write_some<S: Source>(
 pub fn write_source<S: Source>(
     out: &mut Vec<u8>,
     moments: &mut Moments,
-    source: &S,
+    source: &mut S,
 ) -> Result<(), AllocError>
     ensures ok { OnOk result
-        (out.new.items ≡ out.old.items ++ flat_map line_of (S.list source.now)) }
+        (out.new.items ≡ out.old.items ++ flat_map line_of (S.list source.old)) }
     ensures kept { take (length out.old.items) out.new.items ≡ out.old.items }
     ensures capacity { vec_capacity out.old ≤ vec_capacity out.new }
-    ensures succeeds { 400 * length (S.list source.now) ≤ spare out.old → IsOk result }
+    ensures succeeds { 400 * length (S.list source.old) ≤ spare out.old → IsOk result }
 {
-    let mut done = 0;
-    while done < source.len() {
-        done += write_some(out, moments, source, done)?;
+    loop {
+        let count = write_some(out, moments, source)?;
+        if count == 0 {
+            return Ok(());
+        }
     }
-    Ok(())
 }
 
 /// Appends the lines of records, one after the other. After `AllocError` the text is unchanged. The
@@ -98,7 +101,7 @@ pub fn write_records(
         IsOk result }
 {
     let before = out.len();
-    let written = write_source(out, moments, &Listed { records });
+    let written = write_source(out, moments, &mut Listed { records, place: 0 });
     if written.is_err() {
         out.truncate(before);
     }

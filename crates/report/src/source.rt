@@ -1,8 +1,7 @@
 //! The sources of a report's records.
 
-ghost use Rattle.std.specs.Prelude.{◌≡◌, ◌+◌, ◌<◌, ◌≤◌, ◌++◌, List, None, length, take, slice_index_or, IfSome};
+ghost use Rattle.std.specs.Prelude.{◌≡◌, ◌+◌, ◌≤◌, ◌++◌, ◌∷◌, [], List, None, drop, length, take, IfSome};
 ghost use Rattle.emu_model.specs.declared.records.Record.{Record};
-ghost use Rattle.emu_model.specs.declared.records.Record.TheVariants.{StepsSpent};
 ghost use Rattle.report.specs.Lines.{line_of};
 
 use crate::clock::Clock;
@@ -10,53 +9,49 @@ use crate::events::put_parts;
 use crate::packed::parts_of;
 use emu_model::Record;
 
-/// A sequence of records.
+/// A sequence of records, which is read once.
 pub trait Source {
-    /// The records.
+    /// The records that are left.
     ghost list: { Self → List Record };
 
-    /// Returns the number of records.
-    fn len(&self) -> usize
-        ensures { result ≡ length (list self.now) };
+    /// Returns the next record.
+    fn next(&mut self) -> Option<Record>
+        ensures some { IfSome result (λ entry. list self.old ≡ entry ∷ list self.new) }
+        ensures none { result ≡ None → (list self.old ≡ []) × (list self.new ≡ []) };
 
-    /// Returns the record at a place.
-    fn record(&self, place: usize) -> Record
-        requires { place < length (list self.now) }
-        ensures { result ≡ slice_index_or (list self.now) place (StepsSpent 0) };
-
-    /// Writes the line of the record at a place, and returns its end, or `None` if it leaves the
-    /// line to the caller, because the record is rare.
-    fn put(&self, clock: &mut Clock, text: &mut [u8], at: usize, place: usize) -> Option<usize>
+    /// Writes the line of the next record at a place, and returns its end. Returns `None` and does
+    /// nothing if it leaves the record to the caller, because it is rare, and if there is none.
+    fn put(&mut self, clock: &mut Clock, text: &mut [u8], at: usize) -> Option<usize>
         requires room { at + 256 ≤ length text.old }
-        requires inside { place < length (list self.now) }
-        ensures some { let line = slice_index_or (list self.now) place (StepsSpent 0) in
-            IfSome result (λ end. (at ≤ end) × (end ≤ at + 128)
-            × (take end text.new ≡ take at text.old ++ line_of line)) }
-        ensures none { result ≡ None → text.new ≡ text.old };
+        ensures some { IfSome result (λ end. (entry : Record) × (list self.old ≡ entry ∷ list self.new)
+            × (at ≤ end) × (end ≤ at + 128)
+            × (take end text.new ≡ take at text.old ++ line_of entry)) }
+        ensures none { result ≡ None →
+            (list self.new ≡ list self.old) × (text.new ≡ text.old) };
 }
 
-/// Records in a list.
+/// Records in a list, from a place on.
 #[derive(Drop)]
 pub(crate) struct Listed<'a> {
     pub(crate) records: &'a [Record],
+    pub(crate) place: usize,
 }
 
 impl<'a> Source for Listed<'a> {
-    ghost list = { λ l. l.records.now };
+    ghost list = { λ l. drop l.place l.records.now };
 
     #[inline(always)]
-    fn len(&self) -> usize {
-        self.records.len()
+    fn next(&mut self) -> Option<Record> {
+        let entry = *self.records.get(self.place)?;
+        self.place += 1;
+        Some(entry)
     }
 
     #[inline(always)]
-    fn record(&self, place: usize) -> Record {
-        self.records[place]
-    }
-
-    #[inline(always)]
-    fn put(&self, clock: &mut Clock, text: &mut [u8], at: usize, place: usize) -> Option<usize> {
-        let parts = parts_of(&self.records[place])?;
-        put_parts::<Listed>(clock, text, at, parts)
+    fn put(&mut self, clock: &mut Clock, text: &mut [u8], at: usize) -> Option<usize> {
+        let parts = parts_of(self.records.get(self.place)?)?;
+        let end = put_parts::<Listed>(clock, text, at, parts)?;
+        self.place += 1;
+        Some(end)
     }
 }

@@ -1,18 +1,26 @@
-use Rattle.std.proofs.Common.{arith, length-drop}
+use Rattle.std.proofs.Common.{◌+◌, ◌++◌, drop, length, length-drop, take, ap, ◌∙◌, arith}
+use Rattle.std.specs.List.{flat_map}
+use Rattle.std.proofs.lemmas.List.{drop-drop}
 use Rattle.report.specs.Lines.{line_of}
 use Rattle.report.proofs.Taken.{flat_map_further}
 use Rattle.report.proofs.runs.write_source.Goals as goal
 
-pub loop-done-preserved : goal.loop-done-preserved
-loop-done-preserved g c =
-    let rest = length-drop c.loop-done.done (g.S.Source.list c.args.source.now) in
-    let count = c.in_ok-done.ensures.count in
-    let further =
-    flat_map_further line_of c.args.out.now.items (g.S.Source.list c.args.source.now) c.loop-done.done c.in_ok-done.field-0
-    in
+pub loop-count-preserved : goal.loop-count-preserved
+loop-count-preserved g c =
+    let all = g.S.Source.list c.args.source.now in
+    let inv = c.loop-count.invariant in
+    let d = inv.items.0 in
+    let n = c.in_ok-count.count in
+    let e = c.in_ok-count.ensures in
     record {
-      done = omega arith;
-      items = rw (c.in_ok-done.ensures.ok, c.loop-done.invariant.items) further;
-      capacity = omega arith;
-      room = omega (arith, c.in_ok-done.ensures.room);
+      items = (
+        d + n,
+        omega (arith, e.count, ap length inv.items.2, length-drop d all, inv.items.1),
+        e.left ∙ ap (drop n) inv.items.2 ∙ drop-drop n d all,
+        e.ok
+            ∙ (λ i. inv.items.3 i ++ flat_map line_of (take n (inv.items.2 i)))
+            ∙ flat_map_further line_of c.args.out.now.items all d n,
+        omega (arith, e.room, inv.items.4),
+      );
+      capacity = omega (arith, e.capacity, inv.capacity);
     }

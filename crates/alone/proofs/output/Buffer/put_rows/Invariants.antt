@@ -1,4 +1,4 @@
-use Rattle.std.proofs.Common.{◌≡◌, ◌-◌, ◌≤◌, length, take}
+use Rattle.std.proofs.Common.{◌≡◌, ◌-◌, ◌≤◌, drop, length, take}
 use Rattle.std.specs.Prelude.{flat_map}
 use Rattle.report.specs.Rows.{record_bytes}
 use Rattle.alone.specs.Bytes.{Puts}
@@ -7,6 +7,7 @@ use Rattle.alone.proofs.output.Buffer.put_rows.Given as goal
 abbrev pub invariant-loop-done : goal.invariant-loop-done
 invariant-loop-done g l = record {
   done : l.done ≤ length l.records;
+  left : l.reader ≡ drop l.done l.records;
   page : length l.page ≡ length l.initial.page;
   puts : Puts (g.W.Outlet.contents l.initial.writer) l.initial.self (g.W.Outlet.contents l.writer) l.self (flat_map (record_bytes l.number) (take l.done l.records));
 }

@@ -5,14 +5,13 @@ use Rattle.explain.specs.Notes.{notes_from, notes_of}
 use Rattle.explain.proofs.account.Account.take.Given as goal
 
 -- what is left, behind what was told so far, is all
-abbrev pub invariant-loop-done : goal.invariant-loop-done
-invariant-loop-done l = record {
-  done : l.done ≤ length l.records;
-  refusals : l.self-inside.refusals.items ++ flat_map (refusals_by l.experiment) (drop l.done l.records)
+abbrev pub invariant-loop-entry : goal.invariant-loop-entry
+invariant-loop-entry l = record {
+  refusals : l.self-inside.refusals.items ++ flat_map (refusals_by l.experiment) l.reader
       ≡ l.initial.self-inside.refusals.items ++ flat_map (refusals_by l.experiment) l.records;
-  notes : notes_from l.experiment (drop l.done l.records) l.notes.items ≡ notes_of l.experiment l.records;
+  notes : notes_from l.experiment l.reader l.notes.items ≡ notes_of l.experiment l.records;
   kept : l.self-inside.notes.items ≡ l.initial.self-inside.notes.items;
 }
 
-abbrev pub decreases-loop-done : goal.decreases-loop-done
-decreases-loop-done l = length l.records - l.done
+abbrev pub decreases-loop-entry : goal.decreases-loop-entry
+decreases-loop-entry l = length l.reader
