@@ -3,8 +3,9 @@ use Rattle.std.proofs.Common.{◌≡◌, ℕ, ◌+◌, ◌≤◌, sym, ap, ◌�
 use Rattle.emu_model.specs.Moments.{IsMoment}
 use Rattle.emu_model.specs.declared.sources.Due.{Due}
 use Rattle.emu_model.specs.declared.sources.Class.TheVariants.{NextCommand, Exit, Finish, Expiry, Emission}
-use Rattle.emu_model.specs.declared.commands.EventContext.{EventContext}
+use Rattle.emu_model.specs.declared.commands.Spec.{Spec}
 use Rattle.emu_model.specs.Net.{Net}
+use Rattle.emu_model.specs.Step.{setting}
 use Rattle.emu_model.specs.Dues.{due}
 use Rattle.packet_store.specs.Pocket.{Pocket, empty_pocket}
 use Rattle.pipe_core.specs.Uses.{uses, one_at}
@@ -14,12 +15,12 @@ use Rattle.network.specs.Kept.{KeptNet, net_keys, IsHoused, Stands}
 use Rattle.network.specs.Changes.{IsStill}
 use Rattle.network.specs.Due.{IsDue}
 
-pub stands_at : (at : EventContext) (room now : ℕ) (p : Pocket) (n : KeptNet) → at ≡ record { seed = 0; packet_budget = room; now = now } →
-    IsMoment now → room ≤ p.budget → n.table.seed ≡ 0 → IsHoused p n → Stands at p n
-stands_at at room now p n is early fits seed housed = record {
-  early = let e : at.now ≡ now = ap (λ (m : EventContext). m.now) is in omega (arith, e, early);
-  seed = ap (λ (m : EventContext). m.seed) is ∙ sym seed;
-  room = let e : at.packet_budget ≡ room = ap (λ (m : EventContext). m.packet_budget) is in omega (arith, e, fits);
+pub stands_at : (spec : Spec) (room now : ℕ) (p : Pocket) (n : KeptNet) → (spec.seed ≡ 0) × (spec.budget.packets ≡ room) →
+    IsMoment now → room ≤ p.budget → n.table.seed ≡ 0 → IsHoused p n → Stands (setting spec now) p n
+stands_at spec room now p n is early fits seed housed = record {
+  early = early;
+  seed = is.0 ∙ sym seed;
+  room = omega (arith, is.1, fits);
   housed = housed;
 }
 

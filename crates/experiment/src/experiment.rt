@@ -15,7 +15,7 @@ ghost use Rattle.experiment.specs.Kept.{view, IsAlone, IsAloneAfter, IsHousedIn,
 ghost use Rattle.experiment.specs.Moves.{Makes, Steps, Halts, Closes};
 
 use crate::told::command_due;
-use emu_model::{Class, Command, Due, Ending, EventContext, Spec, Timed, command_in_range, laws};
+use emu_model::{Class, Command, Due, Ending, Spec, Timed, command_in_range, laws};
 use network::Network;
 use packet_store::{Owner, Shelf};
 use std::alloc::{AllocError, Global};
@@ -299,9 +299,12 @@ impl Experiment {
         let Some(Timed { command, .. }) = &self.next else {
             unreachable!();
         };
-        let at = setting_of(&self.spec, due.moment);
         let ending = ending_by(command);
-        let Ok(()) = self.net.obey(shelf, owner, at, self.taken, command) else {
+        let now = due.moment;
+        let Ok(()) = self
+            .net
+            .obey(shelf, owner, &self.spec, now, self.taken, command)
+        else {
             self.ending = Some(Ending::Halted);
             return Err(AllocError);
         };
@@ -341,8 +344,7 @@ impl Experiment {
         ensures budget { (S.pocket shelf.new owner).budget ≡ (S.pocket shelf.old owner).budget }
         ensures others { OthersStay owner (S.pocket shelf.old) (S.pocket shelf.new) }
     {
-        let at = setting_of(&self.spec, due.moment);
-        let Ok(()) = self.net.event(shelf, owner, at, due) else {
+        let Ok(()) = self.net.event(shelf, owner, &self.spec, due) else {
             self.ending = Some(Ending::Halted);
             return Err(AllocError);
         };
@@ -351,21 +353,6 @@ impl Experiment {
         self.ending = close(&mut self.net, &self.spec, self.steps, due.moment, None);
         self.held = shelf.count(owner) as u64;
         Ok(())
-    }
-}
-
-// Returns the context of an event at a time (ns).
-fn setting_of(spec: &Spec, now: u64) -> EventContext
-    ensures { result ≡ record {
-      seed = spec.now.seed;
-      packet_budget = spec.now.budget.packets;
-      now = now;
-    } }
-{
-    EventContext {
-        seed: spec.seed,
-        packet_budget: spec.budget.packets,
-        now,
     }
 }
 

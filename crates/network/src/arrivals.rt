@@ -6,6 +6,7 @@ ghost use Rattle.std.specs.Option.{option_map_or};
 ghost use Rattle.emu_model.specs.Moments.{IsMoment};
 ghost use Rattle.packet_store.specs.Pocket.{Pocket, OthersStay, AllStay};
 ghost use Rattle.emu_model.specs.Net.{arrivals, by_verdict, drop_record, enter_pipe, find_pipe, load_by, reinject, make, make_record, packet_of, pass_rules, pass_rules_from, to_direct, to_pipe};
+ghost use Rattle.emu_model.specs.Step.{setting};
 ghost use Rattle.network.specs.Kept.{net_of, IsHoused, Stands};
 ghost use Rattle.network.specs.Changes.{Becomes, IsStill, Notes};
 ghost use Rattle.network.specs.Frames.{TakesRoom};
@@ -17,8 +18,8 @@ ghost use Rattle.emu_model.specs.declared.rules.Verdict.TheVariants.{IntoPipe};
 use crate::flow_cache::{Lookup, Route};
 use crate::state::Network;
 use emu_model::{
-    Delay, DropCause, EventContext, Origin, Packet, PipeNumber, Place, Record, RuleNumber,
-    SendSpec, Verdict,
+    Delay, DropCause, Origin, Packet, PipeNumber, Place, Record, RuleNumber, SendSpec, Spec,
+    Verdict,
 };
 use emu_rules::{Match, NO_RULE};
 use packet_store::{Owner, Shelf};
@@ -326,28 +327,29 @@ impl Network {
         &mut self,
         shelf: &mut S,
         owner: Owner,
-        at: EventContext,
+        spec: &Spec,
+        now: u64,
         number: PipeNumber,
         packet: &Packet,
     )
-        requires stands { Stands at (S.pocket shelf.old owner) self.old }
+        requires stands { Stands (setting spec.now now) (S.pocket shelf.old owner) self.old }
         requires budget { (S.pocket shelf.old owner).count < (S.pocket shelf.old owner).budget }
         requires room { 0 < S.room shelf.old owner }
         requires log { 0 < self.old.log.spare }
         requires ready { HasRoomIn number packet.now self.old.table.pipes }
-        ensures becomes { Becomes 0
+        ensures becomes { let at = setting spec.now now in Becomes 0
             (enter_pipe at number packet.now (net_of (S.pocket shelf.old owner) self.old))
             (S.pocket shelf.old owner) (S.pocket shelf.new owner) self.old self.new }
         ensures takes { TakesRoom 1 owner (S.pocket shelf.old) (S.pocket shelf.new)
             self.old self.new }
     {
         let Some(place) = self.table.place_of(number) else {
-            self.drop_packet(at.now, packet, DropCause::NoPipe);
+            self.drop_packet(now, packet, DropCause::NoPipe);
             return;
         };
-        let answer = self.table.arrive(place, shelf, owner, at.now, packet);
+        let answer = self.table.arrive(place, shelf, owner, now, packet);
         if let Some(cause) = answer {
-            self.drop_packet(at.now, packet, cause);
+            self.drop_packet(now, packet, cause);
         }
     }
 
@@ -357,23 +359,24 @@ impl Network {
         &mut self,
         shelf: &mut S,
         owner: Owner,
-        at: EventContext,
+        spec: &Spec,
+        now: u64,
         number: PipeNumber,
         packet: &Packet,
     )
-        requires stands { Stands at (S.pocket shelf.old owner) self.old }
+        requires stands { Stands (setting spec.now now) (S.pocket shelf.old owner) self.old }
         requires budget { (S.pocket shelf.old owner).count < (S.pocket shelf.old owner).budget }
         requires room { 0 < S.room shelf.old owner }
         requires log { 2 < self.old.log.spare }
         requires ready { HasRoomIn number packet.now self.old.table.pipes }
-        ensures becomes { Becomes 0
+        ensures becomes { let at = setting spec.now now in Becomes 0
             (to_pipe at number packet.now (net_of (S.pocket shelf.old owner) self.old))
             (S.pocket shelf.old owner) (S.pocket shelf.new owner) self.old self.new }
         ensures takes { TakesRoom 3 owner (S.pocket shelf.old) (S.pocket shelf.new)
             self.old self.new }
     {
-        self.note_arrival(at.now, number, packet);
-        self.enter_pipe(shelf, owner, at, number, packet);
+        self.note_arrival(now, number, packet);
+        self.enter_pipe(shelf, owner, spec, now, number, packet);
     }
 
     // Counts a packet at the rule of its route, and adds it to the route's pipe, or drops it.
@@ -383,16 +386,18 @@ impl Network {
         &mut self,
         shelf: &mut S,
         owner: Owner,
-        at: EventContext,
+        spec: &Spec,
+        now: u64,
         route: &Route,
         packet: &Packet,
     )
-        requires stands { Stands at (S.pocket shelf.old owner) self.old }
+        requires stands { Stands (setting spec.now now) (S.pocket shelf.old owner) self.old }
         requires budget { (S.pocket shelf.old owner).count < (S.pocket shelf.old owner).budget }
         requires room { 0 < S.room shelf.old owner }
         requires log { 2 < self.old.log.spare }
         requires ready { (start : ℕ) × CanGo start packet.now route.now self.old }
-        ensures becomes { (start : ℕ) → CanGo start packet.now route.now self.old → Becomes 0
+        ensures becomes { let at = setting spec.now now in
+            (start : ℕ) → CanGo start packet.now route.now self.old → Becomes 0
             (pass_rules_from at start packet.now (net_of (S.pocket shelf.old owner) self.old))
             (S.pocket shelf.old owner) (S.pocket shelf.new owner) self.old self.new }
         ensures takes { TakesRoom 3 owner (S.pocket shelf.old) (S.pocket shelf.new)
@@ -403,12 +408,12 @@ impl Network {
             place: route.place,
             ..*packet
         };
-        self.note_arrival_by_route(at.now, route, &sent);
+        self.note_arrival_by_route(now, route, &sent);
         let answer = self
             .table
-            .arrive_at(route.pipe, route.instance, shelf, owner, at.now, &sent);
+            .arrive_at(route.pipe, route.instance, shelf, owner, now, &sent);
         if let Some(cause) = answer {
-            self.drop_packet(at.now, &sent, cause);
+            self.drop_packet(now, &sent, cause);
         }
     }
 
@@ -418,27 +423,28 @@ impl Network {
         &mut self,
         shelf: &mut S,
         owner: Owner,
-        at: EventContext,
+        spec: &Spec,
+        now: u64,
         verdict: Verdict,
         packet: &Packet,
     )
-        requires stands { Stands at (S.pocket shelf.old owner) self.old }
+        requires stands { Stands (setting spec.now now) (S.pocket shelf.old owner) self.old }
         requires budget { (S.pocket shelf.old owner).count < (S.pocket shelf.old owner).budget }
         requires room { 0 < S.room shelf.old owner }
         requires log { 2 < self.old.log.spare }
         requires ready { IsReady verdict packet.now self.old }
-        ensures becomes { Becomes 0
+        ensures becomes { let at = setting spec.now now in Becomes 0
             (by_verdict at verdict packet.now (net_of (S.pocket shelf.old owner) self.old))
             (S.pocket shelf.old owner) (S.pocket shelf.new owner) self.old self.new }
         ensures takes { TakesRoom 3 owner (S.pocket shelf.old) (S.pocket shelf.new)
             self.old self.new }
     {
         match verdict {
-            Verdict::OverTheLink => self.to_direct(shelf, owner, at.now, packet),
-            Verdict::Dropped => self.drop_packet(at.now, packet, DropCause::Denied),
+            Verdict::OverTheLink => self.to_direct(shelf, owner, now, packet),
+            Verdict::Dropped => self.drop_packet(now, packet, DropCause::Denied),
             Verdict::IntoPipe(number, place) => {
                 let sent = Packet { place, ..*packet };
-                self.to_pipe(shelf, owner, at, number, &sent);
+                self.to_pipe(shelf, owner, spec, now, number, &sent);
             }
         }
     }
@@ -450,22 +456,23 @@ impl Network {
         &mut self,
         shelf: &mut S,
         owner: Owner,
-        at: EventContext,
+        spec: &Spec,
+        now: u64,
         packet: Packet,
     )
-        requires stands { Stands at (S.pocket shelf.old owner) self.old }
+        requires stands { Stands (setting spec.now now) (S.pocket shelf.old owner) self.old }
         requires budget { (S.pocket shelf.old owner).count < (S.pocket shelf.old owner).budget }
         requires room { 0 < S.room shelf.old owner }
         requires log { 2 < self.old.log.spare }
         requires ready { CanPass 0 packet None self.old }
-        ensures becomes { Becomes 0
+        ensures becomes { let at = setting spec.now now in Becomes 0
             (pass_rules at packet (net_of (S.pocket shelf.old owner) self.old))
             (S.pocket shelf.old owner) (S.pocket shelf.new owner) self.old self.new }
         ensures takes { TakesRoom 3 owner (S.pocket shelf.old) (S.pocket shelf.new)
             self.old self.new }
     {
         let verdict = self.book.verdict(&packet);
-        self.hand_on(shelf, owner, at, verdict, &packet);
+        self.hand_on(shelf, owner, spec, now, verdict, &packet);
     }
 
     // Passes a packet that left a pipe through the rules after the one that sent it there.
@@ -473,24 +480,25 @@ impl Network {
         &mut self,
         shelf: &mut S,
         owner: Owner,
-        at: EventContext,
+        spec: &Spec,
+        now: u64,
         packet: &Packet,
         known: &Option<Route>,
     )
-        requires stands { Stands at (S.pocket shelf.old owner) self.old }
+        requires stands { Stands (setting spec.now now) (S.pocket shelf.old owner) self.old }
         requires budget { (S.pocket shelf.old owner).count < (S.pocket shelf.old owner).budget }
         requires room { 0 < S.room shelf.old owner }
         requires log { 2 < self.old.log.spare }
         requires ready { CanPass (start_after packet.now self.old) packet.now known.now self.old }
-        ensures becomes { Becomes 0
+        ensures becomes { let at = setting spec.now now in Becomes 0
             (reinject at packet.now (net_of (S.pocket shelf.old owner) self.old))
             (S.pocket shelf.old owner) (S.pocket shelf.new owner) self.old self.new }
         ensures takes { TakesRoom 3 owner (S.pocket shelf.old) (S.pocket shelf.new)
             self.old self.new }
     {
         match known {
-            Some(route) => self.pass_by_route(shelf, owner, at, route, packet),
-            None => self.search_after(shelf, owner, at, *packet),
+            Some(route) => self.pass_by_route(shelf, owner, spec, now, route, packet),
+            None => self.search_after(shelf, owner, spec, now, *packet),
         }
     }
 
@@ -501,22 +509,23 @@ impl Network {
         &mut self,
         shelf: &mut S,
         owner: Owner,
-        at: EventContext,
+        spec: &Spec,
+        now: u64,
         packet: Packet,
     )
-        requires stands { Stands at (S.pocket shelf.old owner) self.old }
+        requires stands { Stands (setting spec.now now) (S.pocket shelf.old owner) self.old }
         requires budget { (S.pocket shelf.old owner).count < (S.pocket shelf.old owner).budget }
         requires room { 0 < S.room shelf.old owner }
         requires log { 2 < self.old.log.spare }
         requires ready { CanPass (start_after packet self.old) packet None self.old }
-        ensures becomes { Becomes 0
+        ensures becomes { let at = setting spec.now now in Becomes 0
             (reinject at packet (net_of (S.pocket shelf.old owner) self.old))
             (S.pocket shelf.old owner) (S.pocket shelf.new owner) self.old self.new }
         ensures takes { TakesRoom 3 owner (S.pocket shelf.old) (S.pocket shelf.new)
             self.old self.new }
     {
         let verdict = self.book.verdict_after(packet.place, &packet);
-        self.hand_on(shelf, owner, at, verdict, &packet);
+        self.hand_on(shelf, owner, spec, now, verdict, &packet);
     }
 
     // Creates a packet with the next number, and passes it through the rules if the budget allows
@@ -526,17 +535,18 @@ impl Network {
         &mut self,
         shelf: &mut S,
         owner: Owner,
-        at: EventContext,
+        spec: &Spec,
+        now: u64,
         sending: &Sending,
         lookup: &Lookup,
     )
-        requires stands { Stands at (S.pocket shelf.old owner) self.old }
+        requires stands { Stands (setting spec.now now) (S.pocket shelf.old owner) self.old }
         requires made { self.old.made < 2 ^ 63 }
         requires room { (S.pocket shelf.old owner).count < (S.pocket shelf.old owner).budget →
             0 < S.room shelf.old owner }
         requires log { 3 < self.old.log.spare }
         requires ready { CanMake sending.now.send lookup.now self.old }
-        ensures becomes { Becomes 1
+        ensures becomes { let at = setting spec.now now in Becomes 1
             (make at sending.now.origin sending.now.send
             (net_of (S.pocket shelf.old owner) self.old))
             (S.pocket shelf.old owner) (S.pocket shelf.new owner) self.old self.new }
@@ -546,9 +556,9 @@ impl Network {
         laws::keys_say_all();
         let packet = packet_of(sending.origin, &sending.send, self.made);
         self.made += 1;
-        self.note_made(at.now, sending.origin, &packet);
-        if shelf.count(owner) >= at.packet_budget.get() as usize {
-            self.drop_packet(at.now, &packet, DropCause::Budget);
+        self.note_made(now, sending.origin, &packet);
+        if shelf.count(owner) >= spec.budget.packets.get() as usize {
+            self.drop_packet(now, &packet, DropCause::Budget);
             return;
         }
         match lookup {
@@ -557,9 +567,9 @@ impl Network {
                     unreachable_unchecked!();
                 };
                 let route = held.route;
-                self.pass_by_route(shelf, owner, at, &route, &packet);
+                self.pass_by_route(shelf, owner, spec, now, &route, &packet);
             }
-            Lookup::Searched => self.pass_rules(shelf, owner, at, packet),
+            Lookup::Searched => self.pass_rules(shelf, owner, spec, now, packet),
         }
     }
 }

@@ -7,6 +7,7 @@ ghost use Rattle.emu_model.specs.declared.records.Record.TheVariants.{CommandDon
 ghost use Rattle.emu_model.specs.Commands.{obey, config_refusal, refusal_of, source_refusal};
 ghost use Rattle.emu_model.specs.Rules.{add_refusal};
 ghost use Rattle.packet_store.specs.Pocket.{Pocket};
+ghost use Rattle.emu_model.specs.Step.{setting};
 ghost use Rattle.network.specs.Kept.{net_of, Stands};
 ghost use Rattle.network.specs.Changes.{Becomes, IsStill, Notes, Obeys};
 ghost use Rattle.network.specs.Frames.{Frame};
@@ -16,8 +17,8 @@ ghost use Rattle.pipe_table.specs.Table.{pipe_of};
 use crate::flow_cache::Lookup;
 use crate::state::Network;
 use emu_model::{
-    Command, DropCause, EventContext, FlowNumber, FlowSpec, Origin, PipeConfig, PipeNumber, Record,
-    Refusal, Rule, RuleNumber, SendSpec, TrainSpec,
+    Command, DropCause, FlowNumber, FlowSpec, Origin, PipeConfig, PipeNumber, Record, Refusal,
+    Rule, RuleNumber, SendSpec, Spec, TrainSpec,
 };
 use emu_rules::{AddError, RuleList};
 use packet_store::{Owner, Shelf};
@@ -33,13 +34,14 @@ impl Network {
         &mut self,
         shelf: &mut S,
         owner: Owner,
-        at: EventContext,
+        spec: &Spec,
+        now: u64,
         number: u64,
         command: &Command,
     ) -> Result<(), AllocError>
-        requires stands { Stands at (S.pocket shelf.old owner) self.old }
+        requires stands { Stands (setting spec.now now) (S.pocket shelf.old owner) self.old }
         requires made { self.old.made < 2 ^ 63 }
-        ensures ok { OnOk result
+        ensures ok { let at = setting spec.now now in OnOk result
             (Becomes 1 (obey at number command.now (net_of (S.pocket shelf.old owner) self.old))
             (S.pocket shelf.old owner) (S.pocket shelf.new owner) self.old self.new) }
         ensures succeeds { TakesNoMemory command.now (net_of (S.pocket shelf.old owner) self.old) →
@@ -51,25 +53,25 @@ impl Network {
     {
         self.obey_ready()?;
         match *command {
-            Command::PipeDelete(pipe) => self.delete_pipe(shelf, owner, at, number, pipe),
-            Command::Inject(send) => self.inject(shelf, owner, at, number, &send),
-            Command::Add(rule) => self.add(at, number, &rule),
-            Command::Delete(rule) => self.delete(at, number, rule),
-            Command::Config { pipe, config } => self.configure(at, number, pipe, &config),
-            Command::PipeShow => self.show_pipes(at, number),
-            Command::Show => self.show_rules(at, number),
+            Command::PipeDelete(pipe) => self.delete_pipe(shelf, owner, spec, now, number, pipe),
+            Command::Inject(send) => self.inject(shelf, owner, spec, now, number, &send),
+            Command::Add(rule) => self.add(spec, now, number, &rule),
+            Command::Delete(rule) => self.delete(spec, now, number, rule),
+            Command::Config { pipe, config } => self.configure(spec, now, number, pipe, &config),
+            Command::PipeShow => self.show_pipes(spec, now, number),
+            Command::Show => self.show_rules(spec, now, number),
             Command::Train {
                 number: source,
                 train,
-            } => self.start_train(at, number, source, &train),
+            } => self.start_train(spec, now, number, source, &train),
             Command::Flow {
                 number: source,
                 flow,
-            } => self.start_flow(at, number, source, &flow),
-            Command::Stop(flow) => self.stop(at, number, flow),
-            Command::OnePass(one_pass) => self.set_one_pass(at, number, one_pass),
-            Command::Trace(trace) => self.set_trace(at, number, trace),
-            Command::End => self.end(at, number),
+            } => self.start_flow(spec, now, number, source, &flow),
+            Command::Stop(flow) => self.stop(spec, now, number, flow),
+            Command::OnePass(one_pass) => self.set_one_pass(spec, now, number, one_pass),
+            Command::Trace(trace) => self.set_trace(spec, now, number, trace),
+            Command::End => self.end(spec, now, number),
         }
     }
 
@@ -98,17 +100,18 @@ impl Network {
 
     // Adds a rule.
     #[tactic(auto, using(crate::proofs::RouteFacts::known_none))]
-    fn add(&mut self, at: EventContext, number: u64, rule: &Rule) -> Result<(), AllocError>
+    fn add(&mut self, spec: &Spec, now: u64, number: u64, rule: &Rule) -> Result<(), AllocError>
         requires log { 1 < self.old.log.spare }
         requires forgot { self.old.flow_cache ≡ [] }
-        ensures ok { OnOk result (Obeys at number (Add rule.now) self.old self.new) }
+        ensures ok { let at = setting spec.now now in
+            OnOk result (Obeys at number (Add rule.now) self.old self.new) }
         ensures room { OnOk result (0 < self.new.log.spare) }
         ensures refused { OnErr result (IsStill self.old self.new) }
         ensures succeeds { IsSome (add_refusal rule.now self.old.book) → IsOk result }
     {
         match self.book.add(*rule) {
-            Ok(()) => self.note_done(at.now, number),
-            Err(AddError::Refused(refusal)) => self.refuse(at.now, number, refusal),
+            Ok(()) => self.note_done(now, number),
+            Err(AddError::Refused(refusal)) => self.refuse(now, number, refusal),
             Err(AddError::NoMemory) => return Err(AllocError),
         }
         Ok(())
@@ -116,17 +119,24 @@ impl Network {
 
     // Deletes the rules with a number.
     #[tactic(auto, using(crate::proofs::RouteFacts::known_none))]
-    fn delete(&mut self, at: EventContext, number: u64, rule: RuleNumber) -> Result<(), AllocError>
+    fn delete(
+        &mut self,
+        spec: &Spec,
+        now: u64,
+        number: u64,
+        rule: RuleNumber,
+    ) -> Result<(), AllocError>
         requires log { 1 < self.old.log.spare }
         requires forgot { self.old.flow_cache ≡ [] }
-        ensures ok { OnOk result (Obeys at number (Delete rule) self.old self.new) }
+        ensures ok { let at = setting spec.now now in
+            OnOk result (Obeys at number (Delete rule) self.old self.new) }
         ensures room { OnOk result (0 < self.new.log.spare) }
         ensures refused { OnErr result (IsStill self.old self.new) }
         ensures succeeds { IsOk result }
     {
         match self.book.delete(rule) {
-            Ok(()) => self.note_done(at.now, number),
-            Err(refusal) => self.refuse(at.now, number, refusal),
+            Ok(()) => self.note_done(now, number),
+            Err(refusal) => self.refuse(now, number, refusal),
         }
         Ok(())
     }
@@ -135,14 +145,16 @@ impl Network {
     #[tactic(auto, using(crate::proofs::RouteFacts::known_none))]
     fn configure(
         &mut self,
-        at: EventContext,
+        spec: &Spec,
+        now: u64,
         number: u64,
         pipe: PipeNumber,
         config: &PipeConfig,
     ) -> Result<(), AllocError>
         requires log { 1 < self.old.log.spare }
         requires forgot { self.old.flow_cache ≡ [] }
-        ensures ok { OnOk result (Obeys at number (Config pipe config.now) self.old self.new) }
+        ensures ok { let at = setting spec.now now in
+            OnOk result (Obeys at number (Config pipe config.now) self.old self.new) }
         ensures room { OnOk result (0 < self.new.log.spare) }
         ensures refused { OnErr result (IsStill self.old self.new) }
         ensures succeeds { (p : Pocket) →
@@ -150,8 +162,8 @@ impl Network {
         ensures kept { IsSome (pipe_of pipe self.old.table.pipes) → IsOk result }
     {
         match self.table.configure(pipe, config) {
-            Ok(()) => self.note_done(at.now, number),
-            Err(ConfigureError::Refused(refusal)) => self.refuse(at.now, number, refusal),
+            Ok(()) => self.note_done(now, number),
+            Err(ConfigureError::Refused(refusal)) => self.refuse(now, number, refusal),
             Err(ConfigureError::NoMemory) => return Err(AllocError),
         }
         Ok(())
@@ -163,14 +175,15 @@ impl Network {
         &mut self,
         shelf: &mut S,
         owner: Owner,
-        at: EventContext,
+        spec: &Spec,
+        now: u64,
         number: u64,
         pipe: PipeNumber,
     ) -> Result<(), AllocError>
-        requires stands { Stands at (S.pocket shelf.old owner) self.old }
+        requires stands { Stands (setting spec.now now) (S.pocket shelf.old owner) self.old }
         requires log { 1 < self.old.log.spare }
         requires forgot { self.old.flow_cache ≡ [] }
-        ensures ok { OnOk result
+        ensures ok { let at = setting spec.now now in OnOk result
             (Becomes 1
             (obey at number (PipeDelete pipe) (net_of (S.pocket shelf.old owner) self.old))
             (S.pocket shelf.old owner) (S.pocket shelf.new owner) self.old self.new) }
@@ -181,43 +194,45 @@ impl Network {
     {
         // A pipe that doesn't exist drops nothing, and needs no room for records of drops.
         if !self.table.has(pipe) {
-            self.refuse(at.now, number, Refusal::NoSuchPipe);
+            self.refuse(now, number, Refusal::NoSuchPipe);
             return Ok(());
         }
         self.reserve_besides(shelf.count(owner))?;
         match self.table.delete(shelf, owner, pipe)? {
-            None => self.refuse(at.now, number, Refusal::NoSuchPipe),
+            None => self.refuse(now, number, Refusal::NoSuchPipe),
             Some(packets) => {
-                self.note_done(at.now, number);
-                self.drop_all(at.now, &packets, DropCause::Deleted);
+                self.note_done(now, number);
+                self.drop_all(now, &packets, DropCause::Deleted);
             }
         }
         Ok(())
     }
 
     // Lists the pipes.
-    fn show_pipes(&mut self, at: EventContext, number: u64) -> Result<(), AllocError>
-        ensures ok { OnOk result (Obeys at number PipeShow self.old self.new) }
+    fn show_pipes(&mut self, spec: &Spec, now: u64, number: u64) -> Result<(), AllocError>
+        ensures ok { let at = setting spec.now now in
+            OnOk result (Obeys at number PipeShow self.old self.new) }
         ensures room { OnOk result (0 < self.new.log.spare) }
         ensures refused { OnErr result (IsStill self.old self.new) }
     {
         let lines = self.table.lines();
         self.reserve_besides(lines)?;
-        self.note_done(at.now, number);
+        self.note_done(now, number);
         self.table.show(&mut self.log);
         Ok(())
     }
 
     // Lists the rules.
-    fn show_rules(&mut self, at: EventContext, number: u64) -> Result<(), AllocError>
-        ensures ok { OnOk result (Obeys at number Show self.old self.new) }
+    fn show_rules(&mut self, spec: &Spec, now: u64, number: u64) -> Result<(), AllocError>
+        ensures ok { let at = setting spec.now now in
+            OnOk result (Obeys at number Show self.old self.new) }
         ensures room { OnOk result (0 < self.new.log.spare) }
         ensures refused { OnErr result (IsStill self.old self.new) }
         ensures fits { length self.old.book.rules + 3 ≤ self.old.log.spare → IsOk result }
     {
         let lines = self.book.len();
         self.reserve_besides(lines)?;
-        self.note_done(at.now, number);
+        self.note_done(now, number);
         note_rules(&mut self.log, &mut self.book);
         Ok(())
     }
@@ -227,14 +242,15 @@ impl Network {
         &mut self,
         shelf: &mut S,
         owner: Owner,
-        at: EventContext,
+        spec: &Spec,
+        now: u64,
         number: u64,
         send: &SendSpec,
     ) -> Result<(), AllocError>
-        requires stands { Stands at (S.pocket shelf.old owner) self.old }
+        requires stands { Stands (setting spec.now now) (S.pocket shelf.old owner) self.old }
         requires made { self.old.made < 2 ^ 63 }
         requires log { 5 < self.old.log.spare }
-        ensures ok { OnOk result
+        ensures ok { let at = setting spec.now now in OnOk result
             (Becomes 1
             (obey at number (Inject send.now) (net_of (S.pocket shelf.old owner) self.old))
             (S.pocket shelf.old owner) (S.pocket shelf.new owner) self.old self.new) }
@@ -242,119 +258,140 @@ impl Network {
             self.old self.new }
     {
         shelf.put_ready(owner)?;
-        self.inject_ready(shelf, owner, at.now, send)?;
-        self.note_done(at.now, number);
+        self.inject_ready(shelf, owner, now, send)?;
+        self.note_done(now, number);
         let sending = injection(number, send);
-        self.make(shelf, owner, at, &sending, &Lookup::Searched);
+        self.make(shelf, owner, spec, now, &sending, &Lookup::Searched);
         Ok(())
     }
 
     // Starts a train.
     fn start_train(
         &mut self,
-        at: EventContext,
+        spec: &Spec,
+        now: u64,
         number: u64,
         source: FlowNumber,
         train: &TrainSpec,
     ) -> Result<(), AllocError>
-        requires early { IsMoment at.now }
+        requires early { IsMoment now }
         requires log { 1 < self.old.log.spare }
-        ensures ok { OnOk result (Obeys at number (Train source train.now) self.old self.new) }
+        ensures ok { let at = setting spec.now now in
+            OnOk result (Obeys at number (Train source train.now) self.old self.new) }
         ensures room { OnOk result (0 < self.new.log.spare) }
         ensures refused { OnErr result (IsStill self.old self.new) }
         ensures succeeds { (p : Pocket) → IsSome (source_refusal source (net_of p self.old)) →
             IsOk result }
     {
         if let Some(refusal) = self.traffic.refusal(source) {
-            self.refuse(at.now, number, refusal);
+            self.refuse(now, number, refusal);
             return Ok(());
         }
-        self.traffic.start_train(at.now, source, train)?;
-        self.note_done(at.now, number);
+        self.traffic.start_train(now, source, train)?;
+        self.note_done(now, number);
         Ok(())
     }
 
     // Starts a flow.
     fn start_flow(
         &mut self,
-        at: EventContext,
+        spec: &Spec,
+        now: u64,
         number: u64,
         source: FlowNumber,
         flow: &FlowSpec,
     ) -> Result<(), AllocError>
         requires { 1 < self.old.log.spare }
-        ensures ok { OnOk result (Obeys at number (Flow source flow.now) self.old self.new) }
+        ensures ok { let at = setting spec.now now in
+            OnOk result (Obeys at number (Flow source flow.now) self.old self.new) }
         ensures room { OnOk result (0 < self.new.log.spare) }
         ensures refused { OnErr result (IsStill self.old self.new) }
         ensures succeeds { (p : Pocket) → IsSome (source_refusal source (net_of p self.old)) →
             IsOk result }
     {
         if let Some(reason) = self.traffic.refusal(source) {
-            self.refuse(at.now, number, reason);
+            self.refuse(now, number, reason);
             return Ok(());
         }
         self.traffic.start_flow(source, flow)?;
-        self.note_done(at.now, number);
+        self.note_done(now, number);
         Ok(())
     }
 
     // Stops a flow.
-    fn stop(&mut self, at: EventContext, number: u64, flow: FlowNumber) -> Result<(), AllocError>
+    fn stop(
+        &mut self,
+        spec: &Spec,
+        now: u64,
+        number: u64,
+        flow: FlowNumber,
+    ) -> Result<(), AllocError>
         requires { 1 < self.old.log.spare }
-        ensures ok { OnOk result (Obeys at number (Stop flow) self.old self.new) }
+        ensures ok { let at = setting spec.now now in
+            OnOk result (Obeys at number (Stop flow) self.old self.new) }
         ensures room { OnOk result (0 < self.new.log.spare) }
         ensures refused { OnErr result (IsStill self.old self.new) }
         ensures succeeds { IsOk result }
     {
         if !self.traffic.has_flow(flow) {
-            self.refuse(at.now, number, Refusal::NoFlow);
+            self.refuse(now, number, Refusal::NoFlow);
             return Ok(());
         }
         self.traffic.stop(flow);
-        self.note_done(at.now, number);
+        self.note_done(now, number);
         Ok(())
     }
 
     // Sets whether a packet that leaves a pipe is delivered at once.
     fn set_one_pass(
         &mut self,
-        at: EventContext,
+        spec: &Spec,
+        now: u64,
         number: u64,
         one_pass: bool,
     ) -> Result<(), AllocError>
         requires { 1 < self.old.log.spare }
-        ensures ok { OnOk result (Obeys at number (OnePass one_pass) self.old self.new) }
+        ensures ok { let at = setting spec.now now in
+            OnOk result (Obeys at number (OnePass one_pass) self.old self.new) }
         ensures room { OnOk result (0 < self.new.log.spare) }
         ensures refused { OnErr result (IsStill self.old self.new) }
         ensures succeeds { IsOk result }
     {
         self.one_pass = one_pass;
-        self.note_done(at.now, number);
+        self.note_done(now, number);
         Ok(())
     }
 
     // Sets whether packets are traced.
-    fn set_trace(&mut self, at: EventContext, number: u64, trace: bool) -> Result<(), AllocError>
+    fn set_trace(
+        &mut self,
+        spec: &Spec,
+        now: u64,
+        number: u64,
+        trace: bool,
+    ) -> Result<(), AllocError>
         requires { 1 < self.old.log.spare }
-        ensures ok { OnOk result (Obeys at number (Trace trace) self.old self.new) }
+        ensures ok { let at = setting spec.now now in
+            OnOk result (Obeys at number (Trace trace) self.old self.new) }
         ensures room { OnOk result (0 < self.new.log.spare) }
         ensures refused { OnErr result (IsStill self.old self.new) }
         ensures succeeds { IsOk result }
     {
         self.trace = trace;
-        self.note_done(at.now, number);
+        self.note_done(now, number);
         Ok(())
     }
 
     // Executes the last command.
-    fn end(&mut self, at: EventContext, number: u64) -> Result<(), AllocError>
+    fn end(&mut self, spec: &Spec, now: u64, number: u64) -> Result<(), AllocError>
         requires { 1 < self.old.log.spare }
-        ensures ok { OnOk result (Obeys at number End self.old self.new) }
+        ensures ok { let at = setting spec.now now in
+            OnOk result (Obeys at number End self.old self.new) }
         ensures room { OnOk result (0 < self.new.log.spare) }
         ensures refused { OnErr result (IsStill self.old self.new) }
         ensures succeeds { IsOk result }
     {
-        self.note_done(at.now, number);
+        self.note_done(now, number);
         Ok(())
     }
 }

@@ -7,6 +7,7 @@ ghost use Rattle.emu_model.specs.declared.packets.Load.TheVariants.{Plain, Seg, 
 ghost use Rattle.emu_model.specs.Net.{deliver, find_flow, take_ack, take_load};
 ghost use Rattle.packet_store.specs.Pocket.{AllStay};
 ghost use Rattle.pipe_table.specs.Places.{KeepsPlaces};
+ghost use Rattle.emu_model.specs.Step.{setting};
 ghost use Rattle.network.specs.Kept.{net_of, Stands};
 ghost use Rattle.network.specs.Changes.{Becomes, IsStill, Turns};
 ghost use Rattle.network.specs.Frames.{TakesRoom};
@@ -14,7 +15,7 @@ ghost use Rattle.network.specs.Ready.{CanDeliver};
 
 use crate::flow_cache::{Lookup, reply_line_of};
 use crate::state::Network;
-use emu_model::{EventContext, FlowNumber, Load, Packet, Record};
+use emu_model::{FlowNumber, Load, Packet, Record, Spec};
 use packet_store::{Owner, Shelf};
 use std::alloc::AllocError;
 
@@ -85,27 +86,28 @@ impl Network {
         &mut self,
         shelf: &mut S,
         owner: Owner,
-        at: EventContext,
+        spec: &Spec,
+        now: u64,
         packet: &Packet,
         lookup: &Lookup,
     )
-        requires stands { Stands at (S.pocket shelf.old owner) self.old }
+        requires stands { Stands (setting spec.now now) (S.pocket shelf.old owner) self.old }
         requires made { self.old.made < 2 ^ 63 }
         requires room { 0 < S.room shelf.old owner }
         requires log { 4 < self.old.log.spare }
         requires ready { CanDeliver packet.now.load lookup.now self.old }
-        ensures becomes { Becomes 1
+        ensures becomes { let at = setting spec.now now in Becomes 1
             (deliver at packet.now (net_of (S.pocket shelf.old owner) self.old))
             (S.pocket shelf.old owner) (S.pocket shelf.new owner) self.old self.new }
         ensures takes { TakesRoom 5 owner (S.pocket shelf.old) (S.pocket shelf.new)
             self.old self.new }
     {
         self.note(&Record::PacketDelivered {
-            moment: at.now,
+            moment: now,
             packet: packet.number,
             load: packet.load,
         });
-        self.take_load(shelf, owner, at, packet.load, lookup);
+        self.take_load(shelf, owner, spec, now, packet.load, lookup);
     }
 
     // Passes a delivered load to its flow, if it has one.
@@ -114,24 +116,28 @@ impl Network {
         &mut self,
         shelf: &mut S,
         owner: Owner,
-        at: EventContext,
+        spec: &Spec,
+        now: u64,
         load: Load,
         lookup: &Lookup,
     )
-        requires stands { Stands at (S.pocket shelf.old owner) self.old }
+        requires stands { Stands (setting spec.now now) (S.pocket shelf.old owner) self.old }
         requires made { self.old.made < 2 ^ 63 }
         requires room { 0 < S.room shelf.old owner }
         requires log { 3 < self.old.log.spare }
         requires ready { CanDeliver load lookup.now self.old }
-        ensures becomes { Becomes 1 (take_load at load (net_of (S.pocket shelf.old owner) self.old))
+        ensures becomes { let at = setting spec.now now in
+            Becomes 1 (take_load at load (net_of (S.pocket shelf.old owner) self.old))
             (S.pocket shelf.old owner) (S.pocket shelf.new owner) self.old self.new }
         ensures takes { TakesRoom 4 owner (S.pocket shelf.old) (S.pocket shelf.new)
             self.old self.new }
     {
         match load {
             Load::Plain => {}
-            Load::Seg { flow, first } => self.take_segment(shelf, owner, at, flow, first, lookup),
-            Load::Ack { flow, upto } => self.take_ack(at.now, flow, upto),
+            Load::Seg { flow, first } => self.take_segment(
+                shelf, owner, spec, now, flow, first, lookup,
+            ),
+            Load::Ack { flow, upto } => self.take_ack(now, flow, upto),
         }
     }
 
@@ -141,17 +147,18 @@ impl Network {
         &mut self,
         shelf: &mut S,
         owner: Owner,
-        at: EventContext,
+        spec: &Spec,
+        now: u64,
         flow: FlowNumber,
         first: u64,
         lookup: &Lookup,
     )
-        requires stands { Stands at (S.pocket shelf.old owner) self.old }
+        requires stands { Stands (setting spec.now now) (S.pocket shelf.old owner) self.old }
         requires made { self.old.made < 2 ^ 63 }
         requires room { 0 < S.room shelf.old owner }
         requires log { 3 < self.old.log.spare }
         requires ready { CanDeliver (Seg flow first) lookup.now self.old }
-        ensures becomes { Becomes 1
+        ensures becomes { let at = setting spec.now now in Becomes 1
             (take_load at (Seg flow first) (net_of (S.pocket shelf.old owner) self.old))
             (S.pocket shelf.old owner) (S.pocket shelf.new owner) self.old self.new }
         ensures takes { TakesRoom 4 owner (S.pocket shelf.old) (S.pocket shelf.new)
@@ -159,7 +166,7 @@ impl Network {
     {
         let answer = self.traffic.take(flow, first);
         if let Some(sending) = answer {
-            self.make(shelf, owner, at, &sending, lookup);
+            self.make(shelf, owner, spec, now, &sending, lookup);
         }
     }
 

@@ -9,6 +9,7 @@ ghost use Rattle.emu_model.specs.Delay.{first_item, leave};
 ghost use Rattle.emu_model.specs.Net.{drop_record, find_flow, find_pipe};
 ghost use Rattle.emu_model.specs.Events.{direct_exit, emission, event_of, expire_flow, flying_in, pipe_exits, pipe_finishes};
 ghost use Rattle.packet_store.specs.Pocket.{OthersStay, AllStay};
+ghost use Rattle.emu_model.specs.Step.{setting};
 ghost use Rattle.network.specs.Kept.{net_of, IsHoused, Stands};
 ghost use Rattle.network.specs.Changes.{Becomes, IsStill, Notes, NotesIn, Turns};
 ghost use Rattle.network.specs.Frames.{Frame};
@@ -20,7 +21,7 @@ ghost use Rattle.sources.specs.Sends.{IsEmitting};
 
 use crate::flow_cache::{Lookup, Route, line_of};
 use crate::state::Network;
-use emu_model::{Class, DropCause, Due, EventContext, FlowNumber, Packet, PipeNumber, Record};
+use emu_model::{Class, DropCause, Due, FlowNumber, Packet, PipeNumber, Record, Spec};
 use packet_store::{Owner, Shelf};
 use pipe_core::laws;
 use pipe_table::RecordLog;
@@ -57,14 +58,13 @@ impl Network {
         &mut self,
         shelf: &mut S,
         owner: Owner,
-        at: EventContext,
+        spec: &Spec,
         due: Due,
     ) -> Result<(), AllocError>
-        requires stands { Stands at (S.pocket shelf.old owner) self.old }
+        requires stands { Stands (setting spec.now due.moment) (S.pocket shelf.old owner) self.old }
         requires made { self.old.made < 2 ^ 63 }
         requires due { IsDue due self.old }
-        requires now { due.moment ≡ at.now }
-        ensures ok { OnOk result
+        ensures ok { let at = setting spec.now due.moment in OnOk result
             (Becomes 1
             (event_of at due.source.class due.source.number
             (net_of (S.pocket shelf.old owner) self.old))
@@ -74,33 +74,34 @@ impl Network {
             self.old self.new }
     {
         self.reserve(MAX_RECORDS)?;
+        let now = due.moment;
         let source = due.source;
         match source.class {
             Class::NextCommand => Ok(()),
             Class::Exit => {
                 let Some(pipe) = source.pipe() else {
-                    return self.direct_exit(shelf, owner, at);
+                    return self.direct_exit(shelf, owner, spec, now);
                 };
-                self.pipe_exit(shelf, owner, at, pipe, source.instance())
+                self.pipe_exit(shelf, owner, spec, now, pipe, source.instance())
             }
             Class::Finish => {
                 let Some(pipe) = source.pipe() else {
                     unreachable_unchecked!();
                 };
-                self.pipe_finish(shelf, owner, at, pipe, source.instance())
+                self.pipe_finish(shelf, owner, spec, now, pipe, source.instance())
             }
             Class::Expiry => {
                 let Some(flow) = source.flow() else {
                     unreachable_unchecked!();
                 };
-                self.expire(at, flow);
+                self.expire(spec, now, flow);
                 Ok(())
             }
             Class::Emission => {
                 let Some(number) = source.flow() else {
                     unreachable_unchecked!();
                 };
-                self.emission(shelf, owner, at, number)
+                self.emission(shelf, owner, spec, now, number)
             }
         }
     }
@@ -169,22 +170,23 @@ impl Network {
         &mut self,
         shelf: &mut S,
         owner: Owner,
-        at: EventContext,
+        spec: &Spec,
+        now: u64,
     ) -> Result<(), AllocError>
-        requires stands { Stands at (S.pocket shelf.old owner) self.old }
+        requires stands { Stands (setting spec.now now) (S.pocket shelf.old owner) self.old }
         requires made { self.old.made < 2 ^ 63 }
         requires log { 5 < self.old.log.spare }
-        ensures ok { OnOk result
+        ensures ok { let at = setting spec.now now in OnOk result
             (Becomes 1 (direct_exit at (net_of (S.pocket shelf.old owner) self.old))
             (S.pocket shelf.old owner) (S.pocket shelf.new owner) self.old self.new) }
         ensures frame { Frame result owner (S.pocket shelf.old) (S.pocket shelf.new)
             self.old self.new }
     {
-        let lookup = self.direct_ready(shelf, owner, at.now)?;
+        let lookup = self.direct_ready(shelf, owner, now)?;
         let Some(packet) = self.leave_direct(shelf, owner) else {
             return Ok(());
         };
-        self.deliver(shelf, owner, at, &packet, &lookup);
+        self.deliver(shelf, owner, spec, now, &packet, &lookup);
         Ok(())
     }
 
@@ -195,15 +197,17 @@ impl Network {
         &mut self,
         shelf: &mut S,
         owner: Owner,
-        at: EventContext,
+        spec: &Spec,
+        now: u64,
         pipe: PipeNumber,
         instance: u8,
     ) -> Result<(), AllocError>
-        requires stands { Stands at (S.pocket shelf.old owner) self.old }
+        requires stands { Stands (setting spec.now now) (S.pocket shelf.old owner) self.old }
         requires made { self.old.made < 2 ^ 63 }
         requires log { 5 < self.old.log.spare }
-        requires due { IsLeaving pipe instance at.now self.old.table.pipes }
-        ensures ok { let n = net_of (S.pocket shelf.old owner) self.old in
+        requires due { IsLeaving pipe instance now self.old.table.pipes }
+        ensures ok { let at = setting spec.now now in
+            let n = net_of (S.pocket shelf.old owner) self.old in
             OnOk result
             (Becomes 1 (option_map_or (pipe_exits at pipe instance n) (find_pipe pipe n) n)
             (S.pocket shelf.old owner) (S.pocket shelf.new owner) self.old self.new) }
@@ -218,9 +222,9 @@ impl Network {
             unreachable_unchecked!();
         };
         if self.one_pass {
-            return self.deliver_front(shelf, owner, at, pipe, place, instance);
+            return self.deliver_front(shelf, owner, spec, now, pipe, place, instance);
         }
-        self.pass_front(shelf, owner, at, pipe, place, instance)
+        self.pass_front(shelf, owner, spec, now, pipe, place, instance)
     }
 
     // Removes a packet like `pipe_exit`, given the pipe's place, and delivers it.
@@ -230,18 +234,20 @@ impl Network {
         &mut self,
         shelf: &mut S,
         owner: Owner,
-        at: EventContext,
+        spec: &Spec,
+        now: u64,
         pipe: PipeNumber,
         place: usize,
         instance: u8,
     ) -> Result<(), AllocError>
-        requires stands { Stands at (S.pocket shelf.old owner) self.old }
+        requires stands { Stands (setting spec.now now) (S.pocket shelf.old owner) self.old }
         requires made { self.old.made < 2 ^ 63 }
         requires log { 5 < self.old.log.spare }
         requires place { StandsAt pipe place self.old.table.pipes }
-        requires due { IsLeaving pipe instance at.now self.old.table.pipes }
+        requires due { IsLeaving pipe instance now self.old.table.pipes }
         requires one_pass { self.old.one_pass ≡ true }
-        ensures ok { let n = net_of (S.pocket shelf.old owner) self.old in
+        ensures ok { let at = setting spec.now now in
+            let n = net_of (S.pocket shelf.old owner) self.old in
             OnOk result
             (Becomes 1 (option_map_or (pipe_exits at pipe instance n) (find_pipe pipe n) n)
             (S.pocket shelf.old owner) (S.pocket shelf.new owner) self.old self.new) }
@@ -256,9 +262,9 @@ impl Network {
         let Some(packet) = self.table.front(place, index, shelf, owner) else {
             unreachable_unchecked!();
         };
-        let lookup = self.deliver_ready(shelf, owner, at.now, packet.load)?;
+        let lookup = self.deliver_ready(shelf, owner, now, packet.load)?;
         let _gone = self.table.exit(place, index, shelf, owner);
-        self.deliver(shelf, owner, at, &packet, &lookup);
+        self.deliver(shelf, owner, spec, now, &packet, &lookup);
         Ok(())
     }
 
@@ -291,18 +297,20 @@ impl Network {
         &mut self,
         shelf: &mut S,
         owner: Owner,
-        at: EventContext,
+        spec: &Spec,
+        now: u64,
         pipe: PipeNumber,
         place: usize,
         instance: u8,
     ) -> Result<(), AllocError>
-        requires stands { Stands at (S.pocket shelf.old owner) self.old }
+        requires stands { Stands (setting spec.now now) (S.pocket shelf.old owner) self.old }
         requires made { self.old.made < 2 ^ 63 }
         requires log { 5 < self.old.log.spare }
         requires place { StandsAt pipe place self.old.table.pipes }
-        requires due { IsLeaving pipe instance at.now self.old.table.pipes }
+        requires due { IsLeaving pipe instance now self.old.table.pipes }
         requires one_pass { self.old.one_pass ≡ false }
-        ensures ok { let n = net_of (S.pocket shelf.old owner) self.old in
+        ensures ok { let at = setting spec.now now in
+            let n = net_of (S.pocket shelf.old owner) self.old in
             OnOk result
             (Becomes 1 (option_map_or (pipe_exits at pipe instance n) (find_pipe pipe n) n)
             (S.pocket shelf.old owner) (S.pocket shelf.new owner) self.old self.new) }
@@ -313,15 +321,15 @@ impl Network {
         let Some(packet) = self.table.front(place, index, shelf, owner) else {
             unreachable_unchecked!();
         };
-        let known = self.pass_ready(shelf, owner, at.now, &packet)?;
+        let known = self.pass_ready(shelf, owner, now, &packet)?;
         let _gone = self.table.exit(place, index, shelf, owner);
         self.note(&Record::PacketPassed {
-            moment: at.now,
+            moment: now,
             packet: packet.number,
             pipe,
             instance,
         });
-        self.reinject(shelf, owner, at, &packet, &known);
+        self.reinject(shelf, owner, spec, now, &packet, &known);
         Ok(())
     }
 
@@ -332,14 +340,16 @@ impl Network {
         &mut self,
         shelf: &mut S,
         owner: Owner,
-        at: EventContext,
+        spec: &Spec,
+        now: u64,
         pipe: PipeNumber,
         instance: u8,
     ) -> Result<(), AllocError>
-        requires stands { Stands at (S.pocket shelf.old owner) self.old }
+        requires stands { Stands (setting spec.now now) (S.pocket shelf.old owner) self.old }
         requires log { 2 < self.old.log.spare }
-        requires due { IsFinishing pipe instance at.now self.old.table.pipes }
-        ensures ok { let n = net_of (S.pocket shelf.old owner) self.old in
+        requires due { IsFinishing pipe instance now self.old.table.pipes }
+        ensures ok { let at = setting spec.now now in
+            let n = net_of (S.pocket shelf.old owner) self.old in
             OnOk result
             (Becomes 0 (option_map_or (pipe_finishes at pipe instance n) (find_pipe pipe n) n)
             (S.pocket shelf.old owner) (S.pocket shelf.new owner) self.old self.new) }
@@ -350,15 +360,15 @@ impl Network {
             unreachable_unchecked!();
         };
         let index = usize::from(instance);
-        if !self.table.drops_none(place, index, at.now) {
-            return self.finish_dropping(shelf, owner, at, pipe, place, instance);
+        if !self.table.drops_none(place, index, now) {
+            return self.finish_dropping(shelf, owner, spec, now, pipe, place, instance);
         }
         let drops = &mut self.drops;
         let packet = self
             .table
-            .finish(place, index, shelf, owner, at.now, true, drops)?;
+            .finish(place, index, shelf, owner, now, true, drops)?;
         self.note(&Record::PacketFinished {
-            moment: at.now,
+            moment: now,
             packet: packet.number,
             pipe,
             instance,
@@ -373,15 +383,17 @@ impl Network {
         &mut self,
         shelf: &mut S,
         owner: Owner,
-        at: EventContext,
+        spec: &Spec,
+        now: u64,
         pipe: PipeNumber,
         place: usize,
         instance: u8,
     ) -> Result<(), AllocError>
-        requires stands { Stands at (S.pocket shelf.old owner) self.old }
+        requires stands { Stands (setting spec.now now) (S.pocket shelf.old owner) self.old }
         requires place { StandsAt pipe place self.old.table.pipes }
-        requires due { IsFinishing pipe instance at.now self.old.table.pipes }
-        ensures ok { let n = net_of (S.pocket shelf.old owner) self.old in
+        requires due { IsFinishing pipe instance now self.old.table.pipes }
+        ensures ok { let at = setting spec.now now in
+            let n = net_of (S.pocket shelf.old owner) self.old in
             OnOk result
             (Becomes 0 (option_map_or (pipe_finishes at pipe instance n) (find_pipe pipe n) n)
             (S.pocket shelf.old owner) (S.pocket shelf.new owner) self.old self.new) }
@@ -393,14 +405,14 @@ impl Network {
         let drops = &mut self.drops;
         let packet = self
             .table
-            .finish(place, index, shelf, owner, at.now, false, drops)?;
+            .finish(place, index, shelf, owner, now, false, drops)?;
         self.log.note(&Record::PacketFinished {
-            moment: at.now,
+            moment: now,
             packet: packet.number,
             pipe,
             instance,
         });
-        note_drops(&mut self.log, at.now, &self.drops, DropCause::Codel);
+        note_drops(&mut self.log, now, &self.drops, DropCause::Codel);
         Ok(())
     }
 
@@ -415,17 +427,18 @@ impl Network {
 
     // Handles the expiry of a flow's timer.
     #[inline(never)]
-    fn expire(&mut self, at: EventContext, flow: FlowNumber)
-        requires early { IsMoment at.now }
+    fn expire(&mut self, spec: &Spec, now: u64, flow: FlowNumber)
+        requires early { IsMoment now }
         requires log { 0 < self.old.log.spare }
-        ensures turns { Turns (λ n. option_map_or (expire_flow at n)
+        ensures turns { let at = setting spec.now now in
+            Turns (λ n. option_map_or (expire_flow at n)
             (find_flow flow n) n) self.old self.new }
         ensures log { self.old.log.spare ≤ self.new.log.spare + 1 }
     {
-        let answer = self.traffic.expire(at.now, flow);
+        let answer = self.traffic.expire(now, flow);
         if let Some(window) = answer {
             self.note(&Record::TimerExpired {
-                moment: at.now,
+                moment: now,
                 flow,
                 cwnd: window.cwnd,
                 ssthresh: window.ssthresh,
@@ -439,14 +452,15 @@ impl Network {
         &mut self,
         shelf: &mut S,
         owner: Owner,
-        at: EventContext,
+        spec: &Spec,
+        now: u64,
         source: FlowNumber,
     ) -> Result<(), AllocError>
-        requires stands { Stands at (S.pocket shelf.old owner) self.old }
+        requires stands { Stands (setting spec.now now) (S.pocket shelf.old owner) self.old }
         requires made { self.old.made < 2 ^ 63 }
         requires log { 5 < self.old.log.spare }
         requires may { IsEmitting source self.old.traffic }
-        ensures ok { OnOk result
+        ensures ok { let at = setting spec.now now in OnOk result
             (Becomes 1 (emission at source (net_of (S.pocket shelf.old owner) self.old))
             (S.pocket shelf.old owner) (S.pocket shelf.new owner) self.old self.new) }
         ensures frame { Frame result owner (S.pocket shelf.old) (S.pocket shelf.new)
@@ -457,9 +471,9 @@ impl Network {
             return Ok(());
         };
         let send = self.traffic.header_at(&found);
-        let lookup = self.make_ready(shelf, owner, at.now, line_of(source), &send)?;
-        let origin = self.traffic.emit_at(at.now, &found);
-        self.make(shelf, owner, at, &Sending { origin, send }, &lookup);
+        let lookup = self.make_ready(shelf, owner, now, line_of(source), &send)?;
+        let origin = self.traffic.emit_at(now, &found);
+        self.make(shelf, owner, spec, now, &Sending { origin, send }, &lookup);
         Ok(())
     }
 }

@@ -3,6 +3,7 @@
 ghost use Rattle.std.specs.Prelude.{IsTrue, IfSome, [], ◌≡◌, ◌+◌, ◌^◌, ◌<◌, ◌≤◌, length};
 ghost use Rattle.emu_model.specs.Moments.{IsMoment};
 ghost use Rattle.emu_model.specs.Dues.{due};
+ghost use Rattle.emu_model.specs.Step.{setting};
 ghost use Rattle.network.specs.Kept.{net_keys, IsHoused, Stands};
 ghost use Rattle.network.specs.Due.{IsDue};
 ghost use Rattle.packet_store.specs.Own.{own_pocket};
@@ -11,10 +12,11 @@ mod traces;
 
 use crate::tests::wants::{assert_records, assert_same, assert_with_message};
 use emu_model::{
-    Action, Amount, Bandwidth, Class, Command, Delay, Discipline, DropCause, Due, EventContext,
+    Action, Amount, Bandwidth, Budget, Class, Command, Delay, Discipline, DropCause, Due,
     FlowNumber, FlowSpec, Gap, Load, LossRate, Mask, Origin, PacketBudget, PipeConfig, PipeNumber,
     Prefix, PrefixLength, Protocol, ProtocolMatch, QueueLimit, Record, Rule, RuleNumber,
-    SegmentSize, SendSpec, Size, SlotLimit, Source, Threshold, Timed, Timing, TrainSpec, Window,
+    SegmentSize, SendSpec, Size, SlotLimit, Source, Spec, StepBudget, Threshold, Timed, Timing,
+    TrainSpec, Window,
 };
 use network::{Network, laws};
 use packet_store::{OwnShelf, Shelf};
@@ -23,13 +25,17 @@ use std::alloc::Global;
 /// The latest time of a test (ns).
 const LATEST: u64 = 1_000_000_000;
 
-fn at(packet_budget: PacketBudget, now: u64) -> EventContext
-    ensures { result ≡ record { seed = 0; packet_budget = packet_budget; now = now } }
+/// Returns a spec of seed 0 with this packet budget.
+fn spec_of(packets: PacketBudget) -> Spec
+    ensures { (result.seed ≡ 0) × (result.budget.packets ≡ packets) }
 {
-    EventContext {
+    Spec {
         seed: 0,
-        packet_budget,
-        now,
+        budget: Budget {
+            packets,
+            steps: StepBudget::new(1).unwrap(),
+        },
+        traced: false,
     }
 }
 
@@ -51,11 +57,12 @@ fn next_command(moment: u64) -> Due
 fn obeys_once(
     net: &mut Network,
     shelf: &mut OwnShelf,
-    at: EventContext,
+    spec: &Spec,
+    now: u64,
     number: u64,
     command: &Command,
 ) -> bool
-    requires stands { Stands at (own_pocket shelf.old) net.old }
+    requires stands { Stands (setting spec.now now) (own_pocket shelf.old) net.old }
     requires made { net.old.made < 2 ^ 63 }
     ensures housed { IsHoused (own_pocket shelf.new) net.new }
     ensures budget { (own_pocket shelf.new).budget ≡ (own_pocket shelf.old).budget }
@@ -64,7 +71,7 @@ fn obeys_once(
     ensures room { IsTrue result → 0 < net.new.log.spare }
 {
     laws::still_is_housed();
-    let Ok(()) = net.obey(shelf, 0, at, number, command) else {
+    let Ok(()) = net.obey(shelf, 0, spec, now, number, command) else {
         return false;
     };
     true
@@ -103,29 +110,29 @@ fn obeys(
     ensures spare { IsTrue result → 0 < net.new.log.spare }
 {
     let before = totals_and_due(net, shelf);
-    if obeys_once(net, shelf, at(room, now), number, command) {
+    let spec = spec_of(room);
+    if obeys_once(net, shelf, &spec, now, number, command) {
         return true;
     }
     if totals_and_due(net, shelf) != before {
         return false;
     }
-    obeys_once(net, shelf, at(room, now), number, command)
+    obeys_once(net, shelf, &spec, now, number, command)
 }
 
 /// Processes an event. Returns false if an allocation fails.
 #[tactic(auto, using(crate::proofs::Standing::refused_made))]
-fn happens(net: &mut Network, shelf: &mut OwnShelf, at: EventContext, due: Due) -> bool
-    requires stands { Stands at (own_pocket shelf.old) net.old }
+fn happens(net: &mut Network, shelf: &mut OwnShelf, spec: &Spec, due: Due) -> bool
+    requires stands { Stands (setting spec.now due.moment) (own_pocket shelf.old) net.old }
     requires made { net.old.made < 2 ^ 63 }
     requires due { IsDue due net.old }
-    requires now { due.moment ≡ at.now }
     ensures housed { IsHoused (own_pocket shelf.new) net.new }
     ensures budget { (own_pocket shelf.new).budget ≡ (own_pocket shelf.old).budget }
     ensures seed { net.new.table.seed ≡ net.old.table.seed }
     ensures made { net.new.made ≤ net.old.made + 1 }
 {
     laws::still_is_housed();
-    let Ok(()) = net.event(shelf, 0, at, due) else {
+    let Ok(()) = net.event(shelf, 0, spec, due) else {
         return false;
     };
     true
@@ -151,6 +158,7 @@ fn goes_on(
     ensures housed { IsHoused (own_pocket shelf.new) net.new }
     ensures made { net.new.made ≤ net.old.made + 500 }
 {
+    let spec = spec_of(room);
     let mut clock = clock;
     for _ in 0..500_u64 {
         let due = net.earliest(clock, next_command(end));
@@ -158,7 +166,7 @@ fn goes_on(
             return true;
         }
         let before = totals_and_due(net, shelf);
-        if happens(net, shelf, at(room, due.moment), due) {
+        if happens(net, shelf, &spec, due) {
             clock = due.moment;
         } else if totals_and_due(net, shelf) != before {
             return false;

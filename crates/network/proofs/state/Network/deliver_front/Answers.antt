@@ -6,6 +6,7 @@ use Rattle.emu_model.specs.Events.{flying_in}
 use Rattle.pipe_table.specs.Table.{IsLeaving}
 use Rattle.pipe_table.specs.Places.{StandsAt, IsInside}
 use Rattle.pipe_table.proofs.CallerLemmas.{leaving-flies, leaving-inside}
+use Rattle.emu_model.specs.Step.{setting}
 use Rattle.network.specs.contracts.state.Network.{the_view}
 use Rattle.network.specs.Kept.{KeptNet, net_of, IsHoused}
 use Rattle.network.specs.Changes.{Becomes}
@@ -27,9 +28,9 @@ front-requires-clause-inside g c =
     let n = the_view c.self.inside in
     let k = c.args.pipe in
     subst (λ (j : ℕ). IsInside c.args.place j n.table.pipes) (sym c.from-index.ensures)
-    (leaving-inside k c.args.place c.args.instance c.args.at.now n.table.pipes
+    (leaving-inside k c.args.place c.args.instance c.args.now n.table.pipes
     (at_view (λ (m : KeptNet). StandsAt k c.args.place m.table.pipes) n c.args.self.now c.self.view_is c.requires.place)
-    (at_view (λ (m : KeptNet). IsLeaving k c.args.instance c.args.at.now m.table.pipes) n c.args.self.now c.self.view_is c.requires.due))
+    (at_view (λ (m : KeptNet). IsLeaving k c.args.instance c.args.now m.table.pipes) n c.args.self.now c.self.view_is c.requires.due))
 
 pub unreachable_unchecked-unreachable-requires : goal.unreachable_unchecked-unreachable-requires
 unreachable_unchecked-unreachable-requires g c =
@@ -38,9 +39,9 @@ unreachable_unchecked-unreachable-requires g c =
     let k = c.args.pipe in
     let at_first : StandsAt k c.args.place n.table.pipes =
     at_view (λ (m : KeptNet). StandsAt k c.args.place m.table.pipes) n c.args.self.now c.self.view_is c.requires.place in
-    leaving-flies k c.from-index.result c.args.at.now n.table.pipes
-    (subst (λ (j : ℕ). IsLeaving k j c.args.at.now n.table.pipes) (sym c.from-index.ensures)
-    (at_view (λ (m : KeptNet). IsLeaving k c.args.instance c.args.at.now m.table.pipes) n c.args.self.now c.self.view_is c.requires.due))
+    leaving-flies k c.from-index.result c.args.now n.table.pipes
+    (subst (λ (j : ℕ). IsLeaving k j c.args.now n.table.pipes) (sym c.from-index.ensures)
+    (at_view (λ (m : KeptNet). IsLeaving k c.args.instance c.args.now m.table.pipes) n c.args.self.now c.self.view_is c.requires.due))
     p (net_of p n) (sym (c.front.ensures k at_first (net_of p n)) ∙ c.in_default.is)
 
 pub exit-gone-requires-clause-inside : goal.exit-gone-requires-clause-inside
@@ -49,7 +50,7 @@ exit-gone-requires-clause-inside g c =
     at_view (λ (m : KeptNet). IsInside c.args.place c.from-index.result m.table.pipes) (the_view c.self-2.inside) c.deliver_ready.new.self c.self-2.view_is
     (c.in_ok-lookup.ensures.places.inside c.args.place c.from-index.result
     (subst (λ (j : ℕ). IsInside c.args.place j ps) (sym c.from-index.ensures)
-    (leaving-inside c.args.pipe c.args.place c.args.instance c.args.at.now ps c.requires.place c.requires.due)))
+    (leaving-inside c.args.pipe c.args.place c.args.instance c.args.now ps c.requires.place c.requires.due)))
 
 pub exit-gone-requires-clause-named : goal.exit-gone-requires-clause-named
 exit-gone-requires-clause-named g c =
@@ -78,7 +79,7 @@ deliver-requires-clause-stands g c =
     c.exit-gone.ensures.packet k stands (net_of p n)
     ∙ ap (λ (z : Net). option_and_then (flying_in j) (find_pipe k z)) (r.shown ∙ ap (net_of o) (sym c.self.view_is))
     ∙ sym (c.front.ensures k at_first (net_of o (the_view c.self.inside))) ∙ c.in-Some.is in
-    exit-stands c.args.at o p q old n table k j r c.exit-gone.ensures.keys c.exit-gone.ensures.seed c.requires.stands
+    exit-stands (setting c.args.spec.now c.args.now) o p q old n table k j r c.exit-gone.ensures.keys c.exit-gone.ensures.seed c.requires.stands
 
 pub deliver-requires-clause-room : goal.deliver-requires-clause-room
 deliver-requires-clause-room g c =
@@ -127,7 +128,7 @@ deliver-requires-clause-ready g c =
     ∙ ap (λ (z : Net). option_and_then (flying_in j) (find_pipe k z)) (r.shown ∙ ap (net_of o) (sym c.self.view_is))
     ∙ sym (c.front.ensures k at_first (net_of o (the_view c.self.inside))) ∙ c.in-Some.is in
     as-deliver n m (record {
-      roomy = exit-roomy c.args.at o p q old n table k j r c.exit-gone.ensures.keys c.exit-gone.ensures.seed
+      roomy = exit-roomy (setting c.args.spec.now c.args.now) o p q old n table k j r c.exit-gone.ensures.keys c.exit-gone.ensures.seed
           c.exit-gone.ensures.ready c.exit-gone.ensures.ready_at c.exit-gone.ensures.places;
       traffic = refl;
     }) x.load c.in_ok-lookup.lookup
@@ -156,10 +157,10 @@ returns-clause-ok g c =
     ∙ ap (λ (z : Net). option_and_then (flying_in j) (find_pipe k z)) (r.shown ∙ ap (net_of o) (sym c.self.view_is))
     ∙ sym (c.front.ensures k at_first (net_of o (the_view c.self.inside))) ∙ c.in-Some.is in
     let one = ap (λ (z : KeptNet). z.one_pass) (c.self-2.view_is ∙ c.deliver_ready.ensures.rest) ∙ c.requires.one_pass in
-    subst (λ (i : ℕ). Becomes 1 (exits c.args.at k i (net_of o old)) o (g.S.Shelf.pocket c.deliver.new.shelf c.args.owner) old c.deliver.new.self) c.from-index.ensures
-    (exit-some c.args.at o p q old n table k j r c.exit-gone.ensures.keys c.exit-gone.ensures.seed c.exit-gone.result
-    (c.exit-gone.ensures.gone k stands c.args.at (net_of p n)) x (sym gone) _ _
-    (delivered-leaves c.args.at k j x q _ m c.deliver.new.self one c.deliver.ensures.becomes))
+    subst (λ (i : ℕ). Becomes 1 (exits (setting c.args.spec.now c.args.now) k i (net_of o old)) o (g.S.Shelf.pocket c.deliver.new.shelf c.args.owner) old c.deliver.new.self) c.from-index.ensures
+    (exit-some (setting c.args.spec.now c.args.now) o p q old n table k j r c.exit-gone.ensures.keys c.exit-gone.ensures.seed c.exit-gone.result
+    (c.exit-gone.ensures.gone k stands (setting c.args.spec.now c.args.now) (net_of p n)) x (sym gone) _ _
+    (delivered-leaves (setting c.args.spec.now c.args.now) k j x q _ m c.deliver.new.self one c.deliver.ensures.becomes))
 
 err-not : {T E A : Type 0} (r : Result T E) (e : E) → r ≡ Err e → IsOk r → A
 err-not (Ok t) e is ok = absurd (cc)

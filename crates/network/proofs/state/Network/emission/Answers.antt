@@ -4,6 +4,7 @@ use Rattle.emu_model.specs.Events.{emission}
 use Rattle.sources.specs.Kept.{KeptTraffic, with_traffic}
 use Rattle.sources.specs.Sends.{IsEmitting, next_send}
 use Rattle.sources.specs.Standing.{source_place}
+use Rattle.emu_model.specs.Step.{setting}
 use Rattle.network.specs.contracts.state.Network.{the_view}
 use Rattle.network.specs.Kept.{KeptNet, net_of}
 use Rattle.network.specs.Ready.{CanMake}
@@ -19,9 +20,9 @@ returns-in_default-clause-ok g c =
     let old = c.args.self.now in
     let r = readied c.requires.stands.housed (still-refl old) (c.put_ready.ensures.pockets c.args.owner) refl in
     let same : c.self.inside.traffic ≡ old.traffic = ap (λ (m : KeptNet). m.traffic) c.self.view_is in
-    from_readied r (emission c.args.at c.args.source) 1 p old
-    (sent-none (emission c.args.at c.args.source) p old old.traffic r.housed
-    (λ m. subst (λ (t : KeptTraffic). emission c.args.at c.args.source (with_traffic t m) ≡ with_traffic t m) same (c.in_default.ensures.still c.args.at m)))
+    from_readied r (emission (setting c.args.spec.now c.args.now) c.args.source) 1 p old
+    (sent-none (emission (setting c.args.spec.now c.args.now) c.args.source) p old old.traffic r.housed
+    (λ m. subst (λ (t : KeptTraffic). emission (setting c.args.spec.now c.args.now) c.args.source (with_traffic t m) ≡ with_traffic t m) same (c.in_default.ensures.still (setting c.args.spec.now c.args.now) m)))
 
 pub emit_at-origin-requires-clause-may : goal.emit_at-origin-requires-clause-may
 emit_at-origin-requires-clause-may g c =
@@ -51,6 +52,6 @@ returns-clause-ok g c =
     let sends : next_send c.args.source (with_traffic c.self-2.inside.traffic (net_of p n)) ≡ Some c.header_at-send.result =
     ap (λ (t : KeptTraffic). next_send c.args.source (with_traffic t (net_of p n))) (tr ∙ sym first) ∙ c.header_at-send.ensures c.args.source (net_of p n) before in
     let r = readied c.requires.stands.housed c.make_ready.ensures.still (c.make_ready.ensures.pockets c.args.owner ∙ c.put_ready.ensures.pockets c.args.owner) c.self-2.view_is in
-    from_readied r (emission c.args.at c.args.source) 1 _ _
-    (sent-one (emission c.args.at c.args.source) p n c.emit_at-origin.new.self _ c.make.new.self _
-    (c.emit_at-origin.ensures.emission c.args.at c.args.source (net_of p n) c.header_at-send.result refl there sends) c.make.ensures.becomes)
+    from_readied r (emission (setting c.args.spec.now c.args.now) c.args.source) 1 _ _
+    (sent-one (emission (setting c.args.spec.now c.args.now) c.args.source) p n c.emit_at-origin.new.self _ c.make.new.self _
+    (c.emit_at-origin.ensures.emission (setting c.args.spec.now c.args.now) c.args.source (net_of p n) c.header_at-send.result refl there sends) c.make.ensures.becomes)

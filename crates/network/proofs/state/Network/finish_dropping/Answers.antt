@@ -7,6 +7,7 @@ use Rattle.pipe_core.specs.Keyed.{KeyedPipe}
 use Rattle.pipe_core.specs.Steps.{drops_by_codel}
 use Rattle.pipe_table.specs.Table.{with_pipes}
 use Rattle.pipe_table.specs.Places.{StandsAt}
+use Rattle.emu_model.specs.Step.{setting}
 use Rattle.network.specs.contracts.state.Network.{the_view}
 use Rattle.network.specs.Kept.{KeptNet, net_of}
 use Rattle.network.specs.Changes.{NotesIn}
@@ -35,12 +36,12 @@ returns-clause-ok g c =
     let stands : StandsAt k c.args.place n.table.pipes =
     subst (λ (ps : List KeyedPipe). StandsAt k c.args.place ps)
     (sym (ap (λ (m : KeptNet). m.table.pipes) (c.self.view_is ∙ c.reserve_besides.ensures.rest))) c.requires.place in
-    let done = subst (λ (j : ℕ). finishes c.args.at k j (net_of p n)
-    ≡ note_drops c.args.at.now (drops_by_codel drops) (with_pipes q table (note (PacketFinished c.args.at.now number k j) (net_of p n))))
-    c.from-index.ensures (c.in_ok-packet.ensures.ok k stands c.args.at (net_of p n) refl) in
-    let rest = subst (λ (xs : List Packet). NotesIn (map (drop_record c.args.at.now) (map (λ x. record { packet = x; cause = Codel }) xs)) c.note.new.self c.note_drops.new.log)
+    let done = subst (λ (j : ℕ). finishes (setting c.args.spec.now c.args.now) k j (net_of p n)
+    ≡ note_drops c.args.now (drops_by_codel drops) (with_pipes q table (note (PacketFinished c.args.now number k j) (net_of p n))))
+    c.from-index.ensures (c.in_ok-packet.ensures.ok k stands (setting c.args.spec.now c.args.now) (net_of p n) refl) in
+    let rest = subst (λ (xs : List Packet). NotesIn (map (drop_record c.args.now) (map (λ x. record { packet = x; cause = Codel }) xs)) c.note.new.self c.note_drops.new.log)
     c.deref.ensures.value c.note_drops.ensures in
-    from_readied r (finishes c.args.at k c.args.instance) 0 _ _
-    (finished p q n table k c.args.instance r.housed c.finish.ensures.keys c.finish.ensures.seed c.args.at number drops mid new done
+    from_readied r (finishes (setting c.args.spec.now c.args.now) k c.args.instance) 0 _ _
+    (finished p q n table k c.args.instance r.housed c.finish.ensures.keys c.finish.ensures.seed (setting c.args.spec.now c.args.now) number drops mid new done
     (record { rest = refl; records = c.note.ensures.records; room = c.note.ensures.room })
     (record { rest = refl; records = rest.records; room = rest.room }))

@@ -1,4 +1,5 @@
 use Rattle.emu_model.specs.Net.{load_by, make as made_of}
+use Rattle.emu_model.specs.Step.{setting}
 use Rattle.network.specs.Kept.{KeptNet, net_of, Stands}
 use Rattle.network.specs.declared.flow_cache.Lookup.{Lookup}
 use Rattle.network.specs.Ready.{HasRoute, CanGo, CanMake}
@@ -42,7 +43,7 @@ returns-in-Some-clause-becomes g c =
     let x = c.packet_of-packet.result in
     let line = c.in-Cached.line in
     let held = c.in-Some.held.now in
-    let stands : Stands c.args.at p n = at_view (Stands c.args.at p) _ _ c.self.view_is c.requires.stands in
+    let stands : Stands (setting c.args.spec.now c.args.now) p n = at_view (Stands (setting c.args.spec.now c.args.now) p) _ _ c.self.view_is c.requires.stands in
     let known : HasRoute x line c.note_made.new.self =
     packet-known (load_by c.args.sending.now.origin) c.args.sending.now.send c.self.inside.made line x n c.note_made.new.self
     (subst (λ (o : KeptNet). IsRoomy n o) (sym c.note_made.ensures.rest) (roomy-same n _ refl (omega arith) refl refl)) c.packet_of-packet.ensures
@@ -50,8 +51,8 @@ returns-in-Some-clause-becomes g c =
     (at_view (CanMake c.args.sending.now.send c.args.lookup.now) _ _ c.self.view_is c.requires.ready)) in
     let go : CanGo 0 x held.route m =
     on-line x line held m c.self-in-Cached.invariant (at_view (HasRoute x line) m _ c.self-in-Cached.view_is known) c.in-Some.ensures.some in
-    from_view 1 (λ m. made_of c.args.at c.args.sending.now.origin c.args.sending.now.send (net_of p m)) p _ _ _ _ c.self.view_is
-    (made-passes c.keys_say_all.ensures.packets c.args.at p n c.args.sending.now.origin c.args.sending.now.send x
+    from_view 1 (λ m. made_of (setting c.args.spec.now c.args.now) c.args.sending.now.origin c.args.sending.now.send (net_of p m)) p _ _ _ _ c.self.view_is
+    (made-passes c.keys_say_all.ensures.packets (setting c.args.spec.now c.args.now) p n c.args.sending.now.origin c.args.sending.now.send x
     stands.housed c.packet_of-packet.ensures _ _ _ c.note_made.ensures
     (omega (arith, c.if-count-get.false, c.count.ensures.value, c.get.ensures.value))
     (c.pass_by_route.ensures.becomes 0 (subst (λ (o : KeptNet). CanGo 0 x held.route o) c.self-in-Cached.view_is go)))
@@ -60,9 +61,9 @@ pub returns-in-Searched-clause-becomes : goal.returns-in-Searched-clause-becomes
 returns-in-Searched-clause-becomes g c =
     let p = g.S.Shelf.pocket c.args.shelf.now c.args.owner in
     let n = the_view c.self.inside in
-    let stands : Stands c.args.at p n = at_view (Stands c.args.at p) _ _ c.self.view_is c.requires.stands in
-    from_view 1 (λ m. made_of c.args.at c.args.sending.now.origin c.args.sending.now.send (net_of p m)) p _ _ _ _ c.self.view_is
-    (made-passes c.keys_say_all.ensures.packets c.args.at p n c.args.sending.now.origin c.args.sending.now.send c.packet_of-packet.result
+    let stands : Stands (setting c.args.spec.now c.args.now) p n = at_view (Stands (setting c.args.spec.now c.args.now) p) _ _ c.self.view_is c.requires.stands in
+    from_view 1 (λ m. made_of (setting c.args.spec.now c.args.now) c.args.sending.now.origin c.args.sending.now.send (net_of p m)) p _ _ _ _ c.self.view_is
+    (made-passes c.keys_say_all.ensures.packets (setting c.args.spec.now c.args.now) p n c.args.sending.now.origin c.args.sending.now.send c.packet_of-packet.result
     stands.housed c.packet_of-packet.ensures _ _ _ c.note_made.ensures
     (omega (arith, c.if-count-get.false, c.count.ensures.value, c.get.ensures.value)) c.pass_rules.ensures.becomes)
 
@@ -70,8 +71,8 @@ pub returns-then-count-get-clause-becomes : goal.returns-then-count-get-clause-b
 returns-then-count-get-clause-becomes g c =
     let p = g.S.Shelf.pocket c.args.shelf.now c.args.owner in
     let n = the_view c.self.inside in
-    let stands : Stands c.args.at p n = at_view (Stands c.args.at p) _ _ c.self.view_is c.requires.stands in
-    from_view 1 (λ m. made_of c.args.at c.args.sending.now.origin c.args.sending.now.send (net_of p m)) p _ _ _ _ c.self.view_is
-    (made-dropped c.keys_say_all.ensures.packets c.args.at p n c.args.sending.now.origin c.args.sending.now.send c.packet_of-packet.result
+    let stands : Stands (setting c.args.spec.now c.args.now) p n = at_view (Stands (setting c.args.spec.now c.args.now) p) _ _ c.self.view_is c.requires.stands in
+    from_view 1 (λ m. made_of (setting c.args.spec.now c.args.now) c.args.sending.now.origin c.args.sending.now.send (net_of p m)) p _ _ _ _ c.self.view_is
+    (made-dropped c.keys_say_all.ensures.packets (setting c.args.spec.now c.args.now) p n c.args.sending.now.origin c.args.sending.now.send c.packet_of-packet.result
     stands.housed c.packet_of-packet.ensures _ _ c.note_made.ensures
     (omega (arith, c.if-count-get.true, c.count.ensures.value, c.get.ensures.value)) c.drop_packet.ensures)

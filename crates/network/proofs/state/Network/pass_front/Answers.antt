@@ -6,6 +6,7 @@ use Rattle.emu_model.specs.Events.{flying_in}
 use Rattle.pipe_table.specs.Table.{IsLeaving}
 use Rattle.pipe_table.specs.Places.{StandsAt, IsInside}
 use Rattle.pipe_table.proofs.CallerLemmas.{leaving-flies, leaving-inside}
+use Rattle.emu_model.specs.Step.{setting}
 use Rattle.network.specs.contracts.state.Network.{the_view}
 use Rattle.network.specs.Kept.{KeptNet, net_of, IsHoused, Stands}
 use Rattle.emu_model.specs.declared.records.Record.TheVariants.{PacketPassed}
@@ -28,9 +29,9 @@ front-requires-clause-inside g c =
     let n = the_view c.self.inside in
     let k = c.args.pipe in
     subst (λ (j : ℕ). IsInside c.args.place j n.table.pipes) (sym c.from-index.ensures)
-    (leaving-inside k c.args.place c.args.instance c.args.at.now n.table.pipes
+    (leaving-inside k c.args.place c.args.instance c.args.now n.table.pipes
     (at_view (λ (m : KeptNet). StandsAt k c.args.place m.table.pipes) n c.args.self.now c.self.view_is c.requires.place)
-    (at_view (λ (m : KeptNet). IsLeaving k c.args.instance c.args.at.now m.table.pipes) n c.args.self.now c.self.view_is c.requires.due))
+    (at_view (λ (m : KeptNet). IsLeaving k c.args.instance c.args.now m.table.pipes) n c.args.self.now c.self.view_is c.requires.due))
 
 pub unreachable_unchecked-unreachable-requires : goal.unreachable_unchecked-unreachable-requires
 unreachable_unchecked-unreachable-requires g c =
@@ -39,9 +40,9 @@ unreachable_unchecked-unreachable-requires g c =
     let k = c.args.pipe in
     let at_first : StandsAt k c.args.place n.table.pipes =
     at_view (λ (m : KeptNet). StandsAt k c.args.place m.table.pipes) n c.args.self.now c.self.view_is c.requires.place in
-    leaving-flies k c.from-index.result c.args.at.now n.table.pipes
-    (subst (λ (j : ℕ). IsLeaving k j c.args.at.now n.table.pipes) (sym c.from-index.ensures)
-    (at_view (λ (m : KeptNet). IsLeaving k c.args.instance c.args.at.now m.table.pipes) n c.args.self.now c.self.view_is c.requires.due))
+    leaving-flies k c.from-index.result c.args.now n.table.pipes
+    (subst (λ (j : ℕ). IsLeaving k j c.args.now n.table.pipes) (sym c.from-index.ensures)
+    (at_view (λ (m : KeptNet). IsLeaving k c.args.instance c.args.now m.table.pipes) n c.args.self.now c.self.view_is c.requires.due))
     p (net_of p n) (sym (c.front.ensures k at_first (net_of p n)) ∙ c.in_default.is)
 
 pub exit-gone-requires-clause-inside : goal.exit-gone-requires-clause-inside
@@ -50,7 +51,7 @@ exit-gone-requires-clause-inside g c =
     at_view (λ (m : KeptNet). IsInside c.args.place c.from-index.result m.table.pipes) (the_view c.self-2.inside) c.pass_ready.new.self c.self-2.view_is
     (c.in_ok-known.ensures.places.inside c.args.place c.from-index.result
     (subst (λ (j : ℕ). IsInside c.args.place j ps) (sym c.from-index.ensures)
-    (leaving-inside c.args.pipe c.args.place c.args.instance c.args.at.now ps c.requires.place c.requires.due)))
+    (leaving-inside c.args.pipe c.args.place c.args.instance c.args.now ps c.requires.place c.requires.due)))
 
 pub exit-gone-requires-clause-named : goal.exit-gone-requires-clause-named
 exit-gone-requires-clause-named g c =
@@ -81,8 +82,8 @@ reinject-requires-clause-stands g c =
     ∙ sym (c.front.ensures k at_first (net_of o (the_view c.self.inside))) ∙ c.in-Some.is in
     let noted = c.note.ensures in
     let mid = c.note.new.self in
-    let stays : Stands c.args.at q m = exit-stands c.args.at o p q old n table k j r c.exit-gone.ensures.keys c.exit-gone.ensures.seed c.requires.stands in
-    stands-after c.args.at 0 _ q q m mid stays (notes-becomes q _ m mid stays.housed noted)
+    let stays : Stands (setting c.args.spec.now c.args.now) q m = exit-stands (setting c.args.spec.now c.args.now) o p q old n table k j r c.exit-gone.ensures.keys c.exit-gone.ensures.seed c.requires.stands in
+    stands-after (setting c.args.spec.now c.args.now) 0 _ q q m mid stays (notes-becomes q _ m mid stays.housed noted)
 
 pub reinject-requires-clause-budget : goal.reinject-requires-clause-budget
 reinject-requires-clause-budget g c =
@@ -156,10 +157,10 @@ reinject-requires-clause-ready g c =
     ∙ sym (c.front.ensures k at_first (net_of o (the_view c.self.inside))) ∙ c.in-Some.is in
     let noted = c.note.ensures in
     let mid = c.note.new.self in
-    let stays : Stands c.args.at q m = exit-stands c.args.at o p q old n table k j r c.exit-gone.ensures.keys c.exit-gone.ensures.seed c.requires.stands in
+    let stays : Stands (setting c.args.spec.now c.args.now) q m = exit-stands (setting c.args.spec.now c.args.now) o p q old n table k j r c.exit-gone.ensures.keys c.exit-gone.ensures.seed c.requires.stands in
     let known = c.in_ok-known.known in
     as-behind m mid (noted-as-ready m mid noted.rest).roomy x known
-    (as-behind n m (exit-roomy c.args.at o p q old n table k j r c.exit-gone.ensures.keys c.exit-gone.ensures.seed
+    (as-behind n m (exit-roomy (setting c.args.spec.now c.args.now) o p q old n table k j r c.exit-gone.ensures.keys c.exit-gone.ensures.seed
     c.exit-gone.ensures.ready c.exit-gone.ensures.ready_at c.exit-gone.ensures.places) x known
     (subst (λ (z : KeptNet). CanPass (start_after x z) x known z) (sym c.self-2.view_is) c.in_ok-known.ensures.pass))
 
@@ -187,10 +188,10 @@ returns-clause-ok g c =
     ∙ sym (c.front.ensures k at_first (net_of o (the_view c.self.inside))) ∙ c.in-Some.is in
     let noted = c.note.ensures in
     let mid = c.note.new.self in
-    let stays : Stands c.args.at q m = exit-stands c.args.at o p q old n table k j r c.exit-gone.ensures.keys c.exit-gone.ensures.seed c.requires.stands in
+    let stays : Stands (setting c.args.spec.now c.args.now) q m = exit-stands (setting c.args.spec.now c.args.now) o p q old n table k j r c.exit-gone.ensures.keys c.exit-gone.ensures.seed c.requires.stands in
     let one = ap (λ (z : KeptNet). z.one_pass) (c.self-2.view_is ∙ c.pass_ready.ensures.rest) ∙ c.requires.one_pass in
-    subst (λ (i : ℕ). Becomes 1 (exits c.args.at k i (net_of o old)) o (g.S.Shelf.pocket c.reinject.new.shelf c.args.owner) old c.reinject.new.self) c.from-index.ensures
-    (exit-some c.args.at o p q old n table k j r c.exit-gone.ensures.keys c.exit-gone.ensures.seed c.exit-gone.result
-    (c.exit-gone.ensures.gone k stands c.args.at (net_of p n)) x (sym gone) _ _
-    (passed-leaves c.args.at k j x q _ m c.reinject.new.self mid one stays.housed
-    (subst (λ (i : ℕ). Notes (PacketPassed c.args.at.now x.number k i ∷ []) m mid) (sym c.from-index.ensures) noted) c.reinject.ensures.becomes))
+    subst (λ (i : ℕ). Becomes 1 (exits (setting c.args.spec.now c.args.now) k i (net_of o old)) o (g.S.Shelf.pocket c.reinject.new.shelf c.args.owner) old c.reinject.new.self) c.from-index.ensures
+    (exit-some (setting c.args.spec.now c.args.now) o p q old n table k j r c.exit-gone.ensures.keys c.exit-gone.ensures.seed c.exit-gone.result
+    (c.exit-gone.ensures.gone k stands (setting c.args.spec.now c.args.now) (net_of p n)) x (sym gone) _ _
+    (passed-leaves (setting c.args.spec.now c.args.now) k j x q _ m c.reinject.new.self mid one stays.housed
+    (subst (λ (i : ℕ). Notes (PacketPassed c.args.now x.number k i ∷ []) m mid) (sym c.from-index.ensures) noted) c.reinject.ensures.becomes))

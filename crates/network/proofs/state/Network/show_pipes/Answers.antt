@@ -3,6 +3,7 @@ use Rattle.emu_model.specs.declared.commands.Command.TheVariants.{PipeShow}
 use Rattle.emu_model.specs.Net.{initial_net}
 use Rattle.emu_model.specs.Commands.{obey}
 use Rattle.pipe_table.specs.Table.{with_pipes}
+use Rattle.emu_model.specs.Step.{setting}
 use Rattle.network.specs.contracts.state.Network.{the_view}
 use Rattle.network.specs.Kept.{KeptNet, net_of}
 use Rattle.network.proofs.Steps.{still-housed}
@@ -34,8 +35,8 @@ returns-clause-ok c =
     let n2 = c.note_done.new.self in
     let new : KeptNet = record (the_view c.self-2.inside) { log = c.show.new.log } in
     let tables : c.self-2.inside.table ≡ n1.table = ap (λ (m : KeptNet). m.table) c.self-2.view_is ∙ ap (λ (m : KeptNet). m.table) c.note_done.ensures.rest in
-    λ p h. from_still (obey c.args.at c.args.number PipeShow) 1 p p c.args.self.now n1 new h c.reserve_besides.ensures.still
-    (listed-obeys c.args.at c.args.number PipeShow n1 n2 new (λ q. flat_map pipe_lines (net_of q n1).pipes) (λ q. refl) (λ q. refl) c.note_done.ensures
+    λ p h. from_still (obey (setting c.args.spec.now c.args.now) c.args.number PipeShow) 1 p p c.args.self.now n1 new h c.reserve_besides.ensures.still
+    (listed-obeys (setting c.args.spec.now c.args.now) c.args.number PipeShow n1 n2 new (λ q. flat_map pipe_lines (net_of q n1).pipes) (λ q. refl) (λ q. refl) c.note_done.ensures
     (λ q. record {
       rest = λ i. record (c.self-2.view_is i) { log = c.show.new.log };
       records = c.show.ensures.records q (net_of q n1) ∙ (λ i. (c.self-2.view_is i).log.records ++ flat_map pipe_lines (with_pipes q (tables i) (net_of q n1)).pipes);

@@ -1,5 +1,6 @@
 use Rattle.std.proofs.Common.{sym, ap, ◌∙◌}
 use Rattle.emu_model.specs.declared.commands.Command.TheVariants.{Train}
+use Rattle.emu_model.specs.Step.{setting}
 use Rattle.network.specs.contracts.state.Network.{the_view}
 use Rattle.network.specs.Kept.{KeptNet, net_of}
 use Rattle.network.proofs.Steps.{obeys_view}
@@ -9,13 +10,13 @@ use Rattle.network.proofs.state.Network.start_train.Goals as goal
 
 pub returns-in-Some-clause-ok : goal.returns-in-Some-clause-ok
 returns-in-Some-clause-ok c =
-    refuse-obeys c.args.at c.args.number (Train c.args.source c.args.train.now) c.in-Some.refusal c.args.self.now _
+    refuse-obeys (setting c.args.spec.now c.args.now) c.args.number (Train c.args.source c.args.train.now) c.in-Some.refusal c.args.self.now _
     (λ p. ap (λ (m : KeptNet). source_refusal c.args.source (net_of p m)) (sym c.self.view_is) ∙ sym (c.in-Some.ensures.refusal (net_of p (the_view c.self.inside)))) c.refuse.ensures
 
 pub returns-clause-ok : goal.returns-clause-ok
 returns-clause-ok c =
-    obeys_view c.args.at c.args.number (Train c.args.source c.args.train.now) (the_view c.self.inside) _ _ c.self.view_is
-    (traffic-done c.args.at c.args.number (the_view c.self.inside) _ (Train c.args.source c.args.train.now) c.start_train.new.self (λ p. sym (c.in_default.ensures.refusal (net_of p (the_view c.self.inside)))) c.in_ok-start_train.ensures.ok c.note_done.ensures)
+    obeys_view (setting c.args.spec.now c.args.now) c.args.number (Train c.args.source c.args.train.now) (the_view c.self.inside) _ _ c.self.view_is
+    (traffic-done (setting c.args.spec.now c.args.now) c.args.number (the_view c.self.inside) _ (Train c.args.source c.args.train.now) c.start_train.new.self (λ p. sym (c.in_default.ensures.refusal (net_of p (the_view c.self.inside)))) c.in_ok-start_train.ensures.ok c.note_done.ensures)
 
 pub returns-in_err-start_train-clause-succeeds : goal.returns-in_err-start_train-clause-succeeds
 returns-in_err-start_train-clause-succeeds c = λ p some.
