@@ -33,6 +33,7 @@ use Rattle.pipe_core.specs.Views.{ViewsAgree, PacketsAreNamed}
 use Rattle.pipe_table.specs.Table.{Table, with_pipes, pipe_keys, seen_pipes, HasRoomIn}
 use Rattle.network.specs.Kept.{KeptNet, net_of, line_keys, IsHoused}
 use Rattle.network.specs.Changes.{Becomes, Notes}
+use Rattle.sources.specs.Standing.{heads_of}
 use Rattle.network.specs.declared.flow_cache.Route.{Route}
 use Rattle.network.specs.declared.flow_cache.CacheEntry.{CacheEntry}
 use Rattle.network.specs.declared.flow_cache.Lookup.TheVariants.{Cached, Searched}
@@ -173,7 +174,7 @@ packet-known load send number line x n m same e ready =
     record { load = load; send = send; number = number; made = e; holds = as-make n m same send (Cached line) ready }
 
 -- what stands on the line is the packet's route
-pub on-line : (x : Packet) (line : ℕ) (held : CacheEntry) (n : KeptNet) → AreKnown n.book.rules n.table.pipes n.flow_cache → HasRoute x line n →
+pub on-line : (x : Packet) (line : ℕ) (held : CacheEntry) (n : KeptNet) → AreKnown n.book.rules n.table.pipes (heads_of n.traffic) n.flow_cache → HasRoute x line n →
     slice_get n.flow_cache line ≡ Some (Some held) → CanGo 0 x held.route n
 on-line x line held n known h there =
     let same : record { send = h.send; route = h.holds.route } ≡ held = same_Some _ _ (same_Some _ _ (sym h.holds.there ∙ there)) in

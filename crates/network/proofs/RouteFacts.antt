@@ -16,9 +16,10 @@ use Rattle.emu_rules.specs.Walk.{CountsAlone, IsAlike}
 use Rattle.emu_rules.proofs.CallerLemmas.{alone-alike, verdict-alike, rules-counted}
 use Rattle.pipe_core.specs.Keyed.{KeyedPipe}
 use Rattle.pipe_table.specs.Places.{KeepsPlaces}
+use Rattle.sources.specs.Standing.{Heads}
 use Rattle.network.specs.declared.flow_cache.Route.{Route}
 use Rattle.network.specs.declared.flow_cache.CacheEntry.{CacheEntry}
-use Rattle.network.specs.FlowCache.{IsRoute, AreKnown, plain}
+use Rattle.network.specs.FlowCache.{IsRoute, AreKnown, header_on, plain}
 
 -- counting changes no verdict
 verdict_by-counted : (a : Action) (p : Packet) (c : Counted) → verdict_by a (count_packet p c) ≡ verdict_by a c
@@ -66,25 +67,33 @@ route-grown start x w cs ps qs keeps a = record {
   routed = keeps.routes w.number x w.pipe w.instance a.routed;
 }
 
-pub known_counted : (ks : List ℕ) (q : Packet) (cs : List Counted) (ps : List KeyedPipe) (ls : List (Option CacheEntry)) →
-    AreKnown cs ps ls → AreKnown (count_at ks q 0 cs) ps ls
-known_counted ks q cs ps ls h = record { each = λ line r e. route-counted ks q 0 (plain r.send) r.route cs ps (h.each line r e) }
+pub known_counted : (ks : List ℕ) (q : Packet) (cs : List Counted) (ps : List KeyedPipe) (h : Heads) (ls : List (Option CacheEntry)) →
+    AreKnown cs ps h ls → AreKnown (count_at ks q 0 cs) ps h ls
+known_counted ks q cs ps h ls known = record { header = known.header; each = λ line r e. route-counted ks q 0 (plain r.send) r.route cs ps (known.each line r e) }
 
-pub known_searched : (start : ℕ) (q : Packet) (b : RuleBook) (ps : List KeyedPipe) (ls : List (Option CacheEntry)) →
-    AreKnown b.rules ps ls → AreKnown (counted_book start q b).rules ps ls
-known_searched start q b ps ls h = known_counted (matched_places start q (the_rules b.rules)) q b.rules ps ls h
+pub known_searched : (start : ℕ) (q : Packet) (b : RuleBook) (ps : List KeyedPipe) (h : Heads) (ls : List (Option CacheEntry)) →
+    AreKnown b.rules ps h ls → AreKnown (counted_book start q b).rules ps h ls
+known_searched start q b ps h ls known = known_counted (matched_places start q (the_rules b.rules)) q b.rules ps h ls known
 
-pub known_grown : (cs : List Counted) (ps qs : List KeyedPipe) (ls : List (Option CacheEntry)) → KeepsPlaces ps qs →
-    AreKnown cs ps ls → AreKnown cs qs ls
-known_grown cs ps qs ls keeps h = record { each = λ line r e. route-grown 0 (plain r.send) r.route cs ps qs keeps (h.each line r e) }
+pub known_grown : (cs : List Counted) (ps qs : List KeyedPipe) (h : Heads) (ls : List (Option CacheEntry)) → KeepsPlaces ps qs →
+    AreKnown cs ps h ls → AreKnown cs qs h ls
+known_grown cs ps qs h ls keeps known = record { header = known.header; each = λ line r e. route-grown 0 (plain r.send) r.route cs ps qs keeps (known.each line r e) }
 
-pub known_none : (cs : List Counted) (ps : List KeyedPipe) (ls : List (Option CacheEntry)) → ls ≡ [] → AreKnown cs ps ls
-known_none cs ps ls none = subst (AreKnown cs ps) (sym none) (record { each = λ line r e. absurd (cc) })
+-- sources keep their headers
+pub known_kept : (cs : List Counted) (ps : List KeyedPipe) (g h : Heads) (ls : List (Option CacheEntry)) → h ≡ g →
+    AreKnown cs ps g ls → AreKnown cs ps h ls
+known_kept cs ps g h ls same known = subst (λ (x : Heads). AreKnown cs ps x ls) (sym same) known
+
+pub known_none : (cs : List Counted) (ps : List KeyedPipe) (h : Heads) (ls : List (Option CacheEntry)) → ls ≡ [] → AreKnown cs ps h ls
+known_none cs ps h ls none = subst (AreKnown cs ps h) (sym none) (record { header = λ line r e. absurd (cc); each = λ line r e. absurd (cc) })
 
 -- one line more, on which nothing stands
-pub known_more : (cs : List Counted) (ps : List KeyedPipe) (ls : List (Option CacheEntry)) →
-    AreKnown cs ps ls → AreKnown cs ps (ls ++ None ∷ [])
-known_more cs ps ls h = record { each = λ line r e. h.each line r (before ls line r e) }
+pub known_more : (cs : List Counted) (ps : List KeyedPipe) (h : Heads) (ls : List (Option CacheEntry)) →
+    AreKnown cs ps h ls → AreKnown cs ps h (ls ++ None ∷ [])
+known_more cs ps h ls known = record {
+  header = λ line r e. known.header line r (before ls line r e);
+  each = λ line r e. known.each line r (before ls line r e);
+}
   where
     before : (ls : List (Option CacheEntry)) (line : ℕ) (r : CacheEntry) → slice_get (ls ++ None ∷ []) line ≡ Some (Some r) →
         slice_get ls line ≡ Some (Some r)
@@ -104,14 +113,18 @@ get-set (x ∷ xs) (suc i) (suc j) y z e = elim (get-set xs i j y z e) [
   | inr h ↦ inr h
 ]
 
-pub known_learned : (cs : List Counted) (ps : List KeyedPipe) (ls : List (Option CacheEntry)) (i : ℕ) (r : CacheEntry) →
-    AreKnown cs ps ls → IsRoute 0 (plain r.send) r.route cs ps → AreKnown cs ps (set ls i (Some r))
-known_learned cs ps ls i r h new = record {
-  each = λ line s e. elim (get-set ls i line (Some r) (Some s) e) [
+pub known_learned : (cs : List Counted) (ps : List KeyedPipe) (h : Heads) (ls : List (Option CacheEntry)) (i : ℕ) (r : CacheEntry) →
+    AreKnown cs ps h ls → header_on i h ≡ Some r.send → IsRoute 0 (plain r.send) r.route cs ps → AreKnown cs ps h (set ls i (Some r))
+known_learned cs ps h ls i r known header new = record {
+  header = λ line s e. elim (get-set ls i line (Some r) (Some s) e) [
     | inl k ↦
-        let same : r ≡ s = same_Some r s k.0 in
-        subst (λ (t : CacheEntry). IsRoute 0 (plain t.send) t.route cs ps) same new
-    | inr k ↦ h.each line s k
+        subst (λ (t : CacheEntry). header_on line h ≡ Some t.send) (same_Some r s k.0)
+        (subst (λ (j : ℕ). header_on j h ≡ Some r.send) k.1 header)
+    | inr k ↦ known.header line s k
+  ];
+  each = λ line s e. elim (get-set ls i line (Some r) (Some s) e) [
+    | inl k ↦ subst (λ (t : CacheEntry). IsRoute 0 (plain t.send) t.route cs ps) (same_Some r s k.0) new
+    | inr k ↦ known.each line s k
   ];
 }
 

@@ -1,12 +1,14 @@
 //! The creation of packets, their way through the rules, and their arrival at a pipe or at the link
 //! of `allow`.
 
-ghost use Rattle.std.specs.Prelude.{◌≡◌, ℕ, ◌+◌, ◌*◌, ◌^◌, ◌<◌, ◌≤◌, ◌∷◌, ◌++◌, [], if◌then◌else◌, None, IfSome, IfOk, OnOk};
+ghost use Rattle.std.specs.Prelude.{◌≡◌, ℕ, ◌+◌, ◌*◌, ◌^◌, ◌<◌, ◌≤◌, ◌∷◌, ◌++◌, [], if◌then◌else◌, None, Some, IfSome, IfOk, OnOk};
 ghost use Rattle.std.specs.Option.{option_map_or};
 ghost use Rattle.emu_model.specs.Moments.{IsMoment};
 ghost use Rattle.packet_store.specs.Pocket.{Pocket, OthersStay, AllStay};
 ghost use Rattle.emu_model.specs.Net.{arrivals, by_verdict, drop_record, enter_pipe, find_pipe, load_by, reinject, make, make_record, packet_of, pass_rules, pass_rules_from, to_direct, to_pipe};
 ghost use Rattle.emu_model.specs.Step.{setting};
+ghost use Rattle.sources.specs.Standing.{heads_of};
+ghost use Rattle.network.specs.FlowCache.{header_on};
 ghost use Rattle.network.specs.Kept.{net_of, IsHoused, Stands};
 ghost use Rattle.network.specs.Changes.{Becomes, IsStill, Notes};
 ghost use Rattle.network.specs.Frames.{TakesRoom};
@@ -131,8 +133,8 @@ impl Network {
         }))
     }
 
-    // Reserves the memory for creating a packet with this header, whose route may be cached on a
-    // line.
+    // Reserves the memory for creating a packet with this header, whose route may be cached on the
+    // line of the header's source.
     #[tactic(auto, using(crate::proofs::RouteFacts::known_grown))]
     #[inline(always)]
     pub(crate) fn make_ready<S: Shelf>(
@@ -143,7 +145,8 @@ impl Network {
         line: usize,
         send: &SendSpec,
     ) -> Result<Lookup, AllocError>
-        requires { line < 512 }
+        requires line { line < 768 }
+        requires header { header_on line (heads_of self.old.traffic) ≡ Some send.now }
         ensures still { IsStill self.old self.new }
         ensures rest { self.new
             ≡ record self.old {
@@ -156,7 +159,7 @@ impl Network {
         ensures places { OnOk result (KeepsPlaces self.old.table.pipes self.new.table.pipes) }
         ensures ready { IfOk result (λ lookup. CanMake send.now lookup self.new) }
     {
-        let Some(held) = self.flow_cache.get(line, send) else {
+        let Some(held) = self.flow_cache.at(line) else {
             return self.make_searched(shelf, owner, now, line, *send);
         };
         self.table
@@ -175,7 +178,8 @@ impl Network {
         line: usize,
         send: SendSpec,
     ) -> Result<Lookup, AllocError>
-        requires { line < 512 }
+        requires line { line < 768 }
+        requires header { header_on line (heads_of self.old.traffic) ≡ Some send }
         ensures still { IsStill self.old self.new }
         ensures rest { self.new
             ≡ record self.old {

@@ -266,6 +266,7 @@ impl Network {
     }
 
     // Starts a train.
+    #[tactic(auto, using(crate::proofs::RouteFacts::known_none))]
     fn start_train(
         &mut self,
         spec: &Spec,
@@ -276,6 +277,7 @@ impl Network {
     ) -> Result<(), AllocError>
         requires early { IsMoment now }
         requires log { 1 < self.old.log.spare }
+        requires forgot { self.old.flow_cache ≡ [] }
         ensures ok { let at = setting spec.now now in
             OnOk result (Obeys at number (Train source train.now) self.old self.new) }
         ensures room { OnOk result (0 < self.new.log.spare) }
@@ -293,6 +295,7 @@ impl Network {
     }
 
     // Starts a flow.
+    #[tactic(auto, using(crate::proofs::RouteFacts::known_none))]
     fn start_flow(
         &mut self,
         spec: &Spec,
@@ -301,7 +304,8 @@ impl Network {
         source: FlowNumber,
         flow: &FlowSpec,
     ) -> Result<(), AllocError>
-        requires { 1 < self.old.log.spare }
+        requires log { 1 < self.old.log.spare }
+        requires forgot { self.old.flow_cache ≡ [] }
         ensures ok { let at = setting spec.now now in
             OnOk result (Obeys at number (Flow source flow.now) self.old self.new) }
         ensures room { OnOk result (0 < self.new.log.spare) }
@@ -319,6 +323,7 @@ impl Network {
     }
 
     // Stops a flow.
+    #[tactic(auto, using(crate::proofs::RouteFacts::known_none))]
     fn stop(
         &mut self,
         spec: &Spec,
@@ -326,7 +331,8 @@ impl Network {
         number: u64,
         flow: FlowNumber,
     ) -> Result<(), AllocError>
-        requires { 1 < self.old.log.spare }
+        requires log { 1 < self.old.log.spare }
+        requires forgot { self.old.flow_cache ≡ [] }
         ensures ok { let at = setting spec.now now in
             OnOk result (Obeys at number (Stop flow) self.old self.new) }
         ensures room { OnOk result (0 < self.new.log.spare) }

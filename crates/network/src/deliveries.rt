@@ -51,6 +51,7 @@ impl Network {
     }
 
     // Reserves the memory for delivering a segment.
+    #[tactic(auto, using(crate::proofs::RouteFacts::known_kept))]
     #[inline(always)]
     fn segment_ready<S: Shelf>(
         &mut self,
@@ -74,10 +75,10 @@ impl Network {
         ensures ready { IfOk result (λ lookup. CanDeliver (Seg flow first) lookup self.new) }
     {
         self.traffic.take_ready(flow, first)?;
-        let Some(send) = self.traffic.reply(flow) else {
+        let Some((place, send)) = self.traffic.reply(flow) else {
             return Ok(Lookup::Searched);
         };
-        self.make_ready(shelf, owner, now, reply_line_of(flow), &send)
+        self.make_ready(shelf, owner, now, reply_line_of(place), &send)
     }
 
     // Delivers a packet.
@@ -142,6 +143,7 @@ impl Network {
     }
 
     // Passes a segment to a flow's receiver, which acknowledges it.
+    #[tactic(auto, using(crate::proofs::RouteFacts::known_kept))]
     #[inline(always)]
     fn take_segment<S: Shelf>(
         &mut self,
@@ -171,6 +173,7 @@ impl Network {
     }
 
     // Passes an acknowledgement to a flow's sender.
+    #[tactic(auto, using(crate::proofs::RouteFacts::known_kept))]
     #[inline(always)]
     fn take_ack(&mut self, now: u64, flow: FlowNumber, upto: u64)
         requires early { IsMoment now }

@@ -426,6 +426,7 @@ impl Network {
     }
 
     // Handles the expiry of a flow's timer.
+    #[tactic(auto, using(crate::proofs::RouteFacts::known_kept))]
     #[inline(never)]
     fn expire(&mut self, spec: &Spec, now: u64, flow: FlowNumber)
         requires early { IsMoment now }
@@ -447,6 +448,7 @@ impl Network {
     }
 
     // Sends a packet of a source.
+    #[tactic(auto, using(crate::proofs::RouteFacts::known_kept))]
     #[inline(always)]
     fn emission<S: Shelf>(
         &mut self,
@@ -471,7 +473,7 @@ impl Network {
             return Ok(());
         };
         let send = self.traffic.header_at(&found);
-        let lookup = self.make_ready(shelf, owner, now, line_of(source), &send)?;
+        let lookup = self.make_ready(shelf, owner, now, line_of(&found), &send)?;
         let origin = self.traffic.emit_at(now, &found);
         self.make(shelf, owner, spec, now, &Sending { origin, send }, &lookup);
         Ok(())

@@ -1,14 +1,16 @@
 //! A cache of routes. A packet has a route if only one rule counts it, and that rule sends it to an
-//! instance that exists. All packets of a source have one header, so the source's route is cached
-//! until the next command (our choice).
+//! instance that exists. All packets of a source have one header, which never changes, so the
+//! source's route is cached on a line of its own until the next command (our choice).
 
 ghost use Rattle.std.specs.Prelude.{◌≡◌, ◌<◌, [], List, Some, IfSome, IfNone, IsTrue, slice_get};
 ghost use Rattle.emu_model.specs.Rules.{Counted};
 ghost use Rattle.pipe_core.specs.Keyed.{KeyedPipe};
+ghost use Rattle.sources.specs.Standing.{Heads, IsPlace, reply_at, send_at};
 ghost use Rattle.network.specs.declared.flow_cache.CacheEntry.{CacheEntry};
-ghost use Rattle.network.specs.FlowCache.{IsRoute, AreKnown, plain};
+ghost use Rattle.network.specs.FlowCache.{IsRoute, AreKnown, header_on, plain};
 
-use emu_model::{FlowNumber, PipeNumber, Place, SendSpec};
+use emu_model::{PipeNumber, Place, SendSpec};
+use sources::SourcePlace;
 use std::alloc::Global;
 use std::marker::Model;
 
@@ -37,37 +39,30 @@ pub struct CacheEntry {
     pub route: Route,
 }
 
-/// The number of sources with lines of their own.
+/// The maximum number of flows, and of trains.
 const SOURCES: usize = 256;
 
-/// Returns the line for the route of a source's packets. Two sources may share a line, so an entry
-/// is identified by its header.
+/// Returns the line for the route of a source's packets.
 #[inline(always)]
-pub(crate) fn line_of(source: FlowNumber) -> usize
-    ensures { result < 512 }
+pub(crate) fn line_of(source: &SourcePlace) -> usize
+    requires { IsPlace source.now }
+    ensures few { result < 768 }
+    ensures header { (h : Heads) → header_on result h ≡ send_at source.now h }
 {
-    usize::from(source.get()) % SOURCES * 2
+    match source {
+        SourcePlace::Flow(place) => *place,
+        SourcePlace::Train(place) => SOURCES + *place,
+    }
 }
 
-/// Returns the line for the route of a flow's acknowledgements.
+/// Returns the line for the route of the acknowledgements of the flow at a place.
 #[inline(always)]
-pub(crate) fn reply_line_of(flow: FlowNumber) -> usize
-    ensures { result < 512 }
+pub(crate) fn reply_line_of(place: usize) -> usize
+    requires { place < 256 }
+    ensures few { result < 768 }
+    ensures header { (h : Heads) → header_on result h ≡ reply_at place h }
 {
-    usize::from(flow.get()) % SOURCES * 2 + 1
-}
-
-// Returns true if two headers are equal.
-#[inline(always)]
-fn is_same(first: &SendSpec, second: &SendSpec) -> bool
-    ensures { IsTrue result → first.now ≡ second.now }
-{
-    first.src == second.src
-        && first.dst == second.dst
-        && first.sport == second.sport
-        && first.dport == second.dport
-        && first.proto == second.proto
-        && first.size.get() == second.size.get()
+    2 * SOURCES + place
 }
 
 /// The cached routes.
@@ -102,19 +97,6 @@ impl FlowCache {
         self.lines.clear();
     }
 
-    /// Returns the entry for packets with this header, if this line has it.
-    #[inline(always)]
-    pub(crate) fn get(&self, line: usize, send: &SendSpec) -> Option<&CacheEntry>
-        ensures { IfSome result (λ r. (slice_get self.now line ≡ Some (Some r.now))
-            × (r.now.send ≡ send.now)) }
-    {
-        let held = self.at(line)?;
-        if is_same(&held.send, send) {
-            return Some(held);
-        }
-        None
-    }
-
     /// Returns the entry of this line.
     #[inline(always)]
     pub(crate) fn at(&self, line: usize) -> Option<&CacheEntry>
@@ -129,9 +111,10 @@ impl FlowCache {
     #[tactic(auto, using(crate::proofs::RouteFacts::known_more, crate::proofs::RouteFacts::known_learned))]
     #[inline(never)]
     pub(crate) fn insert(&mut self, line: usize, send: &SendSpec, route: &Route) -> bool
-        requires { line < 512 }
-        ensures known { (cs : List Counted) (ps : List KeyedPipe) → AreKnown cs ps self.old →
-            IsRoute 0 (plain send.now) route.now cs ps → AreKnown cs ps self.new }
+        requires { line < 768 }
+        ensures known { (cs : List Counted) (ps : List KeyedPipe) (h : Heads) →
+            AreKnown cs ps h self.old → header_on line h ≡ Some send.now →
+            IsRoute 0 (plain send.now) route.now cs ps → AreKnown cs ps h self.new }
         ensures there { IsTrue result → slice_get self.new line
             ≡ Some (Some (record { send = send.now; route = route.now })) }
     {

@@ -38,6 +38,7 @@ pub struct Network {
 
 impl Model for Network {
     ghost use Rattle.network.specs.Kept.{KeptNet};
+    ghost use Rattle.sources.specs.Standing.{heads_of};
     ghost use Rattle.network.specs.FlowCache.{AreKnown};
 
     ghost Value = { KeptNet };
@@ -54,7 +55,8 @@ impl Model for Network {
       flow_cache = n.flow_cache;
     } };
 
-    ghost invariant = { λ n. AreKnown n.book.rules n.table.pipes n.flow_cache };
+    ghost invariant = { λ n.
+        AreKnown n.book.rules n.table.pipes (heads_of n.traffic) n.flow_cache };
 }
 
 impl Network {

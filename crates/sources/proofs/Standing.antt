@@ -4,19 +4,19 @@ use Rattle.std.specs.Prelude.{Option, Some, None, option_map, slice_get}
 use Rattle.std.specs.Option.{option_map_or}
 use Rattle.std.proofs.Math.ListN.{get_or-map}
 use Rattle.std.proofs.lemmas.Option.{same_Some, slice_get-map, slice_get-get_or}
-use Rattle.std.proofs.lemmas.List.{map-set, set-get_or}
+use Rattle.std.proofs.lemmas.List.{map-set, set-get_or, length-map}
 use Rattle.emu_model.specs.declared.packets.Origin.{Origin}
 use Rattle.emu_model.specs.declared.packets.Origin.TheVariants.{ByTrain, BySender}
 use Rattle.emu_model.specs.declared.commands.EventContext.{EventContext}
 use Rattle.emu_model.specs.declared.sources.SendSpec.{SendSpec}
 use Rattle.emu_model.specs.Reno.{emit as emitted_by, emitted}
-use Rattle.emu_model.specs.Net.{Net, FlowState, TrainState, initial_net, find_train, put_flow, put_train, make, data_send}
+use Rattle.emu_model.specs.Net.{Net, FlowState, TrainState, initial_net, find_train, put_flow, put_train, make, data_send, ack_send}
 use Rattle.emu_model.specs.Events.{emission}
 use Rattle.sources.specs.declared.sources.SourcePlace.{SourcePlace}
 use Rattle.sources.specs.declared.sources.SourcePlace.TheVariants.{Flow, Train}
 use Rattle.sources.specs.Kept.{KeptFlow, KeptTraffic, with_traffic, IsSound}
 use Rattle.sources.specs.Sends.{may_send, has_left, next_send}
-use Rattle.sources.specs.Standing.{flow_place, train_place, source_place, MaySendAt, FlowHead, TrainHead, Heads, heads_of, send_at}
+use Rattle.sources.specs.Standing.{flow_place, train_place, source_place, MaySendAt, FlowHead, TrainHead, Heads, heads_of, reply_at, send_at}
 use Rattle.sources.proofs.FirstPlaces.{place_from_some}
 use Rattle.sources.proofs.Changes.{kept, IsFlowAt, IsTrainAt, flow_at, train_at, no_flow, no_train}
 use Rattle.sources.proofs.Sendings.{send_by_train, send_by_flow, send_by_none, emission_by_train, emission_by_flow, emission_by_none, emitting_by_train, emitting_by_flow}
@@ -198,3 +198,22 @@ sends_nothing k t none other at n = emission_by_none at k (with_traffic t n) (no
 pub within_kept : (t : KeptTraffic) (fs : List KeptFlow) (ts : List TrainState) (i : ℕ) → kept fs ts ≡ t →
     i < length t.flows → i < length fs
 within_kept t fs ts i is l = subst (λ (t : KeptTraffic). i < length t.flows) (sym is) l
+
+-- there are at most 256 places
+module _ (k i : ℕ) (t : KeptTraffic) (fs : List KeptFlow) (ts : List TrainState) (is : kept fs ts ≡ t) (sound : IsSound fs ts) where
+  pub flow_few : Some i ≡ flow_place k t → i < 256
+  flow_few e =
+      let l : i < length fs = subst (λ (t : KeptTraffic). i < length t.flows) (sym is) (flow_within k i t e) in
+      omega (arith, l, sound.few, length-map fs (λ (f : KeptFlow). f.state.number))
+
+  pub train_few : Some i ≡ train_place k t → i < 256
+  train_few e =
+      let l : i < length ts = subst (λ (t : KeptTraffic). i < length t.trains) (sym is) (train_within k i t e) in
+      omega (arith, l, sound.few, length-map ts (λ (u : TrainState). u.number))
+
+  -- the header of the acknowledgements is that of the place
+  pub replies : (f : KeptFlow) → Some i ≡ flow_place k t → f ≡ get_or fs i f →
+      reply_at i (heads_of t) ≡ Some (ack_send f.state.flow)
+  replies f e at =
+      let l : i < length fs = subst (λ (t : KeptTraffic). i < length t.flows) (sym is) (flow_within k i t e) in
+      sym (headed flow_head (λ h. ack_send h.flow) fs i f l at ∙ ap (λ t. reply_at i (heads_of t)) is)

@@ -4,7 +4,7 @@ use Rattle.std.specs.Option.{option_map_or}
 use Rattle.emu_model.specs.declared.sources.FlowSpec.{FlowSpec}
 use Rattle.emu_model.specs.declared.sources.TrainSpec.{TrainSpec}
 use Rattle.emu_model.specs.declared.sources.SendSpec.{SendSpec}
-use Rattle.emu_model.specs.Net.{data_send}
+use Rattle.emu_model.specs.Net.{data_send, ack_send}
 use Rattle.sources.specs.declared.sources.SourcePlace.{SourcePlace}
 use Rattle.sources.specs.declared.sources.SourcePlace.TheVariants.{Flow, Train}
 use Rattle.sources.specs.Kept.{KeptTraffic}
@@ -21,6 +21,11 @@ train_place k t = position (λ u. u.number == k) t.trains
 abbrev pub source_place : ℕ → KeptTraffic → Option SourcePlace
 source_place k t =
     option_map_or (λ i. Some (Flow i)) (flow_place k t) (option_map Train (train_place k t))
+
+-- a place that a source can have
+abbrev pub IsPlace : SourcePlace → Type 0
+IsPlace (Flow i) = i < 256
+IsPlace (Train i) = i < 256
 
 -- there is a source at this place
 abbrev pub IsThere : SourcePlace → KeptTraffic → Type 0
@@ -50,6 +55,10 @@ pub record Heads : Type 0 where
 abbrev pub send_at : SourcePlace → Heads → Option SendSpec
 send_at (Flow i) h = option_map (λ f. data_send f.flow) (slice_get h.flows i)
 send_at (Train i) h = option_map (λ u. u.train.packet) (slice_get h.trains i)
+
+-- the header of the acknowledgements from the receiver of the flow at a place
+abbrev pub reply_at : ℕ → Heads → Option SendSpec
+reply_at i h = option_map (λ f. ack_send f.flow) (slice_get h.flows i)
 
 -- the parts of the sources that never change, by place
 abbrev pub heads_of : KeptTraffic → Heads

@@ -1,6 +1,6 @@
 //! All flows and trains.
 
-ghost use Rattle.std.specs.Prelude.{◌≡◌, ℕ, ◌+◌, ◌*◌, ◌<◌, ◌≤◌, ◌++◌, [], is_some, option_map, option_to_list, position, ◌==◌, length, vec_len, vec_capacity, IfNone, IfSome, IsOk, OnOk, OnErr};
+ghost use Rattle.std.specs.Prelude.{◌≡◌, ℕ, ◌+◌, ◌*◌, ◌<◌, ◌≤◌, ◌++◌, [], Some, is_some, option_map, option_to_list, position, ◌==◌, length, vec_len, vec_capacity, IfNone, IfSome, IsOk, OnOk, OnErr};
 ghost use Rattle.std.specs.Option.{option_map_or};
 ghost use Rattle.std.specs.List.{best_of};
 ghost use Rattle.emu_model.specs.Moments.{IsMoment};
@@ -12,7 +12,7 @@ ghost use Rattle.emu_model.specs.Dues.{is_before};
 ghost use Rattle.emu_model.specs.Events.{emission, expire_flow};
 ghost use Rattle.sources.specs.Kept.{with_traffic, IsFree, HasRoomFor};
 ghost use Rattle.due_index.specs.Least.{least_of};
-ghost use Rattle.sources.specs.Standing.{flow_place, source_place, IsThere, MaySendAt, heads_of, send_at};
+ghost use Rattle.sources.specs.Standing.{flow_place, source_place, IsPlace, IsThere, MaySendAt, heads_of, reply_at, send_at};
 ghost use Rattle.sources.specs.Sends.{IsAllowed, IsNumbered, next_send, reply_send, source_dues};
 
 use crate::dues::append;
@@ -156,17 +156,20 @@ impl Traffic {
         self.index.set_flow(place, flow);
     }
 
-    /// Returns the header of the acknowledgement that `take` returns, or None if there is no such
-    /// flow.
+    /// Returns the place of a flow, and the header of the acknowledgement that `take` returns, or
+    /// None if there is no such flow.
     #[inline(always)]
-    pub fn reply(&self, number: FlowNumber) -> Option<SendSpec>
-        ensures { (n : Net) → result ≡ reply_send number (with_traffic self.now n) }
+    pub fn reply(&self, number: FlowNumber) -> Option<(usize, SendSpec)>
+        ensures header { (n : Net) →
+            option_map (λ r. r.1) result ≡ reply_send number (with_traffic self.now n) }
+        ensures place { IfSome result (λ r.
+            (r.0 < 256) × (reply_at r.0 (heads_of self.now) ≡ Some r.1)) }
     {
         let Some(place) = self.flow_place(number) else {
             return None;
         };
         let flow = &self.flows[place];
-        Some(flow.reply())
+        Some((place, flow.reply()))
     }
 
     /// Reserves the memory for a `take` of any segment of this flow. Only spare capacity changes.
@@ -307,6 +310,7 @@ impl Traffic {
     #[inline(always)]
     pub fn find(&self, number: FlowNumber) -> Option<SourcePlace>
         ensures place { result ≡ source_place number self.now }
+        ensures few { IfSome result (λ p. IsPlace p) }
         ensures there { IfSome result (λ p. IsThere p self.now) }
         ensures header { IfSome result (λ p. (n : Net) →
             next_send number (with_traffic self.now n) ≡ send_at p (heads_of self.now)) }

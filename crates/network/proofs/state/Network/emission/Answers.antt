@@ -3,7 +3,7 @@ use Rattle.emu_model.specs.declared.sources.SendSpec.{SendSpec}
 use Rattle.emu_model.specs.Events.{emission}
 use Rattle.sources.specs.Kept.{KeptTraffic, with_traffic}
 use Rattle.sources.specs.Sends.{IsEmitting, next_send}
-use Rattle.sources.specs.Standing.{source_place}
+use Rattle.sources.specs.Standing.{source_place, heads_of, send_at}
 use Rattle.emu_model.specs.Step.{setting}
 use Rattle.network.specs.contracts.state.Network.{the_view}
 use Rattle.network.specs.Kept.{KeptNet, net_of}
@@ -55,3 +55,15 @@ returns-clause-ok g c =
     from_readied r (emission (setting c.args.spec.now c.args.now) c.args.source) 1 _ _
     (sent-one (emission (setting c.args.spec.now c.args.now) c.args.source) p n c.emit_at-origin.new.self _ c.make.new.self _
     (c.emit_at-origin.ensures.emission (setting c.args.spec.now c.args.now) c.args.source (net_of p n) c.header_at-send.result refl there sends) c.make.ensures.becomes)
+
+pub make_ready-requires-clause-header : goal.make_ready-requires-clause-header
+make_ready-requires-clause-header g c =
+    let p = g.S.Shelf.pocket c.put_ready.new.self c.args.owner in
+    let n = net_of p c.args.self.now in
+    let t : KeptTraffic = c.self.inside.traffic in
+    let first : t ≡ c.args.self.now.traffic = ap (λ (m : KeptNet). m.traffic) c.self.view_is in
+    let before : source_place c.args.source t ≡ Some c.in-Some.found = sym c.find.ensures.place ∙ c.in-Some.is in
+    let sends : send_at c.in-Some.found (heads_of t) ≡ Some c.header_at-send.result =
+    sym (c.in-Some.ensures.header n) ∙ c.header_at-send.ensures c.args.source n before in
+    c.line_of.ensures.header (heads_of c.args.self.now.traffic)
+    ∙ ap (λ (u : KeptTraffic). send_at c.in-Some.found (heads_of u)) (sym first) ∙ sends

@@ -1,10 +1,12 @@
-use Rattle.std.proofs.Common.{ℕ, refl, sym, subst}
-use Rattle.std.specs.Prelude.{IfSome}
+use Rattle.std.proofs.Common.{◌≡◌, ℕ, refl, sym, ap, ◌∙◌, subst}
+use Rattle.std.specs.Prelude.{Some, IfSome}
+use Rattle.sources.specs.Kept.{KeptTraffic}
+use Rattle.sources.specs.Standing.{heads_of}
 use Rattle.emu_model.specs.declared.packets.Packet.{Packet}
 use Rattle.emu_model.specs.Rules.{RuleBook}
 use Rattle.network.specs.contracts.state.Network.{the_view}
 use Rattle.network.specs.Kept.{KeptNet}
-use Rattle.network.specs.FlowCache.{plain}
+use Rattle.network.specs.FlowCache.{header_on, plain}
 use Rattle.network.specs.Ready.{IsMatch, CanGo}
 use Rattle.network.proofs.state.Network.make_searched.Goals as goal
 
@@ -25,7 +27,11 @@ invariant_of-self-then-insert g c =
     subst (λ (n : KeptNet). CanGo 0 (plain c.args.send) route n) (sym c.self-2.view_is)
     (subst (λ (y : Packet). CanGo 0 y route after) c.packet_of-packet.ensures
     (known 0 classified)) in
-    c.insert.ensures.known m.book.rules m.table.pipes c.self-2.invariant go.route
+    let header : header_on c.args.line (heads_of m.traffic) ≡ Some c.args.send =
+    ap (λ (t : KeptTraffic). header_on c.args.line (heads_of t))
+    (ap (λ (n : KeptNet). n.traffic) (c.self-2.view_is ∙ c.arrival_ready.ensures.rest) ∙ ap (λ (n : KeptNet). n.traffic) c.self.view_is)
+    ∙ c.requires.header in
+    c.insert.ensures.known m.book.rules m.table.pipes (heads_of m.traffic) c.self-2.invariant header go.route
 
 pub returns-then-insert-clause-ready : goal.returns-then-insert-clause-ready
 returns-then-insert-clause-ready g c =
@@ -63,4 +69,8 @@ invariant_of-self-2 g c =
     subst (λ (n : KeptNet). CanGo 0 (plain c.args.send) route n) (sym c.self-2.view_is)
     (subst (λ (y : Packet). CanGo 0 y route after) c.packet_of-packet.ensures
     (known 0 classified)) in
-    c.insert.ensures.known m.book.rules m.table.pipes c.self-2.invariant go.route
+    let header : header_on c.args.line (heads_of m.traffic) ≡ Some c.args.send =
+    ap (λ (t : KeptTraffic). header_on c.args.line (heads_of t))
+    (ap (λ (n : KeptNet). n.traffic) (c.self-2.view_is ∙ c.arrival_ready.ensures.rest) ∙ ap (λ (n : KeptNet). n.traffic) c.self.view_is)
+    ∙ c.requires.header in
+    c.insert.ensures.known m.book.rules m.table.pipes (heads_of m.traffic) c.self-2.invariant header go.route

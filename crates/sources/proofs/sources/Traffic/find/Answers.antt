@@ -1,5 +1,5 @@
 use Rattle.std.proofs.Common.{sym, ◌∙◌}
-use Rattle.sources.proofs.Standing.{nowhere, flow_sends, train_sends, sends_nothing}
+use Rattle.sources.proofs.Standing.{nowhere, flow_sends, train_sends, sends_nothing, flow_few, train_few}
 use Rattle.sources.proofs.sources.Traffic.find.Goals as goal
 
 pub returns-in-None-clause-none : goal.returns-in-None-clause-none
@@ -20,3 +20,13 @@ pub returns-in-Some-train_place-clause-header : goal.returns-in-Some-train_place
 returns-in-Some-train_place-clause-header c =
     train_sends c.args.number c.in-Some-train_place.place c.args.self.now c.self.inside.flows.items c.self.inside.trains.items
     c.self.view_is (sym c.in-Some-train_place.is ∙ c.train_place.ensures)
+
+pub returns-in-Some-clause-few : goal.returns-in-Some-clause-few
+returns-in-Some-clause-few c =
+    flow_few c.args.number c.in-Some.place c.args.self.now c.self.inside.flows.items c.self.inside.trains.items
+    c.self.view_is c.self.invariant.0 (sym c.in-Some.is ∙ c.flow_place.ensures)
+
+pub returns-in-Some-train_place-clause-few : goal.returns-in-Some-train_place-clause-few
+returns-in-Some-train_place-clause-few c =
+    train_few c.args.number c.in-Some-train_place.place c.args.self.now c.self.inside.flows.items c.self.inside.trains.items
+    c.self.view_is c.self.invariant.0 (sym c.in-Some-train_place.is ∙ c.train_place.ensures)
