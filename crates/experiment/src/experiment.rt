@@ -350,8 +350,11 @@ impl Experiment {
         };
         self.clock = due.moment;
         self.steps += 1;
-        self.ending = close(&mut self.net, &self.spec, self.steps, due.moment, None);
         self.held = shelf.count(owner) as u64;
+        // Few steps end an experiment, so most of them write no ending.
+        if let Some(ending) = close(&mut self.net, &self.spec, self.steps, due.moment, None) {
+            self.ending = Some(ending);
+        }
         Ok(())
     }
 }
