@@ -49,14 +49,16 @@ impl<'a> Model for Reader<'a> {
 // Returns words with the parts of their first record, and puts down what is left of them.
 #[inline(always)]
 fn first_in(word: Packed, left: &mut Option<Rest>) -> (Packed, Parts)
+    requires { left.old ≡ None }
     ensures { (result.0 ≡ word) × (result.1 ≡ parts_in word)
         × (left.new ≡ behind_first (parts_in word).kind word) }
 {
     let parts = unpack(word);
-    *left = match parts.kind {
-        Kind::Entered => Some(Rest::Second(word)),
-        _ => None,
-    };
+    // Few words have a second record, so for most of them nothing is written.
+    match parts.kind {
+        Kind::Entered => *left = Some(Rest::Second(word)),
+        _ => {}
+    }
     (word, parts)
 }
 
@@ -86,12 +88,10 @@ fn take_next(
         words.skip();
         return Some(first_in(word, left));
     };
+    *left = None;
     match rest {
         Rest::All(word) => Some(first_in(word, left)),
-        Rest::Second(word) => {
-            *left = None;
-            Some((word, arrival_parts(others, unpack(word))))
-        }
+        Rest::Second(word) => Some((word, arrival_parts(others, unpack(word)))),
     }
 }
 
