@@ -4,7 +4,6 @@ import subprocess
 from pathlib import Path
 from typing import Callable, Iterator, Optional
 
-import numpy as np
 import pytest
 from test_naming import LINK, MINE, MS, SCENARIO, row_of
 
@@ -104,13 +103,13 @@ def text_of_packets() -> bytes:
     return "\n".join(["experiment a seed 1 budget 9", *lines, f"@{10**15} end", ""]).encode()
 
 
-def test_columns_are_what_lines_say(many: int) -> None:
+def test_commands_are_what_lines_say(many: int) -> None:
     plan = scenario.read(text_of_packets())["a"]
     assert bool(plan.commands.runs) == (many == 1) and len(plan.commands) == len(PACKETS) + 2
     if many == 1:
-        columns = np.concatenate([run.columns for _, run in plan.commands.runs], axis=1)
-        # A line with more spaces is read by itself.
-        assert columns.T.tolist() == [list(packet) for place, packet in enumerate(PACKETS) if place != 77]
+        moments = [moment for _, run in plan.commands.runs for moment in run.moments.tolist()]
+        # A line with more spaces is read by itself, as are those of its block.
+        assert moments == [packet[0] for packet in PACKETS if packet[0] in moments] and len(moments) > 90
     # The heading is line 1, the stopped flow is command 20 in line 22, the comment is line 53, two empty
     # lines follow packet 58.
     found = [(place, one.line) for place, one in enumerate(plan.commands) if one.word == "inject"]
@@ -165,13 +164,23 @@ def test_another_moment_is_refused(many: int, tmp_path: Path, traced: Callable[[
         dnlab.read(tmp_path / "report.txt", tmp_path / "scenario.txt")["one"]
 
 
-def test_runs_have_no_line_that_has_a_fault() -> None:
+@pytest.mark.parametrize("line,cause", LINES, ids=[f"{place}" for place in range(len(LINES))])
+def test_runs_have_no_line_that_has_a_fault(line: bytes, cause: Optional[str]) -> None:
     """Only lines that the grammar certainly accepts are read in blocks."""
-    text = b"\n".join(line for line, _ in LINES) + b"\n"
-    taken = [line for _, part in scenario.runs_in(text) if isinstance(part, Run)
-             for line in part.text.split(b"\n")[:-1]]
-    good = [line for line, cause in LINES if line.startswith(b"@") and cause in (None, "backwards")
-            and not line.endswith(b" ")]
-    assert taken == good and len(taken) == 4
-    columns = scenario.columns_of(b"\n".join(good) + b"\n")
-    assert columns.dtype == np.int64 and columns[6].tolist() == [1000, 40, 1500, 1000]
+    parts = list(scenario.runs_in(b"\n%s\n" % line))
+    is_sure = line.startswith(b"@") and b" inject " in line and cause in (None, "backwards")
+    moment = [int(line[1:].split(b" ")[0])] if is_sure and not line.endswith(b" ") else []
+    assert [it for _, part in parts if isinstance(part, Run) for it in part.moments.tolist()] == moment
+    assert [part for _, part in parts if not isinstance(part, Run)][:2] == [b"", line][:1 if moment else 2]
+
+
+def test_lines_in_one_another() -> None:
+    """Words that are times and packets by turns, but of no such lines, are read by themselves."""
+    packet = GOOD.split(b" ", 2)[2]
+    for text in (b"@5 inject %s inject @6\n%s\n" % (packet, packet), b"@5 inject %s inject 6\n" % packet,
+                 b"@5\n%s inject @6\n%s\n" % (packet, packet), b"@5 inject\n%s\n" % packet,
+                 b"@5 inject @6 inject %s\n%s\n" % (packet, packet)):
+        parts = [part for _, part in scenario.runs_in(b"\n%s\n%s" % (GOOD, text))]
+        lines = b"".join(part.text if isinstance(part, Run) else part + b"\n" for part in parts)
+        assert lines == b"\n%s\n%s" % (GOOD, text)
+        assert all(part.text == GOOD + b"\n" for part in parts if isinstance(part, Run)), parts

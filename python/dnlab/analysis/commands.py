@@ -37,7 +37,7 @@ def _compare(records: Records, plan: Plan, rows: Ints) -> None:
     moments = np.zeros(len(plan.commands), dtype=np.int64)
     moments[[number for number, _ in plan.commands.plain]] = [one.moment for _, one in plan.commands.plain]
     for number, run in plan.commands.runs:
-        moments[number:number + len(run.lines)] = run.columns[0]
+        moments[number:number + len(run.moments)] = run.moments
     told = records.take("moment", rows)
     both = min(len(rows), len(moments))
     bad = np.flatnonzero(told[:both] != moments[:both])
@@ -191,7 +191,7 @@ def find_senders(records: Records, plan: Plan, notes: list[Note]) -> frozenset[s
     injects = np.zeros(len(plan.commands) + 1, dtype=np.bool_)
     injects[[place for place, one in plan.commands.plain if one.word == "inject"]] = True
     for place, run in plan.commands.runs:
-        injects[place:place + len(run.lines)] = True
+        injects[place:place + len(run.moments)] = True
     is_injected = (records.kind[before] == OK) & injects[number]
     records.rows["source"][makes[is_injected]] = number[is_injected]
     return _find_trains(records, plan, makes[~is_injected], notes)

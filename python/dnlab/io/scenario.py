@@ -129,11 +129,11 @@ class Judged:
 
     def injected(self, run: Run) -> Optional[tuple[int, str]]:
         """Adds lines that inject. Returns the first one that is refused, and the cause."""
-        moments = run.columns[0]
+        moments = run.moments
         falls = (moments[1:] < moments[:-1]).nonzero()[0]
         cause = self.misplaced(int(moments[0]))
         if cause or len(falls):
-            return int(run.lines[0 if cause else falls[0] + 1]), cause or "backwards"
+            return next(run.commands(0 if cause else int(falls[0]) + 1)).line, cause or "backwards"
         self.take(run, int(moments[-1]), len(moments))
         return None
 
@@ -189,48 +189,49 @@ class Judged:
             self.plans[name].commands.add(part)
 
 
-# How many bytes of `inject` lines to read at once.
-BLOCK = 1 << 18
-_MOMENT = "(?:0|[1-9][0-9]{0,14}|10{15})"
+# How many bytes of `inject` lines to read at once: a line that is read by itself takes its block with it.
+BLOCK = 1 << 16
+# The end of a line before one that isn't empty and sends no packet.
+_OTHER = re.compile(rb"\n(?!@[0-9]+ inject |\n)")
 _ADDRESS = r"\.".join(["(?:[1-9]?[0-9]|1[0-9]{2}|2[0-4][0-9]|25[0-5])"] * 4)
 _PORT = "(?:0|[1-9][0-9]{0,3}|[1-5][0-9]{4}|6[0-4][0-9]{3}|65[0-4][0-9]{2}|655[0-2][0-9]|6553[0-5])"
-_SIZE = "(?:[4-9][0-9]|[1-9][0-9]{2}|1[0-4][0-9]{2}|1500)"
-_RUN = re.compile(rf"(?:@{_MOMENT} inject (?:tcp|udp) {_ADDRESS} {_PORT} {_ADDRESS} {_PORT} {_SIZE}\n"
-                  rf"|\n)*".encode())
+_PACKET = (rf"(?:tcp|udp) {_ADDRESS} {_PORT} {_ADDRESS} {_PORT} "
+           "(?:[4-9][0-9]|[1-9][0-9]{2}|1[0-4][0-9]{2}|1500)").encode()
 
 
 def runs_in(text: bytes) -> Iterator[tuple[int, Union[bytes, Run]]]:
     """Yields the lines of a text of whole lines, in order, each with its number from 1: runs of `inject`
-    lines together, each other line by itself, without empty ones. Only `inject` lines that are certainly
-    valid are in runs, so all faults are in lines by themselves."""
-    import numpy as np
-
+    lines together, each other line by itself. Only `inject` lines that are certainly valid are in runs, so
+    all faults are in lines by themselves."""
     begin, number = 0, 1
     while begin < len(text):
-        found = _RUN.match(text, begin, begin + BLOCK)
-        lines = found[0].split(b"\n")[:-1] if found else []
-        own = [place for place, line in enumerate(lines) if line]
-        if own:
-            run = b"".join(lines[place] + b"\n" for place in own)
-            yield number + own[0], Run(number + np.array(own), run, columns_of(run))
-        elif not lines:
-            lines = [text[begin:text.index(b"\n", begin)]]
-            yield number, lines[0]
-        begin += sum(map(len, lines)) + len(lines)
-        number += len(lines)
+        other = _OTHER.search(text, begin - 1, begin + BLOCK) if begin else None
+        end = (other.start() if other else text.rfind(b"\n", begin, begin + BLOCK) if begin else -1) + 1
+        moments = moments_of(text[begin:end]) if end > begin else None
+        if moments is not None:
+            yield number, Run(number, text[begin:end], moments)
+        else:
+            end = max(end, text.index(b"\n", begin) + 1)
+            yield from enumerate(text[begin:end - 1].split(b"\n"), number)
+        number += text.count(b"\n", begin, end)
+        begin = end
 
 
-def columns_of(text: bytes) -> "Ints":
-    """Returns the columns of lines that all inject, as in `Run`."""
+def moments_of(text: bytes) -> "Optional[Ints]":
+    """Returns the times of lines that begin with `@TIME inject ` or are empty, or None if one of them may be
+    invalid."""
     import numpy as np
 
-    octets = 1 << np.array([24, 16, 8, 0])
-    for word, number in ((b"@", b""), (b"inject tcp", b"6"), (b"inject udp", b"17"), (b".", b" ")):
-        text = text.replace(word, number)
-    words = (np.fromstring(text, dtype=np.int64, sep=" ").reshape(-1, 13).T if text
-             else np.zeros((13, 0), dtype=np.int64))
-    return np.stack((words[0], words[1], octets @ words[2:6], words[6], octets @ words[7:11], words[11],
-                     words[12]))
+    # Times and packets alternate. Most lines send one of few packets, each of which is looked at once.
+    words = [*filter(None, text.replace(b" inject ", b"\n").split(b"\n"))]
+    if len(words) % 2 or not all(re.fullmatch(_PACKET, packet) for packet in set(words[1::2])):
+        return None
+    times = b"".join(words[::2])
+    found = np.fromstring(times.replace(b"@", b" "), dtype=np.int64, sep=" ")
+    # Without leading zeros, the digits are as many as the numbers need.
+    digits = len(found) + int(np.searchsorted(10 ** np.arange(1, 16), found, "right").sum())
+    is_valid = len(found) > 0 and len(times) == len(found) + digits and int(found.max()) <= MOMENTS[1]
+    return found if is_valid else None
 
 
 def read(text: bytes) -> dict[str, Plan]:

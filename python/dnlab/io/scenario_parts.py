@@ -79,16 +79,16 @@ class Command(NamedTuple):
 
 
 class Run(NamedTuple):
-    """Successive `inject` lines (ignoring empty ones): their numbers from 1, shape (n,), their bytes without
-    extra spaces, and their values as int64 of shape (7, n): time, protocol (6 or 17), source, its port,
-    target, its port, size."""
-    lines: "Ints"
+    """Successive `inject` lines, and empty ones between them: the number of the first, from 1, their bytes,
+    and the times of the packets, ns."""
+    line: int
     text: bytes
-    columns: "Ints"
+    moments: "Ints"
 
     def commands(self, begin: int = 0) -> Iterator[Command]:
         """Yields the commands, from an index on."""
-        for number, line in zip(self.lines[begin:].tolist(), self.text.decode("ascii").split("\n")[begin:-1]):
+        lines = [one for one in enumerate(self.text.decode("ascii").split("\n"), self.line) if one[1]]
+        for number, line in lines[begin:]:
             moment, text = line[1:].split(" ", 1)
             words = text.split(" ")
             yield Command(number, int(moment), "inject", text,
@@ -112,7 +112,7 @@ class Commands(Sequence[Command]):
         self._places.append(self._count)
         if isinstance(part, Run):
             self.runs.append((self._count, part))
-            self._count += len(part.lines)
+            self._count += len(part.moments)
         else:
             self.plain.append((self._count, part))
             self._count += 1
@@ -144,9 +144,9 @@ class Commands(Sequence[Command]):
         return next(part.commands(at - self._places[number])) if isinstance(part, Run) else part
 
     def text(self) -> bytes:
-        """Returns all lines, without comments and extra spaces."""
-        return b"".join(part.text if isinstance(part, Run) else f"@{part.moment} {part.text}\n".encode()
-                        for part in self._parts)
+        """Returns all lines, without comments, empty lines and extra spaces."""
+        return b"".join(re.sub(rb"\n+", b"\n", part.text).lstrip(b"\n") if isinstance(part, Run)
+                        else f"@{part.moment} {part.text}\n".encode() for part in self._parts)
 
 
 class Plan(NamedTuple):
