@@ -15,7 +15,7 @@ from conftest import ROOT, SBATCH, tool
 from sweeps import ONE, rows_of, template
 
 import dnlab
-from dnlab.processes.process_pool import Progress
+from dnlab.processes.progress import Progress
 from dnlab.sweeps.engines import RunOptions
 
 # Works like the program, but appends each text's experiments to the file `calls`, and fails if the folder has

@@ -7,14 +7,12 @@ from collections import defaultdict
 from typing import TYPE_CHECKING, NamedTuple, Optional, Sequence
 
 import numpy as np
-from numpy.typing import NDArray
 
 from dnlab.analysis.packets import distinct
 from dnlab.errors import Note
-from dnlab.io.ipfw_export import Rule, rule_of
 from dnlab.io.rows import (ACKNOWLEDGES, MAKE_COMMAND, OK, REFUSED, UNKNOWN_SOURCE, Flags, Ints, Records,
                            header_text, headers_at, number_of)
-from dnlab.io.scenario_parts import Command, Plan
+from dnlab.io.scenario_parts import Command, Plan, Rule, rule_of
 
 if TYPE_CHECKING:
     from dnlab.analysis.view import View
@@ -137,7 +135,7 @@ def search(epoch: Epoch, headers: Ints, is_whole: bool = False) -> tuple[Ints, F
 
 
 def _matches(rule: Rule, headers: Ints) -> Flags:
-    found: NDArray[np.bool_] = np.ones(len(headers), dtype=np.bool_)
+    found: Flags = np.ones(len(headers), dtype=np.bool_)
     if rule.protocol != "ip":
         found &= headers[:, 0] == (6 if rule.protocol == "tcp" else 17)
     for column, address, ports in ((1, rule.source, rule.source_ports), (3, rule.target, rule.target_ports)):

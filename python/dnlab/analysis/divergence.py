@@ -9,14 +9,13 @@ from dataclasses import dataclass
 from typing import Any, NamedTuple, Optional
 
 import numpy as np
-from numpy.typing import NDArray
 
 from dnlab.analysis.distributions import in_flight, waiting
 from dnlab.analysis.packets import UNKNOWN
 from dnlab.analysis.view import View
 from dnlab.io.rows import (ACK, ACKNOWLEDGES, ARRIVE, DATA, DROP, DROP_ACK, EXPIRE, IDENTIFY, MAKE_ACK,
-                           MAKE_COMMAND, OK, PASS, PIPE, REFUSED, RULE, WORD_OF, WORDS, Ints, header_text,
-                           headers_at, instance_name)
+                           MAKE_COMMAND, OK, PASS, PIPE, REFUSED, RULE, WORD_OF, WORDS, AnyInts, Ints, Ints32,
+                           header_text, headers_at, instance_name)
 from dnlab.io.scenario_parts import DROP_CAUSES
 
 
@@ -75,7 +74,7 @@ class Told:
             return (np.where(self.has_packet, values[packet], -1) if len(values)
                     else np.full(len(own), -1, dtype=np.int64))
 
-        self.columns: tuple[NDArray[np.integer[Any]], ...] = (
+        self.columns: tuple[AnyInts, ...] = (
             own.take("moment", every), WORD_OF[kind], own.instances(every), codes[of(self.names.who)],
             of(self.names.number), of(self.names.nth).astype(np.int32),
             np.where(counts, own.take("source", every), -1),
@@ -84,7 +83,7 @@ class Told:
             own.rows["code"], np.where(is_listing, own.take("packet", every), -1),
             self.texts(texts, with_listings))
 
-    def texts(self, texts: dict[str, int], with_listings: bool) -> NDArray[np.int32]:
+    def texts(self, texts: dict[str, int], with_listings: bool) -> Ints32:
         """Returns the numbers of the texts of commands and listings. Shape (rows,); -1 if there is none."""
         own = self.view.records
         found = np.full(len(own), -1, dtype=np.int32)
@@ -197,7 +196,7 @@ def parting(first: View, second: View) -> Optional[Parting]:
     return _parted(told, events) or _parted(told, rest)
 
 
-def _parted(told: tuple[Told, Told], rows: list[NDArray[np.int64]]) -> Optional[Parting]:
+def _parted(told: tuple[Told, Told], rows: list[Ints]) -> Optional[Parting]:
     """Returns where some rows of both diverge."""
     count = min(len(rows[0]), len(rows[1]))
     different = np.zeros(count, dtype=np.bool_)

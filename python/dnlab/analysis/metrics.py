@@ -7,7 +7,6 @@ from typing import TYPE_CHECKING, Any, Iterable, NamedTuple, Optional, Sequence
 
 from dnlab.analysis.quantities import ENDINGS, Percentile, percentile_name, shown
 from dnlab.errors import InputError, reading
-from dnlab.io.files import opened_gzip
 from dnlab.io.scenario_parts import DROP_CAUSES
 
 if TYPE_CHECKING:
@@ -273,6 +272,9 @@ def percentiles_in(found: Iterable[Metric]) -> list[str]:
 def stored_rows(name: str) -> Optional[dict[str, list[Row]]]:
     """Returns the rows of a file of `dnlab-summary --json`, by experiment, or None for a report. Standard
     input is a report."""
+    # Imported here, because nothing else of this module opens files.
+    from dnlab.io.files import opened_gzip
+
     if name == "-":
         return None
     with reading(name), open(name, "rb") as packed, opened_gzip(packed) as file:

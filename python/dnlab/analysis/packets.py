@@ -4,11 +4,10 @@ from functools import cached_property
 from typing import Any, Mapping
 
 import numpy as np
-from numpy.typing import NDArray
 
 from dnlab.io.rows import (ACKNOWLEDGES, ARRIVE, DATA, DELIVER, DELIVER_ACK, DROP, DROP_ACK, FINISH, KINDS,
-                           LOAD_OF, MAKE_ACK, MAKE_COMMAND, MAKE_TRAIN, PASS, PLAIN, UNKNOWN_SOURCE, Flags,
-                           Ints, Records, Rows, header_text, headers_at)
+                           LOAD_OF, MAKE_ACK, MAKE_COMMAND, MAKE_TRAIN, PASS, PLAIN, UNKNOWN_SOURCE, AnyInts,
+                           Bytes, Flags, Ints, Ints8, Ints32, Records, Rows, header_text, headers_at)
 from dnlab.io.scenario_parts import INJECTED, DROP_CAUSES as CAUSES
 
 HELD, DELIVERED, DROPPED = 0, 1, 2
@@ -43,11 +42,11 @@ class Packets:
     names: list[str]
     made: Ints
     ended: Ints
-    outcome: NDArray[np.int8]
+    outcome: Ints8
     size: Ints
-    who: NDArray[np.int32]
-    kind: NDArray[np.int8]
-    flow: NDArray[np.int32]
+    who: Ints32
+    kind: Ints8
+    flow: Ints32
     number: Ints
     row: Ints
 
@@ -95,7 +94,7 @@ class Packets:
                 for part in parts]
 
 
-def _order(values: "NDArray[np.integer[Any]]") -> Ints:
+def _order(values: AnyInts) -> Ints:
     """Returns a stable order of values; values that are in order need no sort, and those of 16 bits only a
     fast one."""
     if len(values) < 2 or bool((values[1:] >= values[:-1]).all()):
@@ -104,7 +103,7 @@ def _order(values: "NDArray[np.integer[Any]]") -> Ints:
     return np.argsort(values.astype(np.uint16) if is_short else values, kind="stable")
 
 
-def _parts(values: "NDArray[np.integer[Any]]") -> list[Ints]:
+def _parts(values: AnyInts) -> list[Ints]:
     """Returns the places of each value, in the order of the values."""
     if not len(values):
         return []
@@ -161,7 +160,7 @@ def packets_of(records: Records, given: Mapping[str, str] = {}) -> Packets:
     return Packets(names, made, ended, fate, size, who, kind, flow, number, row)
 
 
-def _load(own: Rows, packet: Any, kind: NDArray[np.int8], flow: NDArray[np.int32], number: Ints) -> None:
+def _load(own: Rows, packet: Any, kind: Ints8, flow: Ints32, number: Ints) -> None:
     """Sets the loads of the packets that some rows name."""
     loads = LOAD_OF[own["kind"]]
     kind[packet] = loads
@@ -170,8 +169,8 @@ def _load(own: Rows, packet: Any, kind: NDArray[np.int8], flow: NDArray[np.int32
         number[packet] = np.where(loads == PLAIN, -1, own["number"])
 
 
-def _senders(made: Rows, kind: NDArray[np.int8], flow: NDArray[np.int32],
-             names: Mapping[str, str]) -> tuple[list[str], NDArray[np.int32]]:
+def _senders(made: Rows, kind: Ints8, flow: Ints32,
+             names: Mapping[str, str]) -> tuple[list[str], Ints32]:
     """Returns the names of the senders, and the index of each packet's, by the rows that create packets; -1
     if it is unknown."""
     # A flow's number and direction; below 0 a train's number; else the place of a name.
@@ -196,7 +195,7 @@ def _senders(made: Rows, kind: NDArray[np.int8], flow: NDArray[np.int32],
     return [_name(one, given) for one in keys], who
 
 
-def _codes(key: Ints) -> tuple[list[int], NDArray[np.int32]]:
+def _codes(key: Ints) -> tuple[list[int], Ints32]:
     """Returns the keys from 0 on, each once, in the order of the first, and the index of each one's, -1 for
     keys below 0."""
     first = np.full(int(key.max(initial=-1)) + 2, len(key), dtype=np.int64)
@@ -286,7 +285,7 @@ def _many_visits(records: Records) -> Visits:
     return Visits(packet[first], records.instances(rows[first]), arrival, finish, left)
 
 
-def _unseen(kind: NDArray[np.uint8], packet: Ints) -> Flags:
+def _unseen(kind: Bytes, packet: Ints) -> Flags:
     """Returns which rows, in the order of packets, are finishes without an `arrive`."""
     waits = np.zeros(len(kind), dtype=np.bool_)
     waits[1:] = (packet[1:] == packet[:-1]) & (kind[:-1] == ARRIVE)

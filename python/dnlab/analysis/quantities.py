@@ -4,10 +4,9 @@ import importlib
 import math
 import re
 import warnings
-from dataclasses import dataclass
 from decimal import Decimal
 from fractions import Fraction
-from typing import Iterable, Literal, Optional, Sequence, Union
+from typing import Iterable, Literal, NamedTuple, Optional, Sequence, Union
 
 from dnlab.errors import ResourceError
 
@@ -133,11 +132,10 @@ def jain(values: Sequence[float]) -> Optional[float]:
     return float(Fraction(sum(values)) ** 2 / (len(values) * Fraction(squares))) if squares else None
 
 
-@dataclass(frozen=True)
-class Interval:
+class Interval(NamedTuple):
     """A mean of `count` values, the half-width of its confidence interval, and the interval's ends; None if
     there are too few values."""
-    count: int
+    count: int  # type: ignore[assignment]  # tuples have a method of this name
     mean: Optional[float]
     half: Optional[float] = None
     low: Optional[float] = None

@@ -17,6 +17,7 @@ from dnlab.io import scenario
 from dnlab.io.files import Origin, check_beside, unpacked
 from dnlab.io.pieces import Piece, pieces
 from dnlab.io.scenario_parts import Plan
+from dnlab.processes.progress import Progress
 
 if TYPE_CHECKING:
     import pandas as pd
@@ -113,9 +114,6 @@ def map_experiments(given: Inputs, function: "Callable[[View], T]", plans: Optio
 
     Another process must be able to import the function by name. A file with more than `most` experiments is
     refused before one is read."""
-    # Imported here, because running and reading a scenario needs no processes.
-    from dnlab.processes.process_pool import Progress
-
     found: Iterable[Piece] = pieces_of(given.report, wanted, plans)
     total = None
     if given.report != "-":

@@ -5,10 +5,9 @@ Times are in nanoseconds here; `pictures` scales them. A panel that needs unknow
 """
 import copy
 from dataclasses import dataclass
-from typing import Callable, NamedTuple, Optional, Sequence
+from typing import Any, Callable, NamedTuple, Optional, Sequence
 
 import numpy as np
-from numpy.typing import NDArray
 
 from dnlab.analysis.packets import DELIVERED, DROPPED
 from dnlab.analysis.metrics import ALIASES, Span
@@ -23,7 +22,7 @@ FLOWS = 16
 # intervals.
 STRETCHES = 1500
 
-Values = NDArray[np.float64]
+Values = np.ndarray[Any, np.dtype[np.float64]]
 
 
 # The explanation of the spikes in a window.

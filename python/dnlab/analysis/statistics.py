@@ -1,9 +1,7 @@
 """The statistics that a sweep collects: those that the package has, and your own functions, which take a
 run."""
 import importlib.util
-import inspect
 import math
-import pickle
 import re
 import sys
 from fractions import Fraction
@@ -43,6 +41,8 @@ class CustomStat(str):
     def of(self, view: "View", of: str) -> Optional[float]:
         """Returns the value for a row's name. Raises `InputError` if the function raises, or returns no
         number."""
+        import inspect
+
         from dnlab.analysis.results import Experiment
 
         # A function of one argument applies to the whole run.
@@ -120,6 +120,8 @@ def _spelled(call: Callable[..., Any]) -> bytes:
 
 
 def _made_anew(name: str, call: bytes, unit: str) -> CustomStat:
+    import pickle
+
     return CustomStat(name, pickle.loads(call), unit)
 
 

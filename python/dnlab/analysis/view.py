@@ -6,7 +6,6 @@ from pathlib import Path
 from typing import Mapping, NamedTuple, Optional
 
 import numpy as np
-from numpy.typing import NDArray
 
 from dnlab.analysis.commands import done_of, epochs_of, find_senders, headers_of
 from dnlab.analysis.consistency import check_consistency
@@ -112,7 +111,7 @@ class View:
     def is_back(self) -> Flags:
         """Returns for each packet whether it goes back: acknowledgements, and packets from flows' receivers
         to their senders. Shape (packets,)."""
-        back: NDArray[np.bool_] = self.packets.kind == ACKNOWLEDGES
+        back: Flags = self.packets.kind == ACKNOWLEDGES
         flows = [sends for _, sends in self.sends.values() if sends.word == "flow"]
         sources, targets = {one.source for one in flows}, {one.target for one in flows}
         for name, packets in self.senders:

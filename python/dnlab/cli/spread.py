@@ -15,7 +15,8 @@ from dnlab.io.scenario_parts import MOST_BYTES, MOST_EXPERIMENTS, Plan
 from dnlab.io.scenario_text import (Fault, Part, experiments_in, heading_fault, lines_in, repeated, shares,
                                     texts_of)
 from dnlab.processes import subprocesses
-from dnlab.processes.process_pool import ProcessPool, Progress
+from dnlab.processes.process_pool import ProcessPool
+from dnlab.processes.progress import Progress
 from dnlab.processes.subprocesses import TempDir
 from dnlab.programs import program as program_of
 from dnlab.sweeps.engines import Job, RunFailedError, RunOptions, failure, run_parts

@@ -8,9 +8,7 @@ import sys
 from typing import Optional, Sequence, TextIO
 
 from dnlab.analysis.metrics import PERCENTILES, Row, Span, columns_of, times_of
-from dnlab.analysis.names import names_of, with_names
 from dnlab.analysis.quantities import FOR_PEOPLE, Percentile
-from dnlab.analysis.reports import Inputs, plans_of
 from dnlab.cli.arguments import (add_names, add_of, add_percentiles, add_span, add_texts, add_workers,
                                  checked_span, parse_files, parser_of, time_of, words_in)
 from dnlab.errors import Note
@@ -260,7 +258,9 @@ def print_json(rows: Sequence[Row], out: TextIO) -> None:
 
 def main(words_given: Sequence[str]) -> int:
     given = words(words_given)
-    # Imported here, so that --help works without numpy.
+    # Imported here, so that --help works without numpy, and loads nothing that reads.
+    from dnlab.analysis.names import names_of, with_names
+    from dnlab.analysis.reports import Inputs, plans_of
     from dnlab.analysis.summary import grouped, summed, tell
 
     span = Span(given.begin, given.end)

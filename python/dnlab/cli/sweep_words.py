@@ -8,8 +8,7 @@ from dnlab.errors import STOPPING
 from dnlab.analysis.statistics import STATS, USUAL, StatRequest, stats_of
 from dnlab.cli.arguments import (Parser, add_design, add_span, add_workers, checked, checked_span, count_of,
                                  design_of, is_designed, listed, parser_of, picture, words_in)
-from dnlab.sweeps.engines import DASK
-from dnlab.sweeps.grid import seeds_of, setting_of, value_of
+from dnlab.sweeps.grid import DASK, seeds_of, setting_of, value_of
 
 ABOUT = "Runs a template with each setting and seed, and prints means with intervals."
 EXAMPLE = f"""TEMPLATE is a scenario of one experiment in Jinja2 (Debian: python3-jinja2)

@@ -22,7 +22,7 @@ from dnlab.emulation.experiment import Experiment, Host
 from dnlab.emulation.kernel_cache import Kernel
 from dnlab.errors import InputError, ResourceError
 from dnlab.processes import subprocesses
-from dnlab.processes.process_pool import Progress
+from dnlab.processes.progress import Progress
 
 # The line formats are those of hosts/start and hosts/link.
 

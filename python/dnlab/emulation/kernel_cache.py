@@ -17,7 +17,7 @@ from typing import Iterator, NamedTuple
 from dnlab.errors import ResourceError
 from dnlab.io.files import whole_file
 from dnlab.processes import subprocesses
-from dnlab.processes.process_pool import Progress
+from dnlab.processes.progress import Progress
 from dnlab.processes.subprocesses import TempDir
 from dnlab.programs import DATA, ROOT, is_repository, say
 

@@ -5,46 +5,10 @@ from typing import Mapping, NamedTuple, Optional, Sequence
 
 from dnlab.errors import InputError
 from dnlab.io.ipfw_words import network
-from dnlab.io.scenario_parts import Command, Config, Plan, config_of
+from dnlab.io.scenario_parts import Command, Config, Plan, Rule, config_of, rule_of
 
 _SENDS = ("flow", "train", "inject", "stop")
 _UNSEEN = ("show", "trace", "end")
-
-
-class Rule(NamedTuple):
-    """A rule: its number, its action (`allow`, `deny`, `count`, `skipto`, `pipe`) with its argument (0 if it
-    has none), the protocol, and addresses and ports of source and destination ('' is any port)."""
-    number: int
-    action: str
-    value: int
-    protocol: str
-    source: str
-    source_ports: str
-    target: str
-    target_ports: str
-
-    def text(self) -> str:
-        """Returns it in scenario syntax, without `add`."""
-        action = f"{self.action} {self.value}" if self.value else self.action
-        ends = (f"{self.source} {self.source_ports}".strip(), f"{self.target} {self.target_ports}".strip())
-        return f"{self.number} {action} {self.protocol} from {ends[0]} to {ends[1]}"
-
-
-def rule_of(text: str) -> Rule:
-    """Parses a valid `add` command.
-
-    >>> rule_of("add 100 pipe 1 tcp from 10.0.0.0/24 1-9 to any").text()
-    '100 pipe 1 tcp from 10.0.0.0/24 1-9 to any'
-    """
-    words = text.split()
-    number, action = int(words[1]), words[2]
-    has_value = action in ("skipto", "pipe")
-    value = int(words[3]) if has_value else 0
-    rest = words[3 + has_value:]
-    place = rest.index("to")
-    source, target = rest[2:place], rest[place + 1:]
-    return Rule(number, action, value, rest[0], source[0], source[1] if len(source) > 1 else "", target[0],
-                target[1] if len(target) > 1 else "")
 
 
 class Setting(NamedTuple):

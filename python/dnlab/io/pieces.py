@@ -5,9 +5,9 @@ import mmap
 import os
 import re
 import tempfile
-from dataclasses import dataclass, field, replace
 from pathlib import Path
-from typing import IO, TYPE_CHECKING, Any, BinaryIO, Iterable, Iterator, Optional, Sequence, Union
+from typing import (IO, TYPE_CHECKING, Any, BinaryIO, Iterable, Iterator, NamedTuple, Optional, Sequence,
+                    Union)
 
 from dnlab.errors import ParseError, RowError
 from dnlab.io.files import GZIP, opened_gzip
@@ -27,8 +27,7 @@ NPY = b"\x93NUMPY"
 _HEADER, _ROW = 512, 40
 
 
-@dataclass(frozen=True)
-class Piece:
+class Piece(NamedTuple):
     """Where an experiment is in a file: its heading's line, and the bytes after it; or its rows, `begin` to
     `end`, without those of the counters, for which `line` is -1."""
     name: str
@@ -37,7 +36,7 @@ class Piece:
     begin: int
     end: int
     # What must live as long as this: the bytes of a stream.
-    keep: Any = field(default=None, compare=False, repr=False)
+    keep: Any = None
 
     def size(self) -> int:
         """Returns its length in bytes."""
@@ -103,7 +102,7 @@ def pieces(source: Union[str, Path, BinaryIO], wanted: Iterable[str] = (),
         copied = _Copied(source if hasattr(source, "peek")
                          else io.BufferedReader(source))  # type: ignore[arg-type]
     for piece in pieces(copied.path, wanted, names):
-        yield replace(piece, keep=copied)
+        yield piece._replace(keep=copied)
 
 
 def _in_rows(path: str, wanted: set[str], names: Optional[Sequence[str]]) -> Iterator[Piece]:

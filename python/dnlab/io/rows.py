@@ -13,16 +13,19 @@ from pathlib import Path
 from typing import IO, Any, Iterable, Optional, Union
 
 import numpy as np
-from numpy.typing import NDArray
 
 from dnlab.errors import ParseError, RowError
 from dnlab.io.scenario_parts import DROP_CAUSES as CAUSES
 
-Ints = NDArray[np.int64]
-Bytes = NDArray[np.uint8]
-Flags = NDArray[np.bool_]
+# Arrays, by the types of their values: `numpy.typing`, which has NDArray, takes as long to load as `dnlab`.
+Ints = np.ndarray[Any, np.dtype[np.int64]]
+Ints32 = np.ndarray[Any, np.dtype[np.int32]]
+Ints8 = np.ndarray[Any, np.dtype[np.int8]]
+AnyInts = np.ndarray[Any, np.dtype[np.integer[Any]]]
+Bytes = np.ndarray[Any, np.dtype[np.uint8]]
+Flags = np.ndarray[Any, np.dtype[np.bool_]]
 # A structured array of `ROW`; NumPy has no type for its columns.
-Rows = NDArray[np.void]
+Rows = np.ndarray[Any, np.dtype[np.void]]
 
 # The kinds of rows.
 (OK, REFUSED, MAKE_COMMAND, MAKE_TRAIN, MAKE_DATA, MAKE_ACK, IDENTIFY, ARRIVE, FINISH, PASS, DELIVER,

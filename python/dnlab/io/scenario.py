@@ -5,6 +5,7 @@ commands. Needs only Python, and simulates nothing.
 """
 import importlib.util
 import re
+from functools import cache
 from typing import TYPE_CHECKING, Iterator, NamedTuple, Optional, Sequence, Union
 
 from dnlab.errors import ParseError
@@ -41,14 +42,15 @@ _OPTIONS = {"pipe": ("bw", "delay", "queue", "plr", "codel", "target", "interval
             "flow": ("ssthresh", "window", "rto")}
 
 
-def _pattern(words: str) -> "re.Pattern[str]":
-    parts = re.split("#([a-z]+)", words)
+_HEADING = "experiment (?P<name>[a-z0-9_-]{1,32}) seed #seed budget #budget(?: steps #steps)?"
+
+
+@cache
+def _pattern(word: str) -> "re.Pattern[str]":
+    """Returns the pattern of a command, or of a heading."""
+    parts = re.split("#([a-z]+)", f"@#moment {word}{COMMANDS[word]}" if word in COMMANDS else _HEADING)
     return re.compile("".join(f"(?P<{part}_{place}>{NUMBER})" if place % 2 else part
                               for place, part in enumerate(parts)))
-
-
-_HEADING = _pattern("experiment (?P<name>[a-z0-9_-]{1,32}) seed #seed budget #budget(?: steps #steps)?")
-_COMMANDS = {word: _pattern(f"@#moment {word}{more}") for word, more in COMMANDS.items()}
 
 
 class BadLine(Exception):
@@ -58,14 +60,14 @@ class BadLine(Exception):
 def read_line(line: int, words: Sequence[str]) -> Union[Plan, Command]:
     """Returns an experiment, which has no commands yet, or a command, by the words of its line. Raises
     `BadLine`."""
-    word = words[1] if len(words) > 1 else ""
-    found = (_HEADING if words[0] == "experiment"
-             else _COMMANDS.get(word, _HEADING)).fullmatch(" ".join(words))
+    is_heading = words[0] == "experiment"
+    word = words[1] if len(words) > 1 and not is_heading else ""
+    found = _pattern(word if word in COMMANDS else "").fullmatch(" ".join(words))
     given = ["codel" if one == "droptail" else one for one in words]
     if found is None or any(given.count(option) > 1 for option in _OPTIONS.get(word, ())):
         raise BadLine("badword")
     of = _numbers(found)
-    if found.re is _HEADING:
+    if is_heading:
         return Plan(found["name"], line, of["seed"], of["budget"], of.get("steps", STEPS), Commands())
     text, sends = " ".join(words[1:]), None
     is_config = word == "pipe" and "config" in words

@@ -2,7 +2,6 @@
 docs/reference/scenario.md."""
 import re
 from bisect import bisect_right
-from dataclasses import dataclass
 from typing import TYPE_CHECKING, Iterable, Iterator, Mapping, NamedTuple, Optional, Sequence, Union, overload
 
 if TYPE_CHECKING:
@@ -29,8 +28,7 @@ HEADER = 40
 INJECTED = "injected"
 
 
-@dataclass(frozen=True)
-class Sends:
+class Sends(NamedTuple):
     """What a command sends: a packet of `inject`, a train or a flow.
 
     `size` is a packet's size in bytes, for flows with 40 bytes of headers; `count` packets or segments; `gap`
@@ -38,7 +36,7 @@ class Sends:
     word: str
     number: Optional[int]
     size: int
-    count: int = 1
+    count: int = 1  # type: ignore[assignment]  # tuples have a method of this name
     gap: int = 0
     smss: int = 0
     window: int = WINDOW
@@ -181,11 +179,10 @@ OPTIONS = (
     rf"| queue (?P<queue>{NUMBER}(?:KBytes|Kbytes|KB|K)?)| plr (?P<plr>[01](?:\.[0-9]{{1,6}})?)"
     rf"| mask (?P<mask>all|{_MASK}(?: {_MASK})*)| droptail"
     rf"| (?P<codel>codel)(?: target (?P<target>{_TIME})| interval (?P<interval>{_TIME}))*)*")
-_CONFIG = re.compile(f"pipe {NUMBER} config{OPTIONS}")
+_CONFIG = f"pipe {NUMBER} config{OPTIONS}"
 
 
-@dataclass(frozen=True)
-class Config:
+class Config(NamedTuple):
     """A `config` of a pipe, with its line.
 
     `bw` is in bit/s (0 is unlimited), `delay` in ns, the queue's limit in `slots` or `bytes` (the other is
@@ -227,7 +224,7 @@ def config_of(line: int, text: str) -> Config:
     >>> one.bw, one.delay, one.slots, one.bytes, one.target, one.interval
     (8000000, 10000000, None, 30720, 5000000, 100000000)
     """
-    found = _CONFIG.fullmatch(text)
+    found = re.fullmatch(_CONFIG, text)
     assert found is not None
     queue, unit, _ = (found["queue"] or "50").partition("K")
     times = {name: time_of(found[name]) if found[name] else CODEL[name] if found["codel"] else None
@@ -301,3 +298,39 @@ def stretches_of(changes: Iterable[Change]) -> list[list[Change]]:
         else:
             found[-1].append(change)
     return found
+
+
+class Rule(NamedTuple):
+    """A rule: its number, its action (`allow`, `deny`, `count`, `skipto`, `pipe`) with its argument (0 if it
+    has none), the protocol, and addresses and ports of source and destination ('' is any port)."""
+    number: int
+    action: str
+    value: int
+    protocol: str
+    source: str
+    source_ports: str
+    target: str
+    target_ports: str
+
+    def text(self) -> str:
+        """Returns it in scenario syntax, without `add`."""
+        action = f"{self.action} {self.value}" if self.value else self.action
+        ends = (f"{self.source} {self.source_ports}".strip(), f"{self.target} {self.target_ports}".strip())
+        return f"{self.number} {action} {self.protocol} from {ends[0]} to {ends[1]}"
+
+
+def rule_of(text: str) -> Rule:
+    """Parses a valid `add` command.
+
+    >>> rule_of("add 100 pipe 1 tcp from 10.0.0.0/24 1-9 to any").text()
+    '100 pipe 1 tcp from 10.0.0.0/24 1-9 to any'
+    """
+    words = text.split()
+    number, action = int(words[1]), words[2]
+    has_value = action in ("skipto", "pipe")
+    value = int(words[3]) if has_value else 0
+    rest = words[3 + has_value:]
+    place = rest.index("to")
+    source, target = rest[2:place], rest[place + 1:]
+    return Rule(number, action, value, rest[0], source[0], source[1] if len(source) > 1 else "", target[0],
+                target[1] if len(target) > 1 else "")

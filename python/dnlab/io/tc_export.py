@@ -8,9 +8,9 @@ import ipaddress
 from typing import Iterator, NamedTuple, Optional, Sequence
 
 from dnlab.errors import InputError
-from dnlab.io.ipfw_export import Rule, Setting, printable
+from dnlab.io.ipfw_export import Setting, printable
 from dnlab.io.ipfw_words import network
-from dnlab.io.scenario_parts import Config
+from dnlab.io.scenario_parts import Config, Rule
 
 _FAST = "100000000000bit quantum 1514"
 _LEAST = 64

@@ -23,8 +23,8 @@ from dnlab.processes.process_pool import ProcessPool
 from dnlab.processes.subprocesses import Killed, TempDir
 from dnlab.programs import program as program_of
 from dnlab.sweeps import engines
-from dnlab.sweeps.engines import DASK, Job, RunFailedError, RunOptions
-from dnlab.sweeps.grid import Case
+from dnlab.sweeps.engines import Job, RunFailedError, RunOptions
+from dnlab.sweeps.grid import DASK, Case
 from dnlab.sweeps.measuring import (StatResults, Waiting, answer, answers as read_answers, measured,
                                     measured_by_turns)
 from dnlab.sweeps.sweeping import Sweep

@@ -19,8 +19,6 @@ from dnlab.processes import subprocesses
 from dnlab.processes.process_pool import ProcessPool
 from dnlab.processes.subprocesses import CANCEL, Killed, cancel
 
-# The prefix of a Dask scheduler's address.
-DASK = "dask:"
 
 
 class RunFailedError(Exception):

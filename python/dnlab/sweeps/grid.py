@@ -11,6 +11,8 @@ from typing import Any, Iterable, Iterator, Mapping, NamedTuple, Optional, Seque
 from dnlab.errors import InputError
 
 Value = Union[int, float, str]
+# The prefix of a Dask scheduler's address.
+DASK = "dask:"
 # Names that every template has besides the settings.
 GIVEN = ("name", "seed", "rng", "traffic")
 # The columns of the tables besides those of the settings.

@@ -18,7 +18,8 @@ from dnlab.io.scenario_text import lines_in, names_of
 from dnlab.analysis import names
 from dnlab.processes import subprocesses
 from dnlab.processes.subprocesses import Killed
-from dnlab.processes.process_pool import ProcessPool, Progress
+from dnlab.processes.process_pool import ProcessPool
+from dnlab.processes.progress import Progress
 from dnlab.programs import program as program_of
 from dnlab.sweeps.grid import Case, as_written, cases_of, why_reserved
 from dnlab.sweeps.cache import ResultCache, checksum, program_checksum
