@@ -8,7 +8,7 @@ from hypothesis import strategies as some
 
 from dnlab.analysis.quantities import half_of
 from dnlab.analysis.quantities import Interval, interval, jain, percentile_name, place
-from dnlab.analysis.tables import losses, windows_of
+from dnlab.analysis.intervals import losses, windows_of
 from dnlab.analysis.names import varied
 from dnlab.analysis.metrics import times_of
 from dnlab.analysis.summary import grouped

@@ -11,11 +11,10 @@ from typing import BinaryIO, Iterator, NamedTuple
 import dpkt
 import numpy as np
 
-from dnlab.analysis.packets import distinct
 from dnlab.analysis.view import View
 from dnlab.errors import InputError
 from dnlab.io.rows import (ACKNOWLEDGES, DATA, DELIVER, DELIVER_ACK, LOAD_OF, MAKE_ACK, MAKE_COMMAND, Flags,
-                           Ints, header_text, headers_at)
+                           Ints, header_text, headers_in)
 from dnlab.io.scenario_parts import HEADER, WINDOW
 
 _ETHERNET = 14
@@ -82,7 +81,7 @@ def frames_of(view: View, side: str, wanted: Flags) -> Iterator[tuple[int, bytes
     """Yields the packets that pass a side, in the order of the report: time (ns), captured bytes, and length
     on the wire."""
     own, table = view.records, view.packets
-    found, place = distinct(headers_at(own.rows, table.row))
+    found, place = headers_in(own.rows, table.row)
     headers = [header_of(header_text(one)) for one in found]
     ethernets = [header.ethernet() for header in headers]
     windows = {sends.number: sends.window for _, sends in view.sends.values()}

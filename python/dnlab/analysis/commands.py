@@ -4,14 +4,13 @@ from __future__ import annotations
 
 import ipaddress
 from collections import defaultdict
-from typing import TYPE_CHECKING, NamedTuple, Optional, Sequence
+from typing import TYPE_CHECKING, NamedTuple, Optional
 
 import numpy as np
 
-from dnlab.analysis.packets import distinct
 from dnlab.errors import Note
-from dnlab.io.rows import (ACKNOWLEDGES, MAKE_COMMAND, OK, REFUSED, UNKNOWN_SOURCE, Flags, Ints, Records,
-                           header_text, headers_at, number_of)
+from dnlab.io.rows import (ACKNOWLEDGES, MAKE_COMMAND, OK, REFUSED, UNKNOWN_SOURCE, Flags, Ints, Ints32,
+                           Records, distinct, header_text, headers_in, keys_of, number_of)
 from dnlab.io.scenario_parts import Command, Plan, Rule, rule_of
 
 if TYPE_CHECKING:
@@ -89,7 +88,7 @@ def header_by(command: Command) -> list[int]:
     return [6 if protocol == "tcp" else 17, number_of(source), int(port), number_of(target), int(other)]
 
 
-def headers_of(view: View) -> tuple[Ints, Ints]:
+def headers_of(view: View) -> tuple[Ints, Ints32]:
     """Returns the headers that are sent, and the index of each packet's (-1 if unknown). Shapes (n, 5) and
     (packets,)."""
     rows: list[list[int]] = []
@@ -103,17 +102,12 @@ def headers_of(view: View) -> tuple[Ints, Ints]:
                 protocol, source, port, target, other = rows[-1]
                 by_name[f"{name} acks"] = len(rows)
                 rows.append([protocol, target, other, source, port])
-    which = np.full(len(view.packets), -1, dtype=np.int64)
-    found = [np.array(rows, dtype=np.int64).reshape(-1, _COLUMNS)]
-    for name, packets in view.senders:
-        if name in by_name:
-            which[packets] = by_name[name]
-            continue
-        known = packets[view.packets.row[packets] >= 0]
-        headers, index = distinct(headers_at(view.records.rows, view.packets.row[known]))
-        which[known] = sum(map(len, found)) + index
-        found.append(headers)
-    return np.concatenate(found), which
+    codes = np.array([*(by_name.get(name, -1) for name in view.packets.names), -1], dtype=np.int32)
+    which = codes[view.packets.who]
+    table = view.packets
+    if len(table.headers):
+        which = np.where((which < 0) & (table.header >= 0), table.header + len(rows), which)
+    return np.concatenate((np.array(rows, dtype=np.int64).reshape(-1, _COLUMNS), table.headers)), which
 
 
 def search(epoch: Epoch, headers: Ints, is_whole: bool = False) -> tuple[Ints, Flags]:
@@ -154,25 +148,22 @@ def unmet(view: View) -> tuple[list[tuple[int, Rule]], list[int]]:
     if not len(view.packets):
         return [], []
     there, _ = view.headers
-    headers, _ = distinct(np.concatenate((there, there[:, [0, 3, 4, 1, 2]])))
+    headers = np.concatenate((there, there[:, [0, 3, 4, 1, 2]]))
+    headers = headers[distinct(*keys_of(headers))[0]]
     rules: dict[tuple[int, Rule], bool] = {}
     for epoch in view.epochs:
         for one, is_met in zip(epoch.rules, search(epoch, headers, True)[1].tolist()):
             rules[one] = rules.get(one, False) or is_met
     pipes = {rule.value for (_, rule), is_met in rules.items() if is_met and rule.action == "pipe"}
-    pipes |= set((view.visits.pipe // 256).tolist())
+    pipes |= {instance // 256 for instance, _ in view.visits.instances}
     return [one for one, is_met in rules.items() if not is_met], [pipe for pipe in view.changes
                                                                   if pipe not in pipes]
 
 
-def is_settled(view: View, epochs: Sequence[Epoch], which: Ints) -> Flags:
-    """Returns for each packet whether the rules at its creation are known: emissions of flows and trains
-    follow everything else of their time."""
-    changes = np.array([epoch.moment for epoch in epochs], dtype=np.int64)
+def are_emissions(view: View, packets: slice) -> Flags:
+    """Returns which packets a flow or a train emits, which follows everything else of its time."""
     names = np.array([name.startswith(("flow", "train")) for name in view.packets.names] + [False])
-    is_emission = names[view.packets.who] & (view.packets.kind != ACKNOWLEDGES)
-    found: Flags = (which >= 0) & (view.packets.made >= 0) & (is_emission
-                                                              | ~np.isin(view.packets.made, changes))
+    found: Flags = names[view.packets.who[packets]] & (view.packets.kind[packets] != ACKNOWLEDGES)
     return found
 
 
@@ -201,7 +192,7 @@ def _find_trains(records: Records, plan: Plan, makes: Ints, notes: list[Note]) -
         if command.word == "train" and command.sends is not None and command.sends.number is not None:
             trains[tuple(header_by(command))][command.sends.name()] = command.sends.number
     shared: list[str] = []
-    headers, which = distinct(headers_at(records.rows, makes))
+    headers, which = headers_in(records.rows, makes)
     for place, header in enumerate(headers.tolist()):
         names = trains.get(tuple(header), {})
         if len(names) == 1:

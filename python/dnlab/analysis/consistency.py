@@ -12,10 +12,11 @@ from typing import TYPE_CHECKING
 import numpy as np
 
 from dnlab.analysis import commands
-from dnlab.analysis.packets import DROPPED, HELD, distinct
+from dnlab.analysis.packets import DROPPED, HELD, kept
 from dnlab.errors import ParseError
 from dnlab.io.rows import (ACK, DELIVER, DELIVER_ACK, DROP, DROP_ACK, EXPIRE, FINISH, MAKE_ACK, MAKE_COMMAND,
-                           OK, PASS, REFUSED, Flags, Ints, header_text, headers_at, instance_name)
+                           OK, PASS, REFUSED, Flags, Ints, Ints32, distinct, header_text, headers_at,
+                           instance_name, keys_of)
 from dnlab.io.scenario_parts import DROP_CAUSES, MASKS, Config
 
 if TYPE_CHECKING:
@@ -41,8 +42,9 @@ def _no(view: View, cause: str) -> ParseError:
 
 def _steps(view: View) -> None:
     assert view.plan is not None
-    counts = np.bincount(view.records.kind, minlength=32)
-    least = int(counts[[OK, REFUSED, FINISH, PASS, *range(DELIVER, DELIVER_ACK + 1), EXPIRE]].sum())
+    records = view.records
+    least = sum(len(records.at(*kinds)) for kinds in ((OK, REFUSED), (FINISH,), (PASS,), (EXPIRE,),
+                                                      (DELIVER, DELIVER_ACK)))
     if least > view.plan.steps:
         raise _no(view, f"its lines need {least} steps, but the scenario has `steps {view.plan.steps}`")
 
@@ -51,18 +53,22 @@ def _budget(view: View) -> None:
     """Checks the packets in flight, which the rows count in order; one that the budget drops is created
     first."""
     assert view.plan is not None
-    kind = view.records.kind
-    change = ((kind >= MAKE_COMMAND) & (kind <= MAKE_ACK)).astype(np.int8) - (
-        (kind >= DELIVER) & (kind <= DROP_ACK)).astype(np.int8)
+    records, budget = view.records, view.plan.budget
+    makes, ends = records.at(MAKE_COMMAND, MAKE_ACK), records.at(DELIVER, DROP_ACK)
+    drops = records.at(DROP, DROP_ACK)
+    drops = drops[records.rows["code"][drops] == _BUDGET - DROPPED + 1]
+    # If each packet follows the end of the one `budget` places before it, no more are in flight at once.
+    if not len(drops) and len(ends) >= len(makes) - budget and bool(
+            (ends[:max(0, len(makes) - budget)] < makes[budget:]).all()):
+        return
+    change = np.zeros(len(records), dtype=np.int32)
+    change[makes], change[ends] = 1, -1
     flying = np.cumsum(change, dtype=np.int32)
-    drops = view.records.at(DROP, DROP_ACK)
-    drops = drops[view.records.rows["code"][drops] == _BUDGET - DROPPED + 1]
     most = int(flying.max(initial=0)) - (len(drops) > 0)
-    if most > view.plan.budget:
-        raise _no(view,
-                  f"{most} packets are in flight at once, but the scenario has `budget {view.plan.budget}`")
-    if len(drops) and int(flying[drops].min()) < view.plan.budget:
-        raise _no(view, f"packets are dropped for the budget, with fewer than {view.plan.budget} in flight")
+    if most > budget:
+        raise _no(view, f"{most} packets are in flight at once, but the scenario has `budget {budget}`")
+    if len(drops) and int(flying[drops].min()) < budget:
+        raise _no(view, f"packets are dropped for the budget, with fewer than {budget} in flight")
 
 
 def _senders(view: View) -> None:
@@ -91,16 +97,17 @@ def _senders(view: View) -> None:
 def _links(view: View) -> None:
     """Checks the service of packets that found an idle instance, and the delays, of pipes whose rate or delay
     never changes."""
-    visits, pipes = view.visits, view.visits.pipe // 256
+    visits = view.visits
     for pipe, changes in view.changes.items():
         configs = [change.config for change in changes if change.config is not None]
-        own = np.flatnonzero((pipes == pipe) & (visits.finish >= 0))
+        own = visits.of_pipe(pipe)
+        own = kept(own, visits.finish[own] >= 0)
         if not configs or not len(own):
             continue
         if len({config.bw for config in configs}) == 1:
             _rate(view, own, configs[0])
         if len({config.delay for config in configs}) == 1:
-            left = own[visits.exit[own] >= 0]
+            left = kept(own, visits.exit[own] >= 0)
             expected = visits.finish[left] + max(configs[0].delay, 1)
             _refuse_time(view, left, visits.exit[left], expected, "leaves its pipe",
                          f"line {configs[0].line}: {configs[0].words('delay')}")
@@ -108,13 +115,19 @@ def _links(view: View) -> None:
 
 def _rate(view: View, own: Ints, config: Config) -> None:
     visits = view.visits
-    own = own[np.lexsort((visits.finish[own], visits.pipe[own]))]
-    before = np.concatenate((np.full(1, -1, dtype=np.int64), visits.finish[own[:-1]]))
-    before[np.flatnonzero(np.diff(visits.pipe[own])) + 1] = -1
-    idle = own[visits.arrival[own] > before]
+    finish, pipe = visits.finish[own], visits.pipe[own]
+    # Visits are mostly in the order of their service.
+    if not (bool((finish[1:] >= finish[:-1]).all()) and bool((pipe == pipe[0]).all())):
+        order = np.lexsort((finish, pipe))
+        own, finish, pipe = own[order], finish[order], pipe[order]
+    before = np.concatenate((np.full(1, -1, dtype=np.int64), finish[:-1]))
+    before[np.flatnonzero(pipe[1:] != pipe[:-1]) + 1] = -1
+    arrival = visits.arrival[own]
+    is_idle = np.flatnonzero(arrival > before)
+    idle = own[is_idle]
     bits = view.packets.size[visits.packet[idle]] * 8 * 10**9
-    expected = visits.arrival[idle] + (-(-bits // config.bw) if config.bw else 0)
-    _refuse_time(view, idle, visits.finish[idle], expected, "finishes",
+    expected = arrival[is_idle] + (-(-bits // config.bw) if config.bw else 0)
+    _refuse_time(view, idle, finish[is_idle], expected, "finishes",
                  f"line {config.line}: {config.words('bw')}")
 
 
@@ -131,9 +144,9 @@ def _losses(view: View) -> None:
     """Checks the losses of a pipe against its `plr`, if that never changes."""
     shares = {pipe: {change.config.plr for change in changes if change.config is not None}
               for pipe, changes in view.changes.items()}
-    pipes, served = view.visits.pipe // 256, view.visits.finish >= 0
+    visits = view.visits
     for pipe, share in shares.items():
-        if share == {10**6} and (served & (pipes == pipe)).any():
+        if share == {10**6} and (visits.finish[visits.of_pipe(pipe)] >= 0).any():
             raise _no(view, f"pipe {pipe} served packets, but the scenario has `plr 1`")
     configs = [change.config for changes in view.changes.values()
                for change in changes if change.config is not None]
@@ -147,7 +160,7 @@ def _losses(view: View) -> None:
         return
     plr = shares[lossy[0]].pop() / 10**6
     lost = int(np.count_nonzero(view.packets.outcome == _LOST))
-    fates = view.packets.outcome[view.visits.packet[pipes == lossy[0]]]
+    fates = view.packets.outcome[visits.packet[visits.of_pipe(lossy[0])]]
     # Whether a full queue or a loss comes first isn't known here.
     came = len(fates)
     least = came - int(np.count_nonzero(np.isin(fates, (_FULL, _CODEL))))
@@ -174,11 +187,10 @@ def _chance(lost: int, came: int, share: float) -> float:
 def _thresholds(view: View) -> None:
     """Checks that the first `ack` line of a flow has its initial threshold."""
     records = view.records
-    rows = records.at(ACK, EXPIRE)
-    flows = records.rows["source"][rows]
+    rows, flows = records.at(ACK, EXPIRE), records.windows["source"]
     for name, (_, sends) in view.sends.items():
-        own = rows[flows == sends.number] if sends.word == "flow" else rows[:0]
-        row = int(own[0]) if len(own) else -1
+        own = np.flatnonzero(flows == sends.number)[:1] if sends.word == "flow" else rows[:0]
+        row = int(rows[own[0]]) if len(own) else -1
         if row >= 0 and records.kind[row] == ACK and int(records.rows["more"][row]) != sends.ssthresh:
             raise records.refused(row,
                                   f"{name} has ssthresh {int(records.rows['more'][row])}, but the scenario "
@@ -188,54 +200,63 @@ def _thresholds(view: View) -> None:
 def _ways(view: View) -> None:
     """Checks where each packet went first, by the rules at its time."""
     headers, which = view.headers
-    epochs = view.epochs
-    settled = commands.is_settled(view, epochs, which) & (view.packets.outcome != _BUDGET)
-    at = np.searchsorted(np.array([epoch.moment for epoch in epochs]), view.packets.made, "right") - 1
+    made = view.packets.made
+    falls = np.flatnonzero(made[1:] < made[:-1])
+    if len(falls):
+        raise view.records.refused(int(view.packets.row[falls[0] + 1]),
+                                   f"time {made[falls[0] + 1]} after {made[falls[0]]}")
+    known = (which >= 0) & (view.packets.outcome != _BUDGET)
     # The first pipe of each packet, 0 if no line has it.
-    first = np.zeros(len(view.packets), dtype=np.int64)
-    first[view.visits.packet[::-1]] = view.visits.pipe[::-1] // 256
-    for place, epoch in enumerate(epochs):
-        own = np.flatnonzero(settled & (at == place))
-        if not len(own):
-            continue
-        ends = commands.search(epoch, headers)[0][which[own]]
-        fate, pipe = view.packets.outcome[own], first[own]
-        wrong = (ends == commands.DENIED) & (fate != _DENIED) & (fate != HELD)
-        wrong |= (ends == commands.ALLOWED) & ((pipe > 0) | (fate == _DENIED))
-        wrong |= (ends > 0) & (pipe > 0) & (pipe != ends)
-        _refuse_way(view, own, wrong, ends)
+    first = np.zeros(len(view.packets), dtype=np.int32)
+    first[view.visits.packet[::-1]] = view.visits.pipe[::-1] >> 8
+    moments = [epoch.moment for epoch in view.epochs]
+    begins, ends = np.searchsorted(made, moments).tolist(), np.searchsorted(made, moments, "right").tolist()
+    for epoch, begin, until, end in zip(view.epochs, begins, ends, [*begins[1:], len(made)]):
+        # Only emissions certainly follow the other commands of their time.
+        if until > begin:
+            known[begin:until] &= commands.are_emissions(view, slice(begin, until))
+        _check_ways(view, epoch, first, which, known, headers, slice(begin, end))
 
 
-def _refuse_way(view: View, own: Ints, wrong: Flags, ends: Ints) -> None:
+def _check_ways(view: View, epoch: commands.Epoch, first: Ints32, which: Ints32, known: Flags, headers: Ints,
+                own: slice) -> None:
+    if own.start == own.stop or not len(headers):
+        return
+    ends = commands.search(epoch, headers)[0]
+    # Whoever goes first to the pipe of the rules is right.
+    pipes = np.where(ends > 0, ends, -1).astype(np.int32)
+    others = np.flatnonzero(known[own] & (first[own] != pipes[which[own]])) + own.start
+    ends, fate, pipe = ends[which[others]], view.packets.outcome[others], first[others]
+    wrong = (ends == commands.DENIED) & (fate != _DENIED) & (fate != HELD)
+    wrong |= (ends == commands.ALLOWED) & ((pipe > 0) | (fate == _DENIED))
+    wrong |= (ends > 0) & (pipe > 0)
     if wrong.any():
         place = int(np.flatnonzero(wrong)[0])
         said = {commands.DENIED: "deny it",
                 commands.ALLOWED: "allow it at once"}.get(int(ends[place]),
                                                           f"send it to pipe {ends[place]} first")
+        sender = view.packets.names[view.packets.who[others[place]]]
         raise _no(view,
-                  f"packet {own[place]} of {view.packets.names[view.packets.who[own[place]]]} did not go "
-                  f"where the rules send it, which {said}")
+                  f"packet {others[place]} of {sender} did not go where the rules send it, which {said}")
 
 
 def _instances(view: View) -> None:
     """Checks which instance each packet entered, by the mask of its pipe, if that never changes."""
     headers, which = view.headers
-    known = which[view.visits.packet] >= 0
+    visits = view.visits
     for pipe, changes in view.changes.items():
         masks = {change.config.mask if change.config else None for change in changes}
-        if masks == {""} and not (view.visits.pipe % 256).any():
+        count = sum(instance >> 8 == pipe for instance, _ in visits.instances)
+        if len(masks) != 1 or None in masks or not count or masks == {""} and count == 1:
             continue
-        own = np.flatnonzero(known & (view.visits.pipe // 256 == pipe))
-        if len(masks) != 1 or None in masks or not len(own):
-            continue
-        bits = _bits(str(masks.pop()))
-        _, key = distinct(headers & bits)
-        pairs = np.flatnonzero(np.bincount(key[which[view.visits.packet[own]]] << 8
-                                           | view.visits.pipe[own] % 256))
+        own = visits.of_pipe(pipe)
+        own = kept(own, which[visits.packet[own]] >= 0)
+        _, key = distinct(*keys_of(headers & _bits(str(masks.pop()))))
+        pairs = np.flatnonzero(np.bincount(key[which[visits.packet[own]]] << 8 | visits.pipe[own] % 256))
         if len(np.unique(pairs >> 8)) != len(pairs) or len(np.unique(pairs & 255)) != len(pairs):
             raise _no(view,
                       f"packets are in other instances of pipe {pipe} than its mask selects, as "
-                      f"{instance_name(int(view.visits.pipe[own[0]]))}")
+                      f"{instance_name(int(visits.pipe[own[0]]))}")
 
 
 def _bits(mask: str) -> Ints:

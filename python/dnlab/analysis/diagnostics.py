@@ -10,7 +10,7 @@ import numpy as np
 from dnlab.analysis.commands import unmet
 from dnlab.analysis.packets import OUTCOMES
 from dnlab.errors import Note
-from dnlab.io.rows import ACK, ACKNOWLEDGES, EXPIRE, MAKE_COMMAND, REFUSED, UNKNOWN_SOURCE, instance_name
+from dnlab.io.rows import ACKNOWLEDGES, MAKE_COMMAND, REFUSED, UNKNOWN_SOURCE, instance_name
 from dnlab.io.scenario_parts import DEFAULTS, Change, Config, Sends, first_window, stretches_of
 
 if TYPE_CHECKING:
@@ -121,7 +121,9 @@ def _outages(pipe: int, stretch: Sequence[Change], largest: int) -> Iterator[Not
 def _half_duplex(view: View) -> Iterator[Note]:
     who, names = view.packets.who, view.packets.names
     both: list[tuple[int, int]] = []
-    for pipe, visits in view.visits.pipes():
+    for pipe, visits in view.visits.instances:
+        if view.backs[pipe].all() or not view.backs[pipe].any():
+            continue
         here = {names[one]
                 for one in np.flatnonzero(np.bincount(who[view.visits.packet[visits]], minlength=len(names)))}
         both += [(int(name.split()[1]), pipe)
@@ -136,21 +138,23 @@ def _half_duplex(view: View) -> Iterator[Note]:
 
 
 def _window_limited(view: View) -> Iterator[Note]:
-    records = view.records
-    rows = records.at(ACK, EXPIRE)
-    flows, moment, window = (records.take(column, rows) for column in ("source", "moment", "number"))
+    flows, moment, window = (view.records.windows[name] for name in ("source", "moment", "number"))
     packets = dict(view.senders)
     for name, (begin, sends) in view.sends.items():
         if sends.word != "flow" or name not in packets:
             continue
         own = np.flatnonzero(flows == sends.number)
+        cwnd = np.concatenate((np.array([first_window(sends.smss)]), window[own]))
+        # In whole segments.
+        over = cwnd >= (sends.window // sends.smss + 1) * sends.smss
+        if not over.any():
+            continue
         sent = packets[name][~view.packets.retransmission[packets[name]]]
         until = (int(view.packets.made[sent].max()) if len(sent) == sends.count or not len(own)
                  else int(moment[own[-1]]))
         moments = np.concatenate((np.array([begin]), moment[own], np.array([until])))
-        cwnd = np.concatenate((np.array([first_window(sends.smss)]), window[own]))
         times = np.maximum(np.minimum(moments[1:], until) - moments[:-1], 0)
-        held = int(times[cwnd // sends.smss > sends.window // sends.smss].sum())
+        held = int(times[over].sum())
         if 100 * held >= until - begin > 0:
             share, more = 100 * held // (
                 until - begin), ": a longer queue gives it nothing more" if 2 * held > until - begin else ""

@@ -22,7 +22,7 @@ _TIMES = 3
 def labelled(view: View) -> list[tuple[str, Ints]]:
     """Returns the pipes to show, with the visits to each: `pipe 1`, or `pipe 1.3` if it has several
     instances. Pipes that carry only acknowledgements are shown only if their senders are."""
-    pipes = view.visits.pipes()
+    pipes = view.visits.instances
     instances = Counter(pipe // 256 for pipe, _ in pipes)
     is_ack = view.packets.kind[view.visits.packet] == ACKNOWLEDGES
     has_acks = not view.senders or any(name.endswith(" acks") for name, _ in view.senders)

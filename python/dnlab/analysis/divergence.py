@@ -163,7 +163,7 @@ class Parting:
         `waiting + in the delay line`; `-` if the report doesn't have the number of waiting packets."""
         names: dict[int, list[str]] = {}
         for place, told in enumerate(self.told):
-            for pipe, own in told.view.visits.pipes():
+            for pipe, own in told.view.visits.instances:
                 names.setdefault(pipe,
                                  ["0+0"] * 4)[2 * place:2 * place + 2] = _held(told.view, own, self.moment)
         return [(instance_name(pipe), names[pipe]) for pipe in sorted(names)]

@@ -35,12 +35,18 @@ class Span(NamedTuple):
         >>> Span(2, 5).has(np.array([-1, 1, 2, 4, 5])).tolist()
         [False, False, True, True, False]
         """
-        found: Flags = moments == moments if self.is_whole() else moments >= self.begin
+        import numpy as np
+
+        if self.is_whole():
+            return np.ones(len(moments), dtype=np.bool_)
+        found: Flags = moments >= self.begin
         return found if self.end is None else found & (moments < self.end)
 
     def is_over(self, moments: "Ints") -> "Flags":
         """Returns which times (ns, shape (n,)) are after it."""
-        found: Flags = moments != moments if self.end is None else moments >= self.end
+        import numpy as np
+
+        found: Flags = np.zeros(len(moments), dtype=np.bool_) if self.end is None else moments >= self.end
         return found
 
     def words(self) -> str:

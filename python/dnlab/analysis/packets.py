@@ -7,7 +7,7 @@ import numpy as np
 
 from dnlab.io.rows import (ACKNOWLEDGES, ARRIVE, DATA, DELIVER, DELIVER_ACK, DROP, DROP_ACK, FINISH, KINDS,
                            LOAD_OF, MAKE_ACK, MAKE_COMMAND, MAKE_TRAIN, PASS, PLAIN, UNKNOWN_SOURCE, AnyInts,
-                           Bytes, Flags, Ints, Ints8, Ints32, Records, Rows, header_text, headers_at)
+                           Bytes, Flags, Ints, Ints8, Ints32, Records, Rows, header_text, headers_in)
 from dnlab.io.scenario_parts import INJECTED, DROP_CAUSES as CAUSES
 
 HELD, DELIVERED, DROPPED = 0, 1, 2
@@ -38,7 +38,8 @@ class Packets:
     kind    int8   of the load, an index in `dnlab.io.rows.KINDS`
     flow    int32  of its load
     number  int64  of its load: the first byte, or the acknowledged number
-    row     int64  the row that creates it"""
+    row     int64  the row that creates it
+    header  int32  for packets that are neither of a flow nor of a train, an index in `headers`; else -1"""
     names: list[str]
     made: Ints
     ended: Ints
@@ -49,6 +50,8 @@ class Packets:
     flow: Ints32
     number: Ints
     row: Ints
+    header: Ints32
+    headers: Ints
 
     def __len__(self) -> int:
         return len(self.made)
@@ -81,17 +84,30 @@ class Packets:
 
     def _first_of_each(self, rows: Ints) -> Ints:
         """Returns the first transmission of each segment among some packets."""
-        key = (self.flow[rows].astype(np.int64) << 40) | self.number[rows]
-        if len(key) < 2 or bool((key[1:] > key[:-1]).all()):
+        flow = self.flow[rows]
+        order = _order(flow)
+        rows, key = rows[order], (flow[order].astype(np.int64) << 40) | self.number[rows[order]]
+        if not len(key):
             return rows
-        _, first = np.unique(key, return_index=True)
-        return rows[first]
+        # A number above all before it is new. The others, which are few, are mostly of such a segment.
+        most = np.maximum.accumulate(key)
+        is_first = np.append(True, key[1:] > most[:-1])
+        known, others = key[is_first], key[~is_first]
+        if not bool((known[np.minimum(np.searchsorted(known, others), len(known) - 1)] == others).all()):
+            _, is_first = np.unique(key, return_index=True)
+        found: Ints = rows[is_first]
+        return found
 
     def senders(self) -> list[tuple[str, Ints]]:
         """Returns the senders, in the order of the first packet, with the packets of each."""
         parts = sorted(_parts(self.who), key=lambda part: int(part[0]))
         return [(self.names[self.who[part[0]]] if self.who[part[0]] >= 0 else UNKNOWN, part)
                 for part in parts]
+
+
+def kept(values: Ints, mask: Flags) -> Ints:
+    """Returns the values that a mask has; without a copy if it has all."""
+    return values if mask.all() else values[mask]
 
 
 def _order(values: AnyInts) -> Ints:
@@ -131,9 +147,15 @@ class Visits:
     def __len__(self) -> int:
         return len(self.packet)
 
-    def pipes(self) -> list[tuple[int, Ints]]:
+    @cached_property
+    def instances(self) -> list[tuple[int, Ints]]:
         """Returns the instances by number, with the visits to each."""
         return [(int(self.pipe[part[0]]), part) for part in _parts(self.pipe)]
+
+    def of_pipe(self, pipe: int) -> Ints:
+        """Returns the visits to all instances of a pipe."""
+        parts = [part for instance, part in self.instances if instance >> 8 == pipe]
+        return parts[0] if len(parts) == 1 else np.sort(np.concatenate([np.zeros(0, dtype=np.int64), *parts]))
 
 
 def packets_of(records: Records, given: Mapping[str, str] = {}) -> Packets:
@@ -156,8 +178,9 @@ def packets_of(records: Records, given: Mapping[str, str] = {}) -> Packets:
     packet: Any = slice(None) if len(makes) == count else own["packet"]
     made[packet], size[packet], row[packet] = own["moment"], own["size"], makes
     _load(own, packet, kind, flow, number)
-    names, who = _senders(own, kind, flow, given)
-    return Packets(names, made, ended, fate, size, who, kind, flow, number, row)
+    header = np.full(count, -1, dtype=np.int32)
+    names, who, headers = _senders(own, kind, flow, header, given)
+    return Packets(names, made, ended, fate, size, who, kind, flow, number, row, header, headers)
 
 
 def _load(own: Rows, packet: Any, kind: Ints8, flow: Ints32, number: Ints) -> None:
@@ -169,10 +192,10 @@ def _load(own: Rows, packet: Any, kind: Ints8, flow: Ints32, number: Ints) -> No
         number[packet] = np.where(loads == PLAIN, -1, own["number"])
 
 
-def _senders(made: Rows, kind: Ints8, flow: Ints32,
-             names: Mapping[str, str]) -> tuple[list[str], Ints32]:
-    """Returns the names of the senders, and the index of each packet's, by the rows that create packets; -1
-    if it is unknown."""
+def _senders(made: Rows, kind: Ints8, flow: Ints32, header: Ints32,
+             names: Mapping[str, str]) -> tuple[list[str], Ints32, Ints]:
+    """Returns the names of the senders, the index of each packet's (-1 if it is unknown), and the headers of
+    packets that are neither of a flow nor of a train, by the rows that create packets; sets `header`."""
     # A flow's number and direction; below 0 a train's number; else the place of a name.
     key = np.where(kind > PLAIN, flow.astype(np.int64) * 4 + kind, -1)
     plain = np.flatnonzero(made["kind"] <= MAKE_TRAIN)
@@ -180,19 +203,22 @@ def _senders(made: Rows, kind: Ints8, flow: Ints32,
     is_train = made["kind"][plain] == MAKE_TRAIN
     key[packet[is_train]] = source[is_train] * 4 + ACKNOWLEDGES + 1
     found: dict[str, int] = {}
+    every = np.zeros((0, 5), dtype=np.int64)
     for others in (~is_train & (source != UNKNOWN_SOURCE), ~is_train & (source == UNKNOWN_SOURCE)):
         if others.any():
-            headers, which = distinct(headers_at(made, plain[others]))
+            headers, which = headers_in(made, plain[others])
             is_injected = bool(source[others][0] != UNKNOWN_SOURCE)
             codes = [found.setdefault(sender_name(tuple(one), is_injected, names), len(found))
                      for one in headers.tolist()]
             key[packet[others]] = np.array(codes, dtype=np.int64)[which] * 4 + PLAIN
+            header[packet[others]] = which + len(every)
+            every = np.concatenate((every, headers))
     lonely = (kind == PLAIN) & (key < 0)
     if lonely.any():
         key[lonely] = found.setdefault(KINDS[PLAIN], len(found)) * 4 + PLAIN
     given = list(found)
     keys, who = _codes(key)
-    return [_name(one, given) for one in keys], who
+    return [_name(one, given) for one in keys], who, every
 
 
 def _codes(key: Ints) -> tuple[list[int], Ints32]:
@@ -215,24 +241,6 @@ def _name(key: int, given: list[str]) -> str:
     return (given[number] if kind == PLAIN else f"flow {number}" if kind == DATA else f"flow {number} acks"
             if kind == ACKNOWLEDGES
             else f"train {number}")
-
-
-def distinct(headers: Ints) -> tuple[Ints, Ints]:
-    """Returns headers (protocol, source, its port, target, its port), each once, in the order of the first,
-    and the index of each; shapes (h, 5) and (n,).
-
-    >>> distinct(np.array([[6, 1, 2, 3, 4], [17, 1, 2, 3, 4], [6, 1, 2, 3, 4]]))[1].tolist()
-    [0, 1, 0]
-    """
-    begin = (headers[:, 1] << 16 | headers[:, 2]) << 8 | headers[:, 0]
-    end = headers[:, 3] << 16 | headers[:, 4]
-    if len(headers) and (begin == begin[0]).all() and (end == end[0]).all():
-        return headers[:1], np.zeros(len(headers), dtype=np.int64)
-    _, source = np.unique(begin, return_inverse=True)
-    _, target = np.unique(end, return_inverse=True)
-    _, first, which = np.unique(source * (len(headers) + 1) + target, return_index=True, return_inverse=True)
-    order = np.argsort(first)
-    return headers[first[order]], np.argsort(order)[which]
 
 
 def visits_of(records: Records, packets: Packets) -> Visits:

@@ -7,10 +7,11 @@ import numpy as np
 import pandas as pd
 
 from dnlab.analysis.diagnostics import Refusal
+from dnlab.analysis.intervals import dropping_pipes, losses, windows_of
 from dnlab.analysis.metrics import PERCENTILES, columns_of, span_of
 from dnlab.analysis.packets import DROPPED, OUTCOMES, UNKNOWN, Packets
 from dnlab.analysis.quantities import Percentile, interval as interval_of
-from dnlab.analysis.tables import Tables, dropping_pipes, losses, windows_of
+from dnlab.analysis.tables import Tables
 from dnlab.analysis.view import Ended, Note, View
 from dnlab.io.rows import (ACK, ARRIVE, DROP, DROP_ACK, EXPIRE, IDENTIFY, KINDS, LOAD_OF, MAKE_ACK,
                            MAKE_COMMAND, PASS, PLAIN, REFUSED, RULE, WORD_OF, WORDS, Counters, instance_name)

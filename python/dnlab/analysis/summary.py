@@ -2,11 +2,12 @@
 from functools import partial
 from typing import Callable, Iterable, Iterator, NamedTuple, Optional, Sequence, TypeVar
 
+from dnlab.analysis.intervals import losses, windows_of
 from dnlab.analysis.metrics import PERCENTILES, Row, Span, is_named
 from dnlab.analysis.names import varied
 from dnlab.analysis.quantities import Percentile, interval
 from dnlab.analysis.reports import Inputs, lacking, map_experiments
-from dnlab.analysis.tables import Tables, losses, windows_of
+from dnlab.analysis.tables import Tables
 from dnlab.analysis.view import KINDS, Note, View
 from dnlab.io.files import check_beside
 from dnlab.io.scenario_parts import Plan

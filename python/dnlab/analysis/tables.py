@@ -3,92 +3,17 @@
 Unknown values are None. Times are nanoseconds, rates bits per second, rounded down.
 """
 from dataclasses import dataclass
-from typing import Optional, Sequence
+from typing import Any, Optional, Sequence
 
 import numpy as np
 
 from dnlab.analysis.diagnostics import codes_of
 from dnlab.analysis.metrics import PERCENTILES, WHOLE, Row, Span, columns_of, times_of
-from dnlab.analysis.packets import DELIVERED, DROPPED, HELD
+from dnlab.analysis.packets import DELIVERED, DROPPED, HELD, kept
 from dnlab.analysis.quantities import Percentile, jain, place
 from dnlab.analysis.view import View, flows_of
-from dnlab.errors import InputError
-from dnlab.io.rows import DATA, PLAIN, Ints, instance_name
+from dnlab.io.rows import DATA, PLAIN, Flags, Ints, instance_name
 from dnlab.io.scenario_parts import DROP_CAUSES, HEADER
-
-# The maximum number of rows per experiment in a table of intervals.
-_MOST_WINDOWS = 10**6
-
-
-def windows_of(view: View, every: int) -> list[Row]:
-    """Returns each sender's deliveries in intervals of `every` ns, from 0 on; the last one ends with the
-    experiment.
-
-    Columns: experiment, sender, begin, end (ns), packets and bytes delivered, rate (bit/s), useful bytes
-    (each once) and goodput (bit/s). Raises `InputError` for too many rows."""
-    table = view.packets
-    until = max(view.ended.moment, 1)
-    count = -(-until // every)
-    if count * len(view.senders) > _MOST_WINDOWS:
-        raise InputError(
-            f"experiment {view.name}: {count} intervals of {every} ns for each of {len(view.senders)} "
-            f"senders are more than {_MOST_WINDOWS} rows: choose a longer interval")
-    begins = np.arange(count, dtype=np.int64) * every
-    ends = np.minimum(begins + every, until)
-    rows: list[Row] = []
-    for name, packets in view.senders:
-        delivered = packets[table.outcome[packets] == DELIVERED]
-        at = np.minimum(table.ended[delivered] // every, count - 1)
-        packets_in = np.bincount(at, minlength=count)
-        told = not len(delivered) or int(table.size[delivered].min()) >= 0
-        bytes_in = _sums(at, table.size[delivered], count)
-        useful_in, is_known = bytes_in, told and not view.is_injected[packets].any()
-        if told and int(table.kind[packets[0]]) != PLAIN:
-            once = delivered[table.is_new[delivered]]
-            useful_in = _sums(np.minimum(table.ended[once] // every, count - 1), table.size[once] - HEADER,
-                              count)
-        for k in range(count):
-            time = int(ends[k] - begins[k])
-            rows.append({"experiment": view.name, "sender": name, "begin": int(begins[k]),
-                         "end": int(ends[k]),
-                         "packets": int(packets_in[k]), "bytes": int(bytes_in[k]) if told else None,
-                         "rate": int(bytes_in[k]) * 8 * 10**9 // time if told else None,
-                         "useful": int(useful_in[k]) if is_known else None,
-                         "goodput": int(useful_in[k]) * 8 * 10**9 // time if is_known else None})
-    return rows
-
-
-def _sums(at: Ints, values: Ints, count: int) -> Ints:
-    """Returns sums of values by index. They stay below 2^53, so sums of floats are exact."""
-    return np.bincount(at, weights=values, minlength=count).astype(np.int64)
-
-
-def losses(view: View) -> list[Row]:
-    """Returns drops by sender, cause and pipe (None if no line has it): experiment, sender, cause, pipe,
-    packets."""
-    table = view.packets
-    rows: list[Row] = []
-    for name, packets in view.senders:
-        dropped = packets[table.outcome[packets] >= DROPPED]
-        pipe = dropping_pipes(view, dropped)
-        for cause, code in enumerate(range(DROPPED, DROPPED + len(DROP_CAUSES))):
-            own = pipe[table.outcome[dropped] == code]
-            for value, count in zip(*np.unique(own, return_counts=True)):
-                rows.append({"experiment": view.name, "sender": name, "cause": DROP_CAUSES[cause],
-                             "queue": instance_name(int(value)) if value >= 0 else None,
-                             "packets": int(count)})
-    return rows
-
-
-def dropping_pipes(view: View, packets: Ints) -> Ints:
-    """Returns the pipes that dropped packets, which are those where they waited, by their last visits; -1 if
-    no line has it."""
-    visits = view.visits
-    found = np.full(len(view.packets), -1, dtype=np.int64)
-    found[visits.packet] = np.where((visits.finish < 0) & (visits.exit == view.packets.ended[visits.packet]),
-                                    visits.pipe, -1)
-    return found[packets]
-
 
 def spread(times: Optional[Ints], percentiles: Sequence[Percentile], with_mean: bool = False) -> Row:
     """Returns minimum, percentiles by nearest rank, and maximum, optionally with the mean; None if there are
@@ -98,14 +23,18 @@ def spread(times: Optional[Ints], percentiles: Sequence[Percentile], with_mean: 
     {'min': 10, 'p50': 26, 'p99': 30, 'max': 30, 'mean': 22.0}
     """
     names = times_of(percentiles)
-    if times is None or not len(times) or int(times.min()) < 0:
+    least = int(times.min()) if times is not None and len(times) else -1
+    if times is None or least < 0:
         return dict.fromkeys((*names, "mean") if with_mean else names)
-    places = [0, *(place(len(times), one) for one in percentiles), len(times) - 1]
-    ordered = np.partition(times, sorted(set(places)))
-    found: Row = {name: int(ordered[at]) for name, at in zip(names, places)}
+    greatest = int(times.max())
+    places = [place(len(times), one) for one in percentiles]
+    ordered = np.partition(times, sorted(set(places))) if places else times
+    found: Row = dict(zip(names, (least, *(int(ordered[at]) for at in places), greatest)))
     if with_mean:
-        # Summed in two halves, so that no sum exceeds 64 bits.
-        found["mean"] = ((int((times >> 20).sum()) << 20) + int((times & 0xFFFFF).sum())) / len(times)
+        # If need be summed in two halves, so that no sum exceeds 64 bits.
+        total = (int(times.sum()) if greatest * len(times) < 2**63
+                 else (int((times >> 20).sum()) << 20) + int((times & 0xFFFFF).sum()))
+        found["mean"] = total / len(times)
     return found
 
 
@@ -125,7 +54,7 @@ def jitter(times: Ints) -> Optional[float]:
     """
     if len(times) < 2 or int(times.min()) < 0:
         return None
-    steps = np.abs(np.diff(times))[-_HEARD:].astype(np.float64)
+    steps = np.abs(np.diff(times[-_HEARD - 1:])).astype(np.float64)
     return float(np.dot(steps[::-1], (1 - _NEWEST) ** np.arange(len(steps))) * _NEWEST)
 
 
@@ -153,6 +82,32 @@ def sum_of(sizes: Ints) -> Optional[int]:
     return None if len(sizes) and int(sizes.min()) < 0 else int(sizes.sum())
 
 
+class _Set:
+    """The packets of a row, with their columns, and which of them were delivered in a time range."""
+
+    def __init__(self, view: View, packets: Ints, now: Span) -> None:
+        table = view.packets
+        # All packets are in order.
+        own: Any = slice(None) if len(packets) == len(table) else packets
+        self.packets, self.table, self.own = packets, table, own
+        self.fate, self.kind, self.made = table.outcome[own], table.kind[own], table.made[own]
+        self.ended, self.size = table.ended[own], table.size[own]
+        self.came: Flags = (self.fate == DELIVERED) & now.has(self.ended)
+        self.row: Optional[Row] = None
+        self.useful: Optional[Row] = None
+
+    def delays(self) -> Ints:
+        """Returns the one-way delays of the delivered packets, in ns; -1 if unknown."""
+        made = kept(self.made, self.came)
+        return np.where(made >= 0, kept(self.ended, self.came) - made, -1)
+
+    def jitter(self, delays: Ints) -> Optional[float]:
+        """Returns the jitter after the last delivery, by these delays."""
+        ended = kept(self.ended, self.came)
+        is_sorted = bool((ended[1:] >= ended[:-1]).all())
+        return jitter(delays if is_sorted else delays[np.argsort(ended, kind="stable")])
+
+
 @dataclass
 class Tables:
     """Creates the rows of an experiment. `varied` are the settings that differ between experiments, and
@@ -168,13 +123,13 @@ class Tables:
 
     def __post_init__(self) -> None:
         self.span.check(self.view)
-        self._made: list[tuple[Ints, Row]] = []
+        self._sets: list[_Set] = []
 
     def rows(self) -> list[Row]:
         """Returns all rows of the experiment, that of the whole last."""
         view = self.view
         rows = [self.sender(name, packets) for name, packets in view.senders]
-        rows += [row for pipe, visits in view.visits.pipes() for row in self.pipe(pipe, visits)]
+        rows += [row for pipe, visits in view.visits.instances for row in self.pipe(pipe, visits)]
         rows += self.whole()
         own = self.own()
         return [{**dict.fromkeys(columns_of(self.percentiles, self.span)), **row, **own,
@@ -204,37 +159,34 @@ class Tables:
         time = self.until() - self.span.begin
         return {**found, "time": time, "rate": None if size is None else size * 8 * 10**9 // time}
 
-    def arrived(self, packets: Ints) -> Ints:
-        """Returns those packets that were delivered in the span."""
-        table = self.view.packets
-        delivered: Ints = packets[(table.outcome[packets] == DELIVERED) & self.span.has(table.ended[packets])]
-        return delivered
+    def set_of(self, packets: Ints) -> _Set:
+        """Returns the columns of some packets. Those of one direction are often those of its only sender."""
+        known = next((one for one in self._sets if one.packets is packets or len(one.packets) == len(packets)
+                      and bool((one.packets == packets).all())), None)
+        if known is None:
+            known = _Set(self.view, packets, self.span)
+            self._sets.append(known)
+        return known
 
     def packets(self, of: str, packets: Ints) -> Row:
         """Returns a row of packets: bytes, last and rate are of deliveries, first is the creation of the
         first packet."""
-        # The packets of one direction are often those of its only sender.
-        known = next((row for own, row in self._made if len(own) == len(packets)
-                      and bool((own == packets).all())), None)
-        if known is None:
-            known = self._packets(packets)
-            self._made.append((packets, known))
-        return {"sender": of, **known}
+        own = self.set_of(packets)
+        if own.row is None:
+            own.row = self._packets(own)
+        return {"sender": of, **own.row}
 
-    def _packets(self, packets: Ints) -> Row:
-        table = self.view.packets
-        fate, ended = table.outcome[packets], table.ended[packets]
-        delivered, made = self.arrived(packets), packets[self.span.has(table.made[packets])]
-        size = sum_of(table.size[delivered])
-        lost = fate[(fate >= DROPPED) & self.span.has(ended)].astype(np.int64) - DROPPED
+    def _packets(self, own: _Set) -> Row:
+        now = self.span
+        made, size = kept(own.made, now.has(own.made)), sum_of(kept(own.size, own.came))
+        lost = own.fate[(own.fate >= DROPPED) & now.has(own.ended)].astype(np.int64) - DROPPED
         causes = np.bincount(lost, minlength=len(DROP_CAUSES))
-        held = ((fate == HELD) | self.span.is_over(ended)) & ~self.span.is_over(table.made[packets])
-        return {"packets": len(made), "delivered": len(delivered),
+        held = ((own.fate == HELD) | now.is_over(own.ended)) & ~now.is_over(own.made)
+        delays = own.delays()
+        return {"packets": len(made), "delivered": len(delays),
                 "in_flight": int(np.count_nonzero(held)), "bytes": size,
-                **self.over(table.made[made], table.ended[delivered], size),
-                **dict(zip(DROP_CAUSES, causes.tolist())),
-                **spread(table.delay[delivered], self.percentiles, self.with_mean),
-                "jitter": jitter(table.delay[delivered[np.argsort(table.ended[delivered], kind="stable")]])}
+                **self.over(made, kept(own.ended, own.came), size), **dict(zip(DROP_CAUSES, causes.tolist())),
+                **spread(delays, self.percentiles, self.with_mean), "jitter": own.jitter(delays)}
 
     def sender(self, of: str, packets: Ints) -> Row:
         return {**self.packets(of, packets), **self.useful(packets), **self.progress(of, packets)}
@@ -242,32 +194,42 @@ class Tables:
     def useful(self, packets: Ints) -> Row:
         """Returns the bytes that arrived, each once, and their rate: for a flow without headers, for a train
         all packets. For injected packets only their program knows which data was new."""
+        own = self.set_of(packets)
+        if own.useful is None:
+            own.useful = self._useful(own)
+        return own.useful
+
+    def _useful(self, own: _Set) -> Row:
         table = self.view.packets
-        kinds = table.kind[packets]
-        packets = packets[(kinds == DATA) | (kinds == PLAIN)]
-        delivered = self.arrived(packets)
-        if (not len(packets) or self.view.is_injected[packets].any()
-            or (len(delivered) and int(table.size[delivered].min()) < 0)):
+        sends: Flags = (own.kind == DATA) | (own.kind == PLAIN)
+        came = own.came & sends
+        size = kept(own.size, came)
+        if (not sends.any() or self.view.has_injected and self.view.is_injected[own.own][sends].any()
+            or (len(size) and int(size.min()) < 0)):
             return {}
-        once = delivered[table.is_new[delivered]]
-        size = int(table.size[once].sum()) - HEADER * int(np.count_nonzero(table.kind[once] == DATA))
-        return {"useful": size, "goodput": self.over(table.made[packets], table.ended[once], size)["rate"]}
+        once = came & table.is_new[own.own]
+        count = int(np.count_nonzero(once & (own.kind == DATA)))
+        useful = int(kept(own.size, once).sum()) - HEADER * count
+        over = self.over(kept(own.made, sends), kept(own.ended, once), useful)
+        return {"useful": useful, "goodput": over["rate"]}
 
     def progress(self, of: str, packets: Ints) -> Row:
         """Returns for a flow the number of retransmissions, and the time from its command to its last missing
         byte."""
-        table = self.view.packets
-        if int(table.kind[packets[0]]) != DATA or not self.view.is_told:
+        own, table = self.set_of(packets), self.view.packets
+        if int(own.kind[0]) != DATA or not self.view.is_told:
             return {}
-        again = int(np.count_nonzero(table.retransmission[packets] & self.span.has(table.made[packets])))
+        again = int(np.count_nonzero(table.retransmission[own.own] & self.span.has(own.made)))
         moment, sends = self.view.sends.get(of, (0, None))
-        ended = np.sort(table.ended[packets[table.is_new[packets]]])
-        whole = sends is not None and len(ended) == sends.count and bool(self.span.has(ended[-1:]).all())
-        return {"retransmissions": again, "fct": int(ended[-1]) - moment if whole else None}
+        ended = kept(own.ended, table.is_new[own.own])
+        last = int(ended.max(initial=0))
+        is_whole = (sends is not None and len(ended) == sends.count
+                    and bool(self.span.has(np.array([last])).all()))
+        return {"retransmissions": again, "fct": last - moment if is_whole else None}
 
     def pipe(self, pipe: int, visits: Ints) -> list[Row]:
         """Returns the rows of an instance: one, or one for each direction if it had packets of both."""
-        back = self.view.is_back[self.view.visits.packet[visits]]
+        back = self.view.backs[pipe]
         name = f"pipe {instance_name(pipe)}"
         if back.all() or not back.any():
             return [self.visits(name, visits)]
@@ -277,20 +239,20 @@ class Tables:
         """Returns a row of an instance: packets that it served, of which `delivered` have left it.
 
         Which pipe dropped a packet is known from its arrival there, which only traced reports have."""
-        table, packets = self.view.visits, self.view.packets
+        table, packets, now = self.view.visits, self.view.packets, self.span
         finish, left, packet = table.finish[visits], table.exit[visits], table.packet[visits]
-        is_served, now = finish >= 0, self.span
-        served, gone = visits[is_served & now.has(finish)], visits[is_served & (left >= 0) & now.has(left)]
-        size = sum_of(packets.size[table.packet[served]])
+        arrival, is_served = table.arrival[visits], finish >= 0
+        served, gone = is_served & now.has(finish), is_served & (left >= 0) & now.has(left)
+        size = sum_of(packets.size[kept(packet, served)])
         held = is_served & ~now.is_over(finish) & (((left < 0) & (packets.outcome[packet] == HELD))
                                                    | now.is_over(left))
-        arrival = table.arrival[gone]
-        times = np.where(arrival < 0, -1, table.exit[gone] - arrival)
+        came = kept(arrival, gone)
+        times = np.where(came < 0, -1, kept(left, gone) - came)
         lost = packets.outcome[packet[~is_served & (left >= 0) & now.has(left)]].astype(np.int64) - DROPPED
         causes = np.bincount(lost[lost >= 0], minlength=len(DROP_CAUSES)).tolist()
         known = DROP_CAUSES if self.view.is_told else ()
-        known_span = self.over(table.arrival[served], table.finish[served], size)
-        return {"sender": of, "packets": len(served), "delivered": len(gone),
+        known_span = self.over(kept(arrival, served), kept(finish, served), size)
+        return {"sender": of, "packets": int(np.count_nonzero(served)), "delivered": len(times),
                 "in_flight": int(np.count_nonzero(held)),
                 "bytes": size, **known_span, "utilisation": self.utilisation(of, known_span, size),
                 **{cause: count if cause in known else None for cause, count in zip(DROP_CAUSES, causes)},

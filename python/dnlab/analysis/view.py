@@ -104,6 +104,10 @@ class View:
         found: Flags = (self.packets.kind == PLAIN) & names[self.packets.who]
         return found
 
+    @cached_property
+    def has_injected(self) -> bool:
+        return bool(self.is_injected.any())
+
     headers = cached_property(headers_of)
     epochs = cached_property(epochs_of)
 
@@ -120,6 +124,11 @@ class View:
                 and sends.target in sources):
                 back[packets] = True
         return back
+
+    @cached_property
+    def backs(self) -> dict[int, Flags]:
+        """Returns for each instance which of its visits are of packets that go back."""
+        return {pipe: self.is_back[self.visits.packet[own]] for pipe, own in self.visits.instances}
 
     refused = cached_property(refused_of)
 
@@ -154,9 +163,9 @@ def view_of(piece: Piece, plans: Optional[dict[str, Plan]], report: str, scenari
 
 def flows_of(view: View) -> list[tuple[int, Ints]]:
     """Returns the flows whose segments the experiment created, by number, with these packets."""
-    rows = np.flatnonzero(view.packets.kind == DATA)
-    flows = view.packets.flow[rows]
-    return [(int(flow), rows[flows == flow]) for flow in np.unique(flows)]
+    found = [(int(view.packets.flow[packets[0]]), packets) for _, packets in view.senders
+             if view.packets.kind[packets[0]] == DATA]
+    return sorted(found, key=lambda one: one[0])
 
 
 TRANSCRIPT, REPORT = "transcript.txt", "report.txt"

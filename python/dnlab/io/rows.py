@@ -8,7 +8,7 @@ import ast
 import mmap
 import os
 from dataclasses import dataclass, field
-from functools import lru_cache
+from functools import cached_property, lru_cache
 from pathlib import Path
 from typing import IO, Any, Iterable, Optional, Union
 
@@ -179,13 +179,40 @@ def number_of(address: str) -> int:
     return first << 24 | second << 16 | third << 8 | fourth
 
 
-# The columns of a header: protocol (6 or 17), source, its port, target, its port.
 def headers_at(rows: Rows, places: Ints) -> Ints:
     """Returns the headers of the packets that some rows create: protocol (6 or 17), source, its port, target,
     its port; shape (n, 5)."""
     ports = rows["more"][places].astype(np.int64)
     return np.stack([rows["code"][places].astype(np.int64), rows["src"][places].astype(np.int64),
                      ports & 65535, rows["dst"][places].astype(np.int64), ports >> 16], axis=1)
+
+
+def headers_in(rows: Rows, places: Ints) -> tuple[Ints, Ints]:
+    """Returns the headers of the packets that some rows create, each once, in the order of the first, and the
+    index of each; shapes (h, 5) and (n,)."""
+    addresses = rows.view("<i8").reshape(-1, 5)[:, 3][places]
+    first, which = distinct(addresses, rows["more"][places].astype(np.int64) << 8 | rows["code"][places])
+    return headers_at(rows, places[first]), which
+
+
+def keys_of(headers: Ints) -> tuple[Ints, Ints]:
+    """Returns two numbers for each header, which tell headers apart."""
+    return ((headers[:, 1] << 16 | headers[:, 2]) << 8 | headers[:, 0], headers[:, 3] << 16 | headers[:, 4])
+
+
+def distinct(begin: Ints, end: Ints) -> tuple[Ints, Ints]:
+    """Returns the first of each pair of numbers, in order, and for each pair the index of its first.
+
+    >>> distinct(np.array([6, 17, 6]), np.array([1, 1, 1]))[1].tolist()
+    [0, 1, 0]
+    """
+    if len(begin) and (begin == begin[0]).all() and (end == end[0]).all():
+        return np.zeros(1, dtype=np.int64), np.zeros(len(begin), dtype=np.int64)
+    _, source = np.unique(begin, return_inverse=True)
+    _, target = np.unique(end, return_inverse=True)
+    _, first, which = np.unique(source * (len(begin) + 1) + target, return_index=True, return_inverse=True)
+    order = np.argsort(first)
+    return first[order], np.argsort(order)[which]
 
 
 def header_text(header: Iterable[Any]) -> str:
@@ -263,6 +290,11 @@ class Records:
     def commands(self) -> Ints:
         """Returns the rows of commands, executed and refused."""
         return self.at(OK, REFUSED)
+
+    @cached_property
+    def windows(self) -> Rows:
+        """Returns the rows of `ack` and `expire`, as a compact array."""
+        return self.pick(self.at(ACK, EXPIRE))
 
     def last(self) -> int:
         """Returns the time of the last record, ns; 0 if there is none."""

@@ -112,7 +112,7 @@ def _rows(tables: Tables, patterns: Sequence[str]) -> Iterator[Row]:
     if trains and is_asked("trains"):
         together = np.sort(np.concatenate([packets for _, packets in trains]))
         yield {**tables.packets("trains", together), **tables.useful(together)}
-    for pipe, visits in view.visits.pipes():
+    for pipe, visits in view.visits.instances:
         name = f"pipe {instance_name(pipe)}"
         if is_asked(name) or is_asked(f"{name} back"):
             yield from tables.pipe(pipe, visits)
