@@ -11,10 +11,11 @@ from typing import BinaryIO, Iterator, NamedTuple
 import dpkt
 import numpy as np
 
+from dnlab.analysis.packets import headers_in
 from dnlab.analysis.view import View
 from dnlab.errors import InputError
 from dnlab.io.rows import (ACKNOWLEDGES, DATA, DELIVER, DELIVER_ACK, LOAD_OF, MAKE_ACK, MAKE_COMMAND, Flags,
-                           Ints, header_text, headers_in)
+                           Ints, header_text)
 from dnlab.io.scenario_parts import HEADER, WINDOW
 
 _ETHERNET = 14

@@ -8,9 +8,10 @@ from typing import TYPE_CHECKING, NamedTuple, Optional
 
 import numpy as np
 
+from dnlab.analysis.packets import distinct, headers_in, keys_of
 from dnlab.errors import Note
 from dnlab.io.rows import (ACKNOWLEDGES, MAKE_COMMAND, OK, REFUSED, UNKNOWN_SOURCE, Flags, Ints, Ints32,
-                           Records, distinct, header_text, headers_in, keys_of, number_of)
+                           Records, header_text, number_of)
 from dnlab.io.scenario_parts import Command, Plan, Rule, rule_of
 
 if TYPE_CHECKING:

@@ -12,11 +12,10 @@ from typing import TYPE_CHECKING
 import numpy as np
 
 from dnlab.analysis import commands
-from dnlab.analysis.packets import DROPPED, HELD, kept
+from dnlab.analysis.packets import DROPPED, HELD, distinct, kept, keys_of, order_of
 from dnlab.errors import ParseError
-from dnlab.io.rows import (ACK, DELIVER, DELIVER_ACK, DROP, DROP_ACK, EXPIRE, FINISH, MAKE_ACK, MAKE_COMMAND,
-                           OK, PASS, REFUSED, Flags, Ints, Ints32, distinct, header_text, headers_at,
-                           instance_name, keys_of)
+from dnlab.io.rows import (ACK, DELIVER, DELIVER_ACK, DROP_ACK, EXPIRE, FINISH, MAKE_ACK, MAKE_COMMAND,
+                           OK, PASS, REFUSED, Flags, Ints, Ints32, header_text, headers_at, instance_name)
 from dnlab.io.scenario_parts import DROP_CAUSES, MASKS, Config
 
 if TYPE_CHECKING:
@@ -55,8 +54,7 @@ def _budget(view: View) -> None:
     assert view.plan is not None
     records, budget = view.records, view.plan.budget
     makes, ends = records.at(MAKE_COMMAND, MAKE_ACK), records.at(DELIVER, DROP_ACK)
-    drops = records.at(DROP, DROP_ACK)
-    drops = drops[records.rows["code"][drops] == _BUDGET - DROPPED + 1]
+    drops = records.parts["drop"]["row"][records.parts["drop"]["code"] == _BUDGET - DROPPED + 1]
     # If each packet follows the end of the one `budget` places before it, no more are in flight at once.
     if not len(drops) and len(ends) >= len(makes) - budget and bool(
             (ends[:max(0, len(makes) - budget)] < makes[budget:]).all()):
@@ -104,30 +102,28 @@ def _links(view: View) -> None:
         own = kept(own, visits.finish[own] >= 0)
         if not configs or not len(own):
             continue
+        finish, left = visits.finish[own], visits.exit[own]
         if len({config.bw for config in configs}) == 1:
-            _rate(view, own, configs[0])
+            _rate(view, own, finish, configs[0])
         if len({config.delay for config in configs}) == 1:
-            left = kept(own, visits.exit[own] >= 0)
-            expected = visits.finish[left] + max(configs[0].delay, 1)
-            _refuse_time(view, left, visits.exit[left], expected, "leaves its pipe",
+            is_out = left >= 0
+            _refuse_time(view, kept(own, is_out), kept(left, is_out),
+                         kept(finish, is_out) + max(configs[0].delay, 1), "leaves its pipe",
                          f"line {configs[0].line}: {configs[0].words('delay')}")
 
 
-def _rate(view: View, own: Ints, config: Config) -> None:
-    visits = view.visits
-    finish, pipe = visits.finish[own], visits.pipe[own]
-    # Visits are mostly in the order of their service.
-    if not (bool((finish[1:] >= finish[:-1]).all()) and bool((pipe == pipe[0]).all())):
-        order = np.lexsort((finish, pipe))
-        own, finish, pipe = own[order], finish[order], pipe[order]
+def _rate(view: View, own: Ints, finish: Ints, config: Config) -> None:
+    visits, pipe = view.visits, view.visits.pipe[own]
+    order = order_of(finish) if (pipe == pipe[0]).all() else np.lexsort((finish, pipe))
+    own, finish, pipe = own[order], finish[order], pipe[order]
     before = np.concatenate((np.full(1, -1, dtype=np.int64), finish[:-1]))
     before[np.flatnonzero(pipe[1:] != pipe[:-1]) + 1] = -1
     arrival = visits.arrival[own]
-    is_idle = np.flatnonzero(arrival > before)
-    idle = own[is_idle]
-    bits = view.packets.size[visits.packet[idle]] * 8 * 10**9
-    expected = arrival[is_idle] + (-(-bits // config.bw) if config.bw else 0)
-    _refuse_time(view, idle, finish[is_idle], expected, "finishes",
+    is_idle = arrival > before
+    idle, expected = kept(own, is_idle), kept(arrival, is_idle)
+    if config.bw:
+        expected = expected - (view.packets.size[visits.packet[idle]] * -8 * 10**9 // config.bw)
+    _refuse_time(view, idle, kept(finish, is_idle), expected, "finishes",
                  f"line {config.line}: {config.words('bw')}")
 
 
@@ -187,7 +183,7 @@ def _chance(lost: int, came: int, share: float) -> float:
 def _thresholds(view: View) -> None:
     """Checks that the first `ack` line of a flow has its initial threshold."""
     records = view.records
-    rows, flows = records.at(ACK, EXPIRE), records.windows["source"]
+    rows, flows = (records.parts["window"][name] for name in ("row", "source"))
     for name, (_, sends) in view.sends.items():
         own = np.flatnonzero(flows == sends.number)[:1] if sends.word == "flow" else rows[:0]
         row = int(rows[own[0]]) if len(own) else -1

@@ -138,7 +138,7 @@ def _half_duplex(view: View) -> Iterator[Note]:
 
 
 def _window_limited(view: View) -> Iterator[Note]:
-    flows, moment, window = (view.records.windows[name] for name in ("source", "moment", "number"))
+    flows, moment, window = (view.records.parts["window"][name] for name in ("source", "moment", "number"))
     packets = dict(view.senders)
     for name, (begin, sends) in view.sends.items():
         if sends.word != "flow" or name not in packets:

@@ -5,9 +5,9 @@ from typing import Any, Mapping
 
 import numpy as np
 
-from dnlab.io.rows import (ACKNOWLEDGES, ARRIVE, DATA, DELIVER, DELIVER_ACK, DROP, DROP_ACK, FINISH, KINDS,
-                           LOAD_OF, MAKE_ACK, MAKE_COMMAND, MAKE_TRAIN, PASS, PLAIN, UNKNOWN_SOURCE, AnyInts,
-                           Bytes, Flags, Ints, Ints8, Ints32, Records, Rows, header_text, headers_in)
+from dnlab.io.rows import (ACKNOWLEDGES, ARRIVE, DATA, DROP, DROP_ACK, FINISH, KINDS, LOAD_OF, MAKE_TRAIN,
+                           PASS, PLAIN, UNKNOWN_SOURCE, AnyInts, Bytes, Flags, Ints, Ints8, Ints32, Records,
+                           Rows, header_text, headers_at)
 from dnlab.io.scenario_parts import INJECTED, DROP_CAUSES as CAUSES
 
 HELD, DELIVERED, DROPPED = 0, 1, 2
@@ -79,14 +79,13 @@ class Packets:
         delivered = self.outcome == DELIVERED
         rows = np.flatnonzero(delivered & (self.kind == DATA))
         new: Flags = delivered & (self.kind == PLAIN)
-        new[self._first_of_each(rows[_order(self.ended[rows])])] = True
+        new[self._first_of_each(rows[order_of(self.ended[rows])])] = True
         return new
 
     def _first_of_each(self, rows: Ints) -> Ints:
         """Returns the first transmission of each segment among some packets."""
-        flow = self.flow[rows]
-        order = _order(flow)
-        rows, key = rows[order], (flow[order].astype(np.int64) << 40) | self.number[rows[order]]
+        rows = rows[order_of(self.flow[rows])]
+        key = (self.flow[rows].astype(np.int64) << 40) | self.number[rows]
         if not len(key):
             return rows
         # A number above all before it is new. The others, which are few, are mostly of such a segment.
@@ -110,20 +109,29 @@ def kept(values: Ints, mask: Flags) -> Ints:
     return values if mask.all() else values[mask]
 
 
-def _order(values: AnyInts) -> Ints:
-    """Returns a stable order of values; values that are in order need no sort, and those of 16 bits only a
-    fast one."""
+def order_of(values: AnyInts) -> Any:
+    """Returns a stable order of values, as an index: values that are in order need no sort, and those of 16
+    bits only a fast one."""
     if len(values) < 2 or bool((values[1:] >= values[:-1]).all()):
-        return np.arange(len(values))
+        return slice(None)
     is_short = int(values.min()) >= 0 and int(values.max()) < 65536
     return np.argsort(values.astype(np.uint16) if is_short else values, kind="stable")
+
+
+# Up to this many values are looked for one by one; more are sorted.
+_FEW = 16
 
 
 def _parts(values: AnyInts) -> list[Ints]:
     """Returns the places of each value, in the order of the values."""
     if not len(values):
         return []
-    order = _order(values)
+    if 0 <= int(values.min()) and int(values.max()) < 65536:
+        short = values.astype(np.uint16)
+        found = np.flatnonzero(np.bincount(short))
+        if len(found) <= _FEW:
+            return [np.flatnonzero(short == one) for one in found]
+    order = np.arange(len(values))[order_of(values)]
     ordered = values[order]
     return np.split(order, np.flatnonzero(ordered[1:] != ordered[:-1]) + 1)
 
@@ -162,51 +170,52 @@ def packets_of(records: Records, given: Mapping[str, str] = {}) -> Packets:
     """Returns the packets of an experiment, as far as the rows have them; `given` has the user's names for
     sources of injected ones."""
     count = records.counters.made
-    made, ended, size, number, row = (np.full(count, -1, dtype=np.int64) for _ in range(5))
-    fate = np.zeros(count, dtype=np.int8)
-    kind, flow = np.full(count, -1, dtype=np.int8), np.full(count, -1, dtype=np.int32)
-    makes = records.at(MAKE_COMMAND, MAKE_ACK)
-    for low, high in ((DELIVER, DELIVER_ACK), (DROP, DROP_ACK)):
-        ends = records.at(low, high)
-        own = records.pick(ends)
-        ended[own["packet"]] = own["moment"]
-        fate[own["packet"]] = DELIVERED if low == DELIVER else own["code"] + (DROPPED - 1)
-        if len(makes) < count:
-            _load(own, own["packet"], kind, flow, number)
-    own = records.pick(makes)
-    # All packets are in order, unless the report is traced only in part.
-    packet: Any = slice(None) if len(makes) == count else own["packet"]
-    made[packet], size[packet], row[packet] = own["moment"], own["size"], makes
-    _load(own, packet, kind, flow, number)
+    own, came, lost = (records.parts[name] for name in ("make", "deliver", "drop"))
+    ended, fate = np.full(count, -1, dtype=np.int64), np.zeros(count, dtype=np.int8)
+    ended[came["packet"]], fate[came["packet"]] = came["moment"], DELIVERED
+    ended[lost["packet"]], fate[lost["packet"]] = lost["moment"], lost["code"] + (DROPPED - 1)
+    made, size, row, source, number = (own[name] for name in ("moment", "size", "row", "source", "number"))
+    loads = LOAD_OF[records.kind[row]]
+    if len(row) < count:
+        # The report is traced only in part, or not at all.
+        ends = np.concatenate((came["row"], lost["row"], row))
+        packet = records.take("packet", ends)
+        made, size, row = (_scattered(count, own["packet"], values) for values in (made, size, row))
+        loads, source, number = (_scattered(count, packet, values) for values in (
+            LOAD_OF[records.kind[ends]], records.take("source", ends), records.take("number", ends)))
+    kind: Ints8 = loads.astype(np.int8)
+    flow = source.astype(np.int32)
+    if (kind <= PLAIN).any():
+        flow, number = np.where(kind <= PLAIN, np.int32(-1), flow), np.where(kind <= PLAIN, -1, number)
     header = np.full(count, -1, dtype=np.int32)
-    names, who, headers = _senders(own, kind, flow, header, given)
+    names, who, headers = _senders(records, kind, flow, header, given)
     return Packets(names, made, ended, fate, size, who, kind, flow, number, row, header, headers)
 
 
-def _load(own: Rows, packet: Any, kind: Ints8, flow: Ints32, number: Ints) -> None:
-    """Sets the loads of the packets that some rows name."""
-    loads = LOAD_OF[own["kind"]]
-    kind[packet] = loads
-    if (loads != PLAIN).any():
-        flow[packet] = np.where(loads == PLAIN, -1, own["source"].astype(np.int32))
-        number[packet] = np.where(loads == PLAIN, -1, own["number"])
+def _scattered(count: int, places: Ints, values: AnyInts) -> Ints:
+    """Returns values by packet, -1 where there is none."""
+    found = np.full(count, -1, dtype=np.int64)
+    found[places] = values
+    return found
 
 
-def _senders(made: Rows, kind: Ints8, flow: Ints32, header: Ints32,
+def _senders(records: Records, kind: Ints8, flow: Ints32, header: Ints32,
              names: Mapping[str, str]) -> tuple[list[str], Ints32, Ints]:
     """Returns the names of the senders, the index of each packet's (-1 if it is unknown), and the headers of
     packets that are neither of a flow nor of a train, by the rows that create packets; sets `header`."""
     # A flow's number and direction; below 0 a train's number; else the place of a name.
-    key = np.where(kind > PLAIN, flow.astype(np.int64) * 4 + kind, -1)
-    plain = np.flatnonzero(made["kind"] <= MAKE_TRAIN)
-    packet, source = made["packet"][plain], made["source"][plain].astype(np.int64)
-    is_train = made["kind"][plain] == MAKE_TRAIN
+    key = flow.astype(np.int64) * 4 + kind
+    key[kind <= PLAIN] = -1
+    row, packet, source = (records.parts["make"][name] for name in ("row", "packet", "source"))
+    plain = np.flatnonzero(records.kind[row] <= MAKE_TRAIN)
+    row, packet, source = row[plain], packet[plain], source[plain]
+    is_train = records.kind[row] == MAKE_TRAIN
     key[packet[is_train]] = source[is_train] * 4 + ACKNOWLEDGES + 1
     found: dict[str, int] = {}
     every = np.zeros((0, 5), dtype=np.int64)
     for others in (~is_train & (source != UNKNOWN_SOURCE), ~is_train & (source == UNKNOWN_SOURCE)):
         if others.any():
-            headers, which = headers_in(made, plain[others])
+            headers, which = headers_in(records.rows, row[others])
             is_injected = bool(source[others][0] != UNKNOWN_SOURCE)
             codes = [found.setdefault(sender_name(tuple(one), is_injected, names), len(found))
                      for one in headers.tolist()]
@@ -243,31 +252,59 @@ def _name(key: int, given: list[str]) -> str:
             else f"train {number}")
 
 
+def headers_in(rows: Rows, places: Ints) -> tuple[Ints, Ints]:
+    """Returns the headers of the packets that some rows create, each once, in the order of the first, and the
+    index of each; shapes (h, 5) and (n,)."""
+    addresses = rows.view("<i8").reshape(-1, 5)[:, 3][places]
+    first, which = distinct(addresses, rows["more"][places].astype(np.int64) << 8 | rows["code"][places])
+    return headers_at(rows, places[first]), which
+
+
+def keys_of(headers: Ints) -> tuple[Ints, Ints]:
+    """Returns two numbers for each header, which tell headers apart."""
+    return ((headers[:, 1] << 16 | headers[:, 2]) << 8 | headers[:, 0], headers[:, 3] << 16 | headers[:, 4])
+
+
+def distinct(begin: Ints, end: Ints) -> tuple[Ints, Ints]:
+    """Returns the first of each pair of numbers, in order, and for each pair the index of its first.
+
+    >>> distinct(np.array([6, 17, 6]), np.array([1, 1, 1]))[1].tolist()
+    [0, 1, 0]
+    """
+    if len(begin) and (begin == begin[0]).all() and (end == end[0]).all():
+        return np.zeros(1, dtype=np.int64), np.zeros(len(begin), dtype=np.int64)
+    _, source = np.unique(begin, return_inverse=True)
+    _, target = np.unique(end, return_inverse=True)
+    _, first, which = np.unique(source * (len(begin) + 1) + target, return_index=True, return_inverse=True)
+    order = np.argsort(first)
+    return first[order], np.argsort(order)[which]
+
+
 def visits_of(records: Records, packets: Packets) -> Visits:
     """Returns the visits of all packets to pipes, as far as the rows have them: without tracing, `arrive` is
     missing, a visit begins with the finish, and its arrival is unknown."""
-    arrives, finishes = records.pick(records.at(ARRIVE)), records.at(FINISH)
+    packet, served = records.parts["arrive"]["packet"], records.parts["finish"]["packet"]
     comes = np.zeros(len(packets), dtype=np.bool_)
-    comes[arrives["packet"]] = True
-    served = records.rows["packet"][finishes]
-    if int(np.count_nonzero(comes)) == len(arrives) and bool(comes[served].all()):
-        return _single_visits(records, packets, arrives, served, records.rows["moment"][finishes])
+    comes[packet] = True
+    if int(np.count_nonzero(comes)) == len(packet) and bool(comes[served].all()):
+        return _single_visits(records, packets)
     return _many_visits(records)
 
 
-def _single_visits(records: Records, packets: Packets, arrives: Rows, served: Ints, moments: Ints) -> Visits:
+def _single_visits(records: Records, packets: Packets) -> Visits:
     """Returns the visits if no packet came to a second instance: nothing has to be sorted by packet."""
-    order = _order(arrives["packet"])
     finish, left = np.full(len(packets), -1, dtype=np.int64), np.full(len(packets), -1, dtype=np.int64)
-    finish[served] = moments
+    arrives, served, passes = (records.parts[name] for name in ("arrive", "finish", "pass"))
+    finish[served["packet"]] = served["moment"]
     # A drop behind the service is none of the instance; the first way out is the `pass`, if there is one.
     ends = (packets.outcome == DELIVERED) | ((packets.outcome >= DROPPED) & (finish < 0))
     left[ends] = packets.ended[ends]
-    passes = records.at(PASS)
-    left[records.rows["packet"][passes]] = records.rows["moment"][passes]
-    packet = arrives["packet"][order].astype(np.int64)
-    pipe = arrives["pipe"][order].astype(np.int64) * 256 + arrives["instance"][order]
-    return Visits(packet, pipe, arrives["moment"][order].astype(np.int64), finish[packet], left[packet])
+    left[passes["packet"]] = passes["moment"]
+    packet, moment = arrives["packet"], arrives["moment"]
+    pipe = arrives["pipe"] << 8 | arrives["instance"]
+    order = order_of(packet)
+    packet, moment, pipe = packet[order], moment[order], pipe[order]
+    return Visits(packet, pipe, moment, finish[packet], left[packet])
 
 
 def _many_visits(records: Records) -> Visits:

@@ -9,7 +9,7 @@ import numpy as np
 
 from dnlab.analysis.diagnostics import codes_of
 from dnlab.analysis.metrics import PERCENTILES, WHOLE, Row, Span, columns_of, times_of
-from dnlab.analysis.packets import DELIVERED, DROPPED, HELD, kept
+from dnlab.analysis.packets import DELIVERED, DROPPED, HELD, kept, order_of
 from dnlab.analysis.quantities import Percentile, jain, place
 from dnlab.analysis.view import View, flows_of
 from dnlab.io.rows import DATA, PLAIN, Flags, Ints, instance_name
@@ -103,9 +103,7 @@ class _Set:
 
     def jitter(self, delays: Ints) -> Optional[float]:
         """Returns the jitter after the last delivery, by these delays."""
-        ended = kept(self.ended, self.came)
-        is_sorted = bool((ended[1:] >= ended[:-1]).all())
-        return jitter(delays if is_sorted else delays[np.argsort(ended, kind="stable")])
+        return jitter(delays[order_of(kept(self.ended, self.came))])
 
 
 @dataclass

@@ -187,34 +187,6 @@ def headers_at(rows: Rows, places: Ints) -> Ints:
                      ports & 65535, rows["dst"][places].astype(np.int64), ports >> 16], axis=1)
 
 
-def headers_in(rows: Rows, places: Ints) -> tuple[Ints, Ints]:
-    """Returns the headers of the packets that some rows create, each once, in the order of the first, and the
-    index of each; shapes (h, 5) and (n,)."""
-    addresses = rows.view("<i8").reshape(-1, 5)[:, 3][places]
-    first, which = distinct(addresses, rows["more"][places].astype(np.int64) << 8 | rows["code"][places])
-    return headers_at(rows, places[first]), which
-
-
-def keys_of(headers: Ints) -> tuple[Ints, Ints]:
-    """Returns two numbers for each header, which tell headers apart."""
-    return ((headers[:, 1] << 16 | headers[:, 2]) << 8 | headers[:, 0], headers[:, 3] << 16 | headers[:, 4])
-
-
-def distinct(begin: Ints, end: Ints) -> tuple[Ints, Ints]:
-    """Returns the first of each pair of numbers, in order, and for each pair the index of its first.
-
-    >>> distinct(np.array([6, 17, 6]), np.array([1, 1, 1]))[1].tolist()
-    [0, 1, 0]
-    """
-    if len(begin) and (begin == begin[0]).all() and (end == end[0]).all():
-        return np.zeros(1, dtype=np.int64), np.zeros(len(begin), dtype=np.int64)
-    _, source = np.unique(begin, return_inverse=True)
-    _, target = np.unique(end, return_inverse=True)
-    _, first, which = np.unique(source * (len(begin) + 1) + target, return_index=True, return_inverse=True)
-    order = np.argsort(first)
-    return first[order], np.argsort(order)[which]
-
-
 def header_text(header: Iterable[Any]) -> str:
     """Returns a header as in reports.
 
@@ -232,6 +204,17 @@ class Counters:
     delivered: int = 0
     held: int = 0
     drops: dict[str, int] = field(default_factory=lambda: dict.fromkeys(CAUSES, 0))
+
+
+# The rows that tables are made of: their kinds, and the columns besides `row`, their place.
+_PARTS = {"make": (MAKE_COMMAND, MAKE_ACK, ("moment", "packet", "source", "number", "size")),
+          "arrive": (ARRIVE, ARRIVE, ("moment", "packet", "pipe", "instance")),
+          "finish": (FINISH, FINISH, ("moment", "packet")), "pass": (PASS, PASS, ("moment", "packet")),
+          "deliver": (DELIVER, DELIVER_ACK, ("moment", "packet")),
+          "drop": (DROP, DROP_ACK, ("moment", "packet", "code")),
+          "window": (ACK, EXPIRE, ("moment", "source", "number", "more"))}
+# How many rows to part at once: they stay in the processor's cache, where all columns are read from them.
+_TOGETHER = 1 << 14
 
 
 @dataclass
@@ -265,6 +248,23 @@ class Records:
                                                else self.kind - np.uint8(low) <= high - low)
         return self._places[key]
 
+    @cached_property
+    def parts(self) -> dict[str, dict[str, Ints]]:
+        """Returns the columns of `_PARTS`, as int64 of shape (n,)."""
+        found = {name: {"row": self.at(low, high)} for name, (low, high, _) in _PARTS.items()}
+        begins = range(0, len(self) + _TOGETHER, _TOGETHER)
+        ends = {name: np.searchsorted(part["row"], begins).tolist() for name, part in found.items()}
+        for name, part in found.items():
+            part.update((column, np.empty(len(part["row"]), dtype=np.int64)) for column in _PARTS[name][2])
+        for place, begin in enumerate(begins[:-1]):
+            rows = self.rows[begin:begin + _TOGETHER]
+            for name, part in found.items():
+                own = slice(*ends[name][place:place + 2])
+                places = part["row"][own] - begin
+                for column in _PARTS[name][2] if len(places) else ():
+                    part[column][own] = rows[column][places]
+        return found
+
     def name_train(self, places: Ints, number: int) -> None:
         """Sets the sender of some plain packets, which a text doesn't have, by the rows that create them."""
         self.rows["kind"][places] = self.kind[places] = MAKE_TRAIN
@@ -276,12 +276,6 @@ class Records:
         found: Ints = self.rows[column][places].astype(np.int64)
         return found
 
-    def pick(self, places: Ints) -> Rows:
-        """Returns some rows, as a compact array: for several of their columns this is faster than `take`."""
-        fives = self.rows.view("<i8").reshape(-1, 5)
-        found: Rows = np.take(fives, places, axis=0).view(self.rows.dtype).reshape(-1)
-        return found
-
     def instances(self, places: Ints) -> Ints:
         """Returns the instances that some rows name, as pipe * 256 + instance."""
         found: Ints = self.take("pipe", places) * 256 + self.rows["instance"][places]
@@ -290,11 +284,6 @@ class Records:
     def commands(self) -> Ints:
         """Returns the rows of commands, executed and refused."""
         return self.at(OK, REFUSED)
-
-    @cached_property
-    def windows(self) -> Rows:
-        """Returns the rows of `ack` and `expire`, as a compact array."""
-        return self.pick(self.at(ACK, EXPIRE))
 
     def last(self) -> int:
         """Returns the time of the last record, ns; 0 if there is none."""
@@ -325,16 +314,16 @@ def records_of(name: str, rows: Rows, kind: Bytes, first: int, counters: Any) ->
     """Returns an experiment of a file of rows. Raises `RowError` if its rows contradict its counters."""
     found = Records(name, rows, kind, Counters(int(counters["packet"]), int(counters["number"]),
                                                int(counters["source"])), first=first)
-    made = found.rows["packet"][found.at(MAKE_COMMAND, MAKE_ACK)]
+    made = found.parts["make"]["packet"]
     bad = np.flatnonzero(made != np.arange(len(made)))
     if len(bad) or len(made) != found.counters.made:
         raise found.refused(len(kind),
                             f"the counters have {found.counters.made} created packets, but the rows create "
                             f"{len(made)}, {'not ' if len(bad) else ''}in order: run the scenario again "
                             "with this version")
-    causes = np.bincount(found.rows["code"][found.at(DROP, DROP_ACK)], minlength=len(CAUSES) + 1).tolist()
+    causes = np.bincount(found.parts["drop"]["code"], minlength=len(CAUSES) + 1).tolist()
     found.counters.drops = dict(zip(CAUSES, causes[1:]))
-    delivered = len(found.at(DELIVER, DELIVER_ACK))
+    delivered = len(found.parts["deliver"]["row"])
     if delivered != found.counters.delivered or len(made) != delivered + sum(causes) + found.counters.held:
         raise found.refused(len(kind),
                             f"the counters have {found.counters.delivered} delivered packets, but the rows "
