@@ -127,9 +127,10 @@ def begun(words: Sequence[str]) -> int:
     if list(words[1:]) == ["--version"]:
         print(f"dnlab-{words[0]} {__version__}")
         return 0
-    from dnlab.processes import subprocesses
+    from dnlab.processes import memory, subprocesses
 
     subprocesses.handle_signals(words[0])
+    memory.keep_freed()
     # --help and --_complete need none of these modules, and exit by themselves.
     lacking = (missing(NEEDS[words[0]]) if not words[1:]
                or not re.match("-h$|--help$|--_complete=", words[1]) else None)

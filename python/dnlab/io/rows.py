@@ -254,8 +254,11 @@ class Records:
         found = {name: {"row": self.at(low, high)} for name, (low, high, _) in _PARTS.items()}
         begins = range(0, len(self) + _TOGETHER, _TOGETHER)
         ends = {name: np.searchsorted(part["row"], begins).tolist() for name, part in found.items()}
+        # In one piece, which NumPy puts on large pages of memory.
+        sizes = [len(part["row"]) for name, part in found.items() for _ in _PARTS[name][2]]
+        room = iter(np.split(np.empty(sum(sizes), dtype=np.int64), np.cumsum(sizes)[:-1]))
         for name, part in found.items():
-            part.update((column, np.empty(len(part["row"]), dtype=np.int64)) for column in _PARTS[name][2])
+            part.update(zip(_PARTS[name][2], room))
         for place, begin in enumerate(begins[:-1]):
             rows = self.rows[begin:begin + _TOGETHER]
             for name, part in found.items():

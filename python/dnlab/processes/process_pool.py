@@ -23,7 +23,7 @@ from types import ModuleType
 from typing import Any, Callable, Generic, Iterator, NamedTuple, Optional, TypeVar
 
 from dnlab.errors import ProgramError
-from dnlab.processes import subprocesses
+from dnlab.processes import memory, subprocesses
 from dnlab.processes.subprocesses import Killed, TempDir, describe_exit, signal_of
 
 T = TypeVar("T")
@@ -200,6 +200,7 @@ def _start_worker(parent: int, folder: Path) -> None:
     signal.signal(signal.SIGINT, signal.SIG_IGN)
     signal.signal(signal.SIGHUP, signal.SIG_IGN)
     subprocesses.die_with(parent, signal.SIGTERM)
+    memory.keep_freed()
     subprocesses.GROUPED = False
     # What a function prints is not part of a result.
     os.dup2(2, 1)
