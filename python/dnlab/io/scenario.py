@@ -5,7 +5,7 @@ commands. Needs only Python, and simulates nothing.
 """
 import importlib.util
 import re
-from functools import cache
+from functools import cache, lru_cache
 from typing import TYPE_CHECKING, Iterator, NamedTuple, Optional, Sequence, Union
 
 from dnlab.errors import ParseError
@@ -219,16 +219,28 @@ def runs_in(text: bytes) -> Iterator[tuple[int, Union[bytes, Run]]]:
         begin = end
 
 
+@lru_cache(maxsize=1 << 14)
+def _is_packet(words: bytes) -> bool:
+    return re.fullmatch(_PACKET, words) is not None
+
+
 def moments_of(text: bytes) -> "Optional[Ints]":
     """Returns the times of lines that begin with `@TIME inject ` or are empty, or None if one of them may be
     invalid."""
     import numpy as np
 
-    # Times and packets alternate. Most lines send one of few packets, each of which is looked at once.
-    words = [*filter(None, text.replace(b" inject ", b"\n").split(b"\n"))]
-    if len(words) % 2 or not all(re.fullmatch(_PACKET, packet) for packet in set(words[1::2])):
+    # Often all lines send the same packet. What is left of a line without it has no space then.
+    begin = text.find(b" inject ")
+    packet = text[begin:text.find(b"\n", begin) + 1]
+    times, packets = text.replace(packet, b"").replace(b"\n", b""), {packet[8:-1]}
+    if b" " in times:
+        # Times and packets alternate, and most lines send one of few packets.
+        words = [*filter(None, text.replace(b" inject ", b"\n").split(b"\n"))]
+        if len(words) % 2:
+            return None
+        times, packets = b"".join(words[::2]), set(words[1::2])
+    if not all(map(_is_packet, packets)):
         return None
-    times = b"".join(words[::2])
     found = np.fromstring(times.replace(b"@", b" "), dtype=np.int64, sep=" ")
     # Without leading zeros, the digits are as many as the numbers need.
     digits = len(found) + int(np.searchsorted(10 ** np.arange(1, 16), found, "right").sum())
