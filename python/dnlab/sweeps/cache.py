@@ -108,6 +108,8 @@ class ResultCache:
                 base = sqlite3.connect(":memory:" if self.path is None else self.path, timeout=60)
                 # Bytes that are not text are a damaged result, not an error of the file.
                 base.text_factory = bytes
+                # Each result would wait for the disk, so that a few are not lost if the system fails.
+                base.execute("PRAGMA synchronous=OFF")
                 base.execute(_MADE)
                 self._base = base
             except sqlite3.Error as fault:
