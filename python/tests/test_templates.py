@@ -92,7 +92,7 @@ def test_limits_of_a_template(text: str, cause: str, tmp_path: Path, program: st
 
 def test_a_template_without_end(monkeypatch: pytest.MonkeyPatch) -> None:
     """Its process is ended after some time, and the sweep reports that."""
-    monkeypatch.setattr("dnlab.sweeps.templates.MOST_SECONDS", 1.0)
+    monkeypatch.setattr("dnlab.sweeps.rendering.MOST_SECONDS", 1.0)
     text = "{% for i in range(10**6) %}{% for j in range(10**6) %}{% endfor %}{% endfor %}\n" + ONE
     made = dnlab.sweep(text, delay=5)
     with pytest.raises(dnlab.InputError, match=r"^template: line 1: rendering it takes more than 1 s$"):

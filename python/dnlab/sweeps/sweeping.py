@@ -23,7 +23,8 @@ from dnlab.processes.progress import Progress
 from dnlab.programs import program as program_of
 from dnlab.sweeps.grid import Case, as_written, cases_of, why_reserved
 from dnlab.sweeps.cache import ResultCache, checksum, program_checksum
-from dnlab.sweeps.templates import Renderer, Template
+from dnlab.sweeps.rendering import Renderer
+from dnlab.sweeps.templates import Template
 from dnlab.sweeps.results import SweepResults
 
 # An experiment's name depends on the order of --set, but its results don't.
@@ -69,7 +70,7 @@ class Sweep(SweepResults):
         self.on, self.there, self.parts = on, there, parts
         self.allow = frozenset(allow)
         self.span = span
-        self._renderer = Renderer(self.template)
+        self._renderer = Renderer(self.template, self.workers)
         self._named = dnlab
         self.kept = ResultCache(kept)
         self.anew = anew
@@ -131,6 +132,8 @@ class Sweep(SweepResults):
         program = program_of(self._named)
         self._asked(program)
         own = program_checksum(program)
+        self._renderer.ahead((case.name, case.seed, case.settings) for case in self.cases
+                             if case.name not in self.found)
         waiting: list[Waiting] = []
         texts: list[tuple[Case, str]] = []
         size = 0

@@ -4,10 +4,7 @@ import itertools
 import math
 import os
 import re
-import resource
-import signal
 from fractions import Fraction
-from functools import lru_cache
 from pathlib import Path
 from types import TracebackType
 from typing import Any, Callable, Iterator, Mapping, NoReturn, Optional, Union
@@ -18,8 +15,6 @@ import jinja2.sandbox
 
 from dnlab.errors import InputError
 from dnlab.io.scenario_parts import MOST_BYTES
-from dnlab.processes.process_pool import ProcessPool
-from dnlab.processes.subprocesses import Killed
 from dnlab.rng import Chance, Traffic
 from dnlab.sweeps.grid import GIVEN, as_written, why_reserved
 
@@ -28,6 +23,8 @@ _TEXT = "<template>"
 _MOST_NUMBERS = 10**6
 # The length is checked each time this many pieces of a text are joined.
 _TOGETHER = 1000
+# The maximum of memory that a text may take, in bytes.
+MOST_MEMORY = 2**29
 # The maximum size of an integer, in bytes.
 _MOST_DIGITS = 1 << 10
 
@@ -108,10 +105,6 @@ class _Sandbox(jinja2.sandbox.SandboxedEnvironment):
         if size > most:
             raise OverflowError(f"the result of `{operator}` would have {size} bytes")
         return super().call_binop(context, operator, left, right)
-
-
-class TooLong(jinja2.TemplateRuntimeError):
-    """The time for a text is over; a signal handler raises it in the template."""
 
 
 class _Loader(jinja2.FileSystemLoader):
@@ -246,81 +239,3 @@ class Template:
                 place = self.name if file == _TEXT else file, trace.tb_lineno
             trace = trace.tb_next
         return place
-
-
-# The limits for a text: processor time in seconds, and memory in bytes.
-MOST_SECONDS = 10.0
-MOST_MEMORY = 2**29
-# Texts that are needed again are cached up to this many bytes; further ones are rendered again.
-MOST_KEPT = 2**28
-# How much longer to wait for a process that ignores its signal, or gets no processor time.
-_PATIENCE = 6.0
-
-
-@lru_cache(maxsize=1)
-def _template(source: Union[str, Path]) -> Template:
-    held = int(Path("/proc/self/statm").read_text().split()[0]) * resource.getpagesize()
-    _, hard = resource.getrlimit(resource.RLIMIT_AS)
-    most = held + MOST_MEMORY
-    resource.setrlimit(resource.RLIMIT_AS,
-                       (most if hard == resource.RLIM_INFINITY else min(most, hard), hard))
-    return Template(source)
-
-
-def render(source: Union[str, Path], name: str, seed: int, settings: Mapping[str, Any],
-           seconds: float) -> str:
-    """Renders the text of an experiment in this process; call it in the main thread. Raises `InputError` with
-    the line at which the time is over."""
-    def stop(*_: object) -> NoReturn:
-        raise TooLong(f"rendering it takes more than {seconds:.0f} s")
-
-    signal.signal(signal.SIGPROF, stop)
-    signal.setitimer(signal.ITIMER_PROF, seconds)
-    try:
-        return _template(source).render(name, seed, settings)
-    finally:
-        signal.setitimer(signal.ITIMER_PROF, 0)
-
-
-class Renderer:
-    """Renders texts of a template in a process that is started on demand."""
-
-    def __init__(self, template: Template) -> None:
-        self._template = template
-        self._pool: Optional[ProcessPool[str]] = None
-        self._kept: dict[tuple[Any, ...], str] = {}
-        self.left = MOST_KEPT
-
-    def __reduce__(self) -> "tuple[type[Renderer], tuple[Template]]":
-        return Renderer, (self._template,)
-
-    def render(self, name: str, seed: int, settings: Mapping[str, Any], told: str) -> str:
-        """Returns the text of an experiment. Raises `InputError`, with `told`, if it takes too long or too
-        much memory."""
-        key = name, seed, *map(str, settings.items())
-        if key in self._kept:
-            return self._kept[key]
-        if self._pool is None:
-            self._pool = ProcessPool(1)
-        source = self._template.text if self._template.path is None else self._template.path
-        try:
-            self._pool.submit(name, render, source, name, seed, dict(settings), MOST_SECONDS)
-            outcome = self._pool.next_result(_PATIENCE * MOST_SECONDS)
-        except TimeoutError:
-            self.close()
-            raise InputError(
-                f"{self._template.name}: {told}: rendering it takes more than {MOST_SECONDS:.0f} s") from None
-        except Killed as killed:
-            self.close()
-            raise killed.about(f"{told}: it could not be rendered") from None
-        text: str = outcome.get()
-        if len(text) <= self.left:
-            self._kept[key] = text
-            self.left -= len(text)
-        return text
-
-    def close(self) -> None:
-        """Ends the process; another one is started on demand."""
-        if self._pool is not None:
-            self._pool.close()
-            self._pool = None
