@@ -33,7 +33,16 @@ def named(codes: Any, names: Sequence[str]) -> Any:
 
 def pipes_named(codes: Any) -> Any:
     """Returns the names of instances as in reports; -1 becomes <NA>."""
-    values, places = np.unique(np.asarray(codes, dtype=np.int64), return_inverse=True)
+    values = np.asarray(codes, dtype=np.int64)
+    if int(values.max(initial=0)) < 65536:
+        # Counted, which takes less than to sort them.
+        every = values + 1
+        values = np.flatnonzero(np.bincount(every)) - 1
+        index = np.zeros(65537, dtype=np.int64)
+        index[values + 1] = np.arange(len(values))
+        places = index[every]
+    else:
+        values, places = np.unique(values, return_inverse=True)
     names = [instance_name(int(value)) for value in values if value >= 0]
     return pd.Categorical.from_codes(places - int(len(names) < len(values)), categories=names)
 
@@ -130,7 +139,8 @@ class Experiment:
             "queue": pipes_named(last), "outcome": named(table.outcome, OUTCOMES),
             "ended": whole(table.ended),
             "kind": named(table.kind, KINDS), "flow": whole(table.flow), "number": whole(table.number),
-            "retransmission": table.retransmission}, index=pd.RangeIndex(len(table), name="packet"))
+            "retransmission": table.retransmission.copy()}, copy=False,
+                            index=pd.RangeIndex(len(table), name="packet"))
 
     def visits(self) -> pd.DataFrame:
         """Returns a row per visit of a packet to an instance: packet, queue, arrival, finish and exit (ns).
