@@ -89,7 +89,7 @@ class _Set:
         table = view.packets
         # All packets are in order.
         own: Any = slice(None) if len(packets) == len(table) else packets
-        self.packets, self.table, self.own = packets, table, own
+        self.packets, self.own = packets, own
         self.fate, self.kind, self.made = table.outcome[own], table.kind[own], table.made[own]
         self.ended, self.size = table.ended[own], table.size[own]
         self.came: Flags = (self.fate == DELIVERED) & now.has(self.ended)
@@ -121,7 +121,7 @@ class Tables:
 
     def __post_init__(self) -> None:
         self.span.check(self.view)
-        self._sets: list[_Set] = []
+        self._sets: dict[tuple[int, int], _Set] = {}
 
     def rows(self) -> list[Row]:
         """Returns all rows of the experiment, that of the whole last."""
@@ -159,11 +159,10 @@ class Tables:
 
     def set_of(self, packets: Ints) -> _Set:
         """Returns the columns of some packets. Those of one direction are often those of its only sender."""
-        known = next((one for one in self._sets if one.packets is packets or len(one.packets) == len(packets)
-                      and bool((one.packets == packets).all())), None)
-        if known is None:
-            known = _Set(self.view, packets, self.span)
-            self._sets.append(known)
+        key = len(packets), int(packets[0]) if len(packets) else -1
+        known = self._sets.get(key)
+        if known is None or not (known.packets is packets or bool((known.packets == packets).all())):
+            known = self._sets[key] = _Set(self.view, packets, self.span)
         return known
 
     def packets(self, of: str, packets: Ints) -> Row:
