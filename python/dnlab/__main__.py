@@ -4,6 +4,7 @@ import os
 import re
 import sys
 from contextlib import nullcontext, suppress
+from pathlib import Path
 from typing import Callable, Optional, Sequence
 
 if not __package__:
@@ -22,39 +23,6 @@ NEEDS = {"summary": ("numpy",), "plot": ("numpy", "matplotlib"), "spread": ("num
 COMMANDS = tuple(NEEDS)
 # pip's names of packages that differ from the module's name.
 PIP = {"yaml": "pyyaml"}
-HELP = """Tools for reports of dnlab, in Python.
-
-    python3 -m dnlab COMMAND ..
-
-  summary REPORT [SCENARIO ..]   prints a table, or rows for other programs
-  plot REPORT [SCENARIO ..]      draws windows, queues, one-way delays and drops
-  spread SCENARIO ..             runs scenarios in parts, also with ssh or Slurm
-  sweep TEMPLATE --set ..        runs a template with each setting and seed
-  compare A B [SCENARIO ..]      finds where two reports diverge, and compares
-                                 their metrics
-  expect REPORT [SCENARIO ..] BOUND ..
-                                 checks a report against bounds
-  view REPORT [SCENARIO ..]      makes a page to look at runs in a browser
-  pcap REPORT [SCENARIO ..]      writes packets as a capture for Wireshark
-  from-ipfw FILE                 translates a configuration of ipfw(8) into a
-                                 scenario
-  to-ipfw SCENARIO               writes its pipes and rules for ipfw(8)
-  to-tc SCENARIO --dev ETH1      writes its pipes and rules for tc(8)
-  replay FILE .. --link WORDS    sends the packets of a capture through a link
-  rate-trace FILE                makes a pipe's rate follow a trace
-  hosts FILE --out RUN           runs unmodified programs over Linux's TCP and a
-                                 link, in simulated time
-
-Each has --help and --version. In Python: import dnlab; help(dnlab).
-
-Example:
-  python3 -m dnlab summary report.txt scenario.txt
-  python3 -m dnlab plot report.txt scenario.txt --out picture.svg
-
-Exit status: that of the command; 1 only for a bound that fails or runs that
-differ; 2 wrong usage or a faulty input; 3 something is missing on this machine
-(a package, disk space), or a signal ended a process.
-"""
 
 
 def missing(modules: Sequence[str]) -> Optional[str]:
@@ -118,12 +86,11 @@ def main(words: Optional[Sequence[str]] = None) -> int:
 
 def begun(words: Sequence[str]) -> int:
     """Runs a command and reports what it raises, except errors of the output; returns its exit status."""
-    if list(words[:1]) in (["--help"], ["-h"]):
-        print(HELP, end="")
-        return 0
-    if not words or words[0] not in COMMANDS:
-        print(HELP, end="", file=sys.stderr)
-        return 2
+    is_help = list(words[:1]) in (["--help"], ["-h"])
+    if is_help or not words or words[0] not in COMMANDS:
+        text = Path(__file__).with_name("cli") / "help" / "dnlab.txt"
+        print(text.read_text(), end="", file=sys.stdout if is_help else sys.stderr)
+        return 0 if is_help else 2
     if list(words[1:]) == ["--version"]:
         print(f"dnlab-{words[0]} {__version__}")
         return 0

@@ -6,7 +6,8 @@ import sys
 import textwrap
 from contextlib import contextmanager
 from fractions import Fraction
-from typing import TYPE_CHECKING, Any, Callable, Iterable, Iterator, NoReturn, TextIO, TypeVar, cast
+from pathlib import Path
+from typing import TYPE_CHECKING, Any, Callable, Iterable, Iterator, Mapping, NoReturn, TextIO, TypeVar, cast
 
 from dnlab import __version__
 from dnlab.analysis.quantities import TIMES
@@ -123,8 +124,17 @@ def renamed(text: str) -> str:
     return re.sub(r"\btools/(?=[a-z]+\b)", "dnlab-", text).replace("./dnlab ", "dnlab ")
 
 
-def parser_of(name: str, about: str, more: str) -> Parser:
-    """Returns a parser whose help ends with an example and the exit statuses."""
+def help_of(name: str, filled: Mapping[str, str] = {}) -> tuple[str, str]:
+    """Returns what a command does, and the rest of its help, by its file in `help/`. There `[[NAME]]` stands
+    for a text of `filled`."""
+    text = (Path(__file__).parent / "help" / f"{name}.txt").read_text()
+    about, _, more = text.rstrip("\n").partition("\n\n")
+    return about, re.sub(r"\[\[(\w+)\]\]", lambda found: filled[found[1]], more)
+
+
+def parser_of(name: str, **filled: str) -> Parser:
+    """Returns a parser whose help is that of `help_of`."""
+    about, more = help_of(name, filled)
     prog = f"tools/{name}" if is_repository() else f"dnlab-{name}"
     parser = Parser(prog=prog, description=about, epilog=more,
                     formatter_class=argparse.RawDescriptionHelpFormatter)

@@ -23,34 +23,8 @@ if TYPE_CHECKING:
     from dnlab.io.rows import Flags
     from dnlab.session.replay import Fate
 
-PCAP_ABOUT = """Writes the packets of a traced report as a capture, for Wireshark and tcptrace."""
-PCAP_EXAMPLE = """The report must be made with --trace, or be rows (`dnlab alone --format npy`):
-only these have the addresses and the size of every packet. The rest of the
-capture is made up: Ethernet, no SYN and no FIN, sequence numbers from 1 (byte 0
-of a flow), the receiver's window (the flow's `window`, if the scenario is
-given). Checksums are computed over payloads of zeros, of which only the headers
-are stored. A packet's serial number is its IP identification
-(modulo 65536); time 0 is 1970, and times are nanoseconds.
-
---at sender captures next to the senders: segments when they are created (also
-those that are dropped later), acknowledgements when they arrive. Its counts
-are those of dnlab-summary: packets, retransmissions, and delivered for
-acknowledgements. --at receiver captures segments when they arrive, and
-acknowledgements when they are created.
-
-It needs python3-dpkt (Debian).
-
-Example:
-  ./dnlab alone --trace < scenario.txt > report.txt
-  tools/pcap report.txt scenario.txt --out run.pcap && tcptrace -l run.pcap
-  tools/pcap report.txt scenario.txt --of 'flow 1' --at receiver --out 1.pcap
-
-Exit status: 0 written, 2 wrong usage, a faulty input or one that isn't traced,
-3 a file that can't be written, or a package that is missing."""
-
-
 def pcap_words(given: Sequence[str]) -> argparse.Namespace:
-    parser = parser_of("pcap", PCAP_ABOUT, PCAP_EXAMPLE)
+    parser = parser_of("pcap")
     add_texts(parser)
     add_of(parser, "only packets of these senders, as 'flow 1', 'flow 1 acks', 'train *' (repeatable) [all]")
     parser.add_argument("--at", choices=("sender", "receiver"), default="sender",
@@ -119,34 +93,8 @@ def pcap(words_given: Sequence[str]) -> int:
     return 0
 
 
-REPLAY_ABOUT = """Sends the packets of a capture through a link, and writes them as they leave."""
-REPLAY_EXAMPLE = """FILE is a capture (pcap or pcapng; TCP and UDP over IPv4) or a table of arrivals
-(CSV, whose first line names the columns: moment in ns or seconds, size, and
-optionally protocol, source, source_port, target, target_port). Several files
-are merged by time.
-
---link is one pipe for all packets, with the options of `pipe config`.
---scenario FILE has pipes and rules of your own, whose times count from the
-first packet, and may have other senders. The extension of --out selects the
-output: a capture with nanoseconds (.pcap), with every packet unchanged except
-for its time, or a table (.csv) with the outcome of each packet. Use --out twice
-for both.
-
-Packets go through `dnlab live` one by one, so the limit is 10000000 steps,
-about 3 million packets. --inject writes them as `inject` lines instead, for a
-scenario of at most 16777216 bytes.
-
-Example:
-  tools/replay call.pcap --link 'bw 2Mbit/s delay 30 queue 50 plr 0.01' \\
-    --out received.pcap
-  tools/replay call.pcap --scenario link.txt --out left.pcap --out fates.csv
-
-Exit status: 0 written, 2 wrong usage or a faulty input, 3 something is missing
-on this machine or in the program."""
-
-
 def replay_words(given: Sequence[str]) -> argparse.Namespace:
-    parser = parser_of("replay", REPLAY_ABOUT, REPLAY_EXAMPLE)
+    parser = parser_of("replay")
     parser.add_argument("files", nargs="+", metavar="FILE", help="a capture, or a table of arrivals")
     link = parser.add_mutually_exclusive_group(required=True)
     link.add_argument("--link", metavar="WORDS",

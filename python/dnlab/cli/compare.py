@@ -19,39 +19,6 @@ if TYPE_CHECKING:
     from dnlab.analysis.divergence import Parting
     from dnlab.analysis.view import View
 
-EXAMPLE = """Packets are matched by content (flow 1 byte 2920, train 9 packet 5), because
-serial numbers shift. The output has the time at which the reports diverge, the
-last line that both have, and the lines that follow in each. For each pipe it
-has the number of waiting packets (with the one in service) and of packets in
-the delay line.
-
-Metrics are those of dnlab-expect: goodput, loss, drops.full, delay.p95 ..; the
-ratio is B / A. Only metrics that differ are shown, unless --all is given.
-Without --tolerance any difference counts. With it, only the metrics that it
-names are judged. A metric that no row has, or that has no value, is never
-within its tolerance:
-  delay.p95=5%   differs by at most 5 % of A's value
-  delay.*=1ms    several metrics by a pattern
-  drops=2        at most 2 packets
-  *=1%           all metrics; if several match, the last one applies
-
-A and B may be compressed with gzip. A or B may also be the output of
-`dnlab-summary --json`, as a small baseline: then only rows are compared.
-
-Experiments are matched by name; --experiment deep=codel compares A's experiment
-deep with B's experiment codel. A and B may be the same file. One scenario
-applies to both reports; of two, the first is A's and the second B's. Sizes,
-delays and queues are in reports made with --trace, and in rows.
-
-Example:
-  tools/compare before.txt after.txt scenario.txt --tolerance delay.p95=5%
-  tools/compare report.txt report.txt scenario.txt --experiment deep=codel
-
-Exit status: 0 the same, or within the tolerances; 1 they differ; 2 wrong usage,
-a metric that no row has, or a faulty input; 3 something is missing on this
-machine (a package, disk space)."""
-
-
 class Part(NamedTuple):
     """The comparison of two experiments, without their columns.
 
@@ -107,7 +74,7 @@ class Run:
 
 
 def words(given: Sequence[str]) -> argparse.Namespace:
-    parser = parser_of("compare", __doc__ or "", EXAMPLE)
+    parser = parser_of("compare")
     parser.add_argument("a", metavar="A", help="a report, or - for standard input")
     parser.add_argument("b", metavar="B", help="another report, or the same one")
     parser.add_argument("scenarios", metavar="SCENARIO", nargs="*",

@@ -86,40 +86,9 @@ def _property(text: str) -> str:
     return _data(text).replace(":", "%3A").replace(",", "%2C")
 
 
-EXAMPLE = f"""A bound is {FORM}.
-  WHO     a row of dnlab-summary, 'flow 1', 'train 9', 'pipe 1.0', 'all', or a
-          pattern, 'flow *'; 'codel/train 9' is a row of one experiment. A bound
-          must hold in every row that it names; 'flow *' matches flows, but not
-          their acknowledgements (use 'flow * acks')
-  METRIC  {listed(WORDS)}
-          (N up to 100). loss is the share of created packets that were dropped,
-          jitter that of RFC 3550, utilisation of a pipe the bytes it served
-          divided by what its rate could have carried, refused the number of
-          refused commands, ended is `end` or `spent`
-  SIGN    < <= > >= == !=
-  VALUE   a number with its unit:
-          {listed((named(kind) for kind in UNITS if kind not in ('count', 'index', 'ending')), '; ')};
-          counts of packets, jain and ended have no unit
-A file has one bound per line, and comments after #. Each bound is printed with
-the measured value, and with its margin: the value nearest to the bound if it
-names several rows. A value that can't be computed fails, and so does a bound
-that always holds (`vacuous`: loss >= 0%, jain of one flow, a row that only some
-experiments have). A run also fails if commands were `refused`, if the steps
-were `spent`, if packets were dropped for the `budget`, or if `end` cut off a
-sender (`unsent`). Use --allow to permit these.
-
-Example:
-  tools/expect --run scenario.txt --bounds bounds.txt
-  ./dnlab alone --trace < scenario.txt | tools/expect - scenario.txt \\
-    'train 9: delay.p95 < 50ms' 'all: drops.budget == 0'
-
-Exit status: 0 all hold, 1 one doesn't, 2 wrong usage, not a bound for this
-report, or a faulty input, 3 something is missing on this machine (a package,
-disk space)."""
-
-
 def words(given: Sequence[str]) -> argparse.Namespace:
-    parser = parser_of("expect", __doc__ or "", EXAMPLE)
+    units = (named(kind) for kind in UNITS if kind not in ("count", "index", "ending"))
+    parser = parser_of("expect", form=FORM, words=listed(WORDS), units=listed(units, "; "))
     is_run = any(word == "--run" or word.startswith("--run=") for word in given)
     add_texts(parser, is_run)
     parser.add_argument("--run", metavar="SCENARIO",

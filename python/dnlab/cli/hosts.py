@@ -16,28 +16,8 @@ from dnlab.processes import subprocesses
 from dnlab.processes.subprocesses import TempDir
 from dnlab.programs import say
 
-EXAMPLE = """FILE (YAML) follows Shadow's configuration: general (stop_time, seed), hosts
-(ip_addr, processes: path, args, start_time, expected_final_state). `network`
-has lines of a scenario. docs/reference/hosts_file.md explains all keys.
-
-The first run builds the guest's kernel, in about five minutes. It needs these
-packages of Debian: linux-source-6.1 build-essential flex bison bc python3-yaml.
-
-RUN gets transcript.txt (a scenario that `dnlab alone` repeats), report.txt,
-summary.json, and hosts/NAME with a capture and the output of each process.
-
-Example:
-  tools/hosts hosts/examples/iperf3.yaml --out run
-  tools/hosts --table run
-  tools/hosts --shell 'bw 10Mbit/s delay 20'
-
-Exit status: 0 all processes ended as expected; 1 one did not, or packets were
-late by the wall clock; 2 wrong usage or a faulty file; 3 something is missing,
-the limit of real time was reached, or the guest or the link ended early."""
-
-
 def parser_of_words() -> argparse.ArgumentParser:
-    parser = parser_of("hosts", __doc__ or "", EXAMPLE)
+    parser = parser_of("hosts")
     parser.add_argument("file", nargs="?", metavar="FILE",
                         help="the hosts, their programs and the network (YAML), or - for standard input")
     parser.add_argument("--out", metavar="RUN", type=Path,

@@ -19,31 +19,6 @@ from dnlab.io.scenario_parts import Plan
 from dnlab.io.tc_export import Place
 from dnlab.programs import say
 
-FROM_IPFW_ABOUT = """Translates a configuration of ipfw(8) and dummynet into a scenario."""
-FROM_IPFW_EXAMPLE = """FILE is a script that calls ipfw, a file for `ipfw FILE`, or the output of
-`ipfw list` or `ipfw pipe show` (or both, in any order); - is standard input.
-
-A script is somebody else's code, so it is read and never executed. Variables,
-`for`, `while read`, `case`, `if`, functions and arithmetic are understood;
-anything else is refused with its line. `sleep 5` in it lets 5 s of the scenario
-pass. Each line of ipfw that differs here is reported on standard error:
-
-  rewritten     other words, the same meaning; only with --all
-  approximated  some of its meaning is lost, and which
-  dropped       there is nothing to do, as for a `flush` at the beginning;
-                only with --all
-  refused       no scenario can express it: the word, and what to do. Nothing
-                is written then, unless --lenient is given
-
-Example:
-  tools/from-ipfw rules.sh --if em1=10.0.1.0/24 --out scenario.txt
-  tools/from-ipfw rules.sh --me 203.0.113.10 --traffic senders.txt \\
-    --out scenario.txt && ./dnlab alone --trace < scenario.txt > report.txt
-
-Exit status: 0 written, 2 wrong usage, a script that isn't understood or lines
-that are refused, 3 something is missing on this machine."""
-
-
 def prefix_of(text: str) -> tuple[str, str]:
     """Returns an interface and the addresses behind it.
 
@@ -71,7 +46,7 @@ def address_of(text: str) -> str:
 
 
 def from_ipfw_words(given: Sequence[str]) -> argparse.Namespace:
-    parser = parser_of("from-ipfw", FROM_IPFW_ABOUT, FROM_IPFW_EXAMPLE)
+    parser = parser_of("from-ipfw")
     parser.add_argument("file", metavar="FILE", help="a script or a listing, or - for standard input")
     parser.add_argument("--if", action="append", default=[], type=prefix_of, metavar="NAME=PREFIX",
                         dest="behind",
@@ -167,24 +142,6 @@ def from_ipfw(words_given: Sequence[str]) -> int:
     return 0
 
 
-TO_IPFW_ABOUT = """Writes a scenario's pipes and rules as a script for FreeBSD's ipfw(8)."""
-TO_IPFW_EXAMPLE = """On a router each packet passes the rules twice, coming in and going out, so a
-rule to a pipe must name one direction. `--if` names the addresses behind an
-interface: the rule gets `in recv` if its source is there, else `out xmit` if
-its destination is. If the packets start or end on the machine itself, --host
-leaves the rules unchanged.
-
-The top of the script lists what differs on the real machine. Packets that match
-no rule are denied, as in the scenario.
-
-Example:
-  tools/to-ipfw scenario.txt --if em1=10.0.1.0/24 --out rules.sh
-  tools/to-ipfw scenario.txt --host --timed --iperf
-
-Exit status: 0 written, 2 wrong usage, a faulty scenario or one that ipfw can't
-express, 3 something is missing on this machine."""
-
-
 def add_scenario(parser: argparse.ArgumentParser) -> None:
     """Adds the arguments that `to-ipfw` and `to-tc` share."""
     parser.add_argument("scenario", metavar="SCENARIO", help="a scenario, or - for standard input")
@@ -193,7 +150,7 @@ def add_scenario(parser: argparse.ArgumentParser) -> None:
 
 
 def to_ipfw_words(given: Sequence[str]) -> argparse.Namespace:
-    parser = parser_of("to-ipfw", TO_IPFW_ABOUT, TO_IPFW_EXAMPLE)
+    parser = parser_of("to-ipfw")
     add_scenario(parser)
     which = parser.add_mutually_exclusive_group()
     which.add_argument("--if", action="append", default=[], type=prefix_of, metavar="NAME=PREFIX",
@@ -234,22 +191,6 @@ def to_ipfw(words_given: Sequence[str]) -> int:
     return 0
 
 
-TO_TC_ABOUT = """Writes a scenario's pipes and rules as a script for Linux's tc(8)."""
-TO_TC_EXAMPLE = """tc shapes the packets that leave an interface (--dev). Delays and losses are
-applied where packets come in (--in), on an ifb: any number of packets can be in
-flight there, and none of them occupies a place in the queue. For the other
-direction, call the tool again with the two interfaces exchanged, on a scenario
-of that direction, or on another machine, because the ifb is always ifb0.
-
-A pipe with `mask src-ip 0xffffffff` or `mask dst-ip 0xffffffff` gets a class
-for each of --hosts.
-
-Example:
-  tools/to-tc scenario.txt --dev eth1 --in eth0 --out shape.sh
-  tools/to-tc per_host.txt --dev eth1 --hosts 10.0.0.1-10.0.0.20
-
-Exit status: 0 written, 2 wrong usage, a faulty scenario or one that tc can't
-express, 3 something is missing on this machine."""
 _MOST_HOSTS = 256
 
 
@@ -275,7 +216,7 @@ device_of = matching(r"[A-Za-z0-9_.:@-]{1,15}", " is not an interface such as et
 
 
 def to_tc_words(given: Sequence[str]) -> argparse.Namespace:
-    parser = parser_of("to-tc", TO_TC_ABOUT, TO_TC_EXAMPLE)
+    parser = parser_of("to-tc")
     add_scenario(parser)
     parser.add_argument("--dev", required=True, type=device_of, metavar="NAME",
                         help="the interface where the packets leave")

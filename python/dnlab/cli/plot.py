@@ -16,46 +16,6 @@ if TYPE_CHECKING:
     from dnlab.analysis.view import View
     from dnlab.plot import page
 
-ABOUT = """Draws a report over time: windows, queues, one-way delays, drops."""
-EXAMPLE = """The picture has a column for each experiment and a panel for each of --what:
-  window     congestion window and ssthresh of each flow, at most 16, in
-             segments, with losses (x) and timeouts (triangle)
-  queue      packets that wait at each pipe, without the one in service, and
-             the limit of its queue
-  sojourn    one-way delay of each packet, at its delivery
-  delivered  data delivered and data through each pipe, cumulative (its former
-             name, rate, still works)
-  drops      dropped packets by cause, cumulative
-and on request:
-  flight     packets in flight
-  throughput      data delivered in each --bin of time, Mbit/s, and the rates
-                  of the pipes
-  cdf:sojourn, cdf:throughput
-                  distribution of the values (CDF)
-  box:sojourn, box:throughput
-                  quartiles and median, whiskers from the 5th to the 95th
-                  percentile, minimum and maximum
-With --overlay all experiments share one column, and each line has the name of
-its experiment. --effective adds the effective window, the minimum of cwnd and
-the flow's `window`, as a wide band. --acks adds acknowledgements.
-
-REPORT is a text made with --trace, or rows (`dnlab alone --format npy`). A text
-without --trace has no sizes and no creation times, and the panels that need
-them say so.
-Long series are thinned without a visible change: each of 1500 intervals of time
-keeps its first, minimum, maximum and last value.
-It needs matplotlib (Debian: apt-get install python3-matplotlib).
-
-Example:
-  ./dnlab alone --trace < scenario.txt > report.txt
-  tools/plot report.txt scenario.txt --what window,queue --out windows.svg
-  tools/plot report.txt scenario.txt --only q50-s1,q200-s1 --overlay \\
-    --of 'train 9' --what sojourn,cdf:sojourn --from 1s
-  tools/plot report.txt scenario.txt --what sojourn --of 'train 9' --overlay \\
-    --title 'A call beside a download' --label 'train 9=call' --size 16x9cm
-
-Exit status: 0 drawn, 2 wrong usage or a faulty input, 3 a file that can't be
-written, or a package that is missing."""
 # With more columns the picture would be too wide to read; with more experiments it would have too many lines.
 _MOST = 20
 _MOST_OVER = 250
@@ -77,7 +37,7 @@ def panels_of(text: str) -> list[str]:
 
 
 def words(given: Sequence[str]) -> argparse.Namespace:
-    parser = parser_of("plot", ABOUT, EXAMPLE)
+    parser = parser_of("plot")
     add_texts(parser)
     add_names(parser)
     parser.add_argument("--only", action="append", default=[], type=words_in,
@@ -189,37 +149,12 @@ def main(words_given: Sequence[str]) -> int:
     return 0
 
 
-VIEW_ABOUT = """Makes a page of HTML to look at runs of dnlab in a browser, packet by packet."""
-VIEW_EXAMPLE = """The page has, over one axis of time: the bytes of a flow (sent, sent again,
-acknowledged, dropped), windows, the packets at each pipe, delays, and the
-throughput next to the rates of the pipes. In the page you choose the
-experiment, a second one beside it, a flow, which changes every panel, windows
-in bytes or segments, and whether acknowledgements are drawn.
-Zoom by dragging, by its buttons or by the keys + - left right 0; a double click
-shows all. Pointing at a packet shows its journey; a click on it, or its serial
-number in the field `packet`, keeps the journey on the page. A series with too
-many points is thinned for the span in sight, and keeps the peaks of that span.
-page.html#NAME,FROM,TO (ns) opens at an experiment and a span,
-#NAME,FROM,TO,OTHER at two.
-
-plotly's script stands as dnlab-plotly.js beside the page, once for all pages of
-a folder; with --single it is within. Of a report made without --trace the page
-has what there is, and says what it lacks.
-It needs python3-plotly (Debian).
-
-Example:
-  ./dnlab alone --trace < scenario.txt > report.txt
-  tools/view report.txt scenario.txt --out page.html && xdg-open page.html
-  tools/view report.txt scenario.txt --experiment codel --single
-
-Exit status: 0 written, 2 wrong usage or a faulty input, 3 a file that can't be
-written, or a package that is missing."""
 # A page holds all its experiments; with more of them a browser takes long to open it.
 _MOST_EXPERIMENTS = 256
 
 
 def view_words(given: Sequence[str]) -> argparse.Namespace:
-    parser = parser_of("view", VIEW_ABOUT, VIEW_EXAMPLE)
+    parser = parser_of("view")
     add_texts(parser)
     parser.add_argument("--out", default="view.html", metavar="FILE", help="what is written [view.html]")
     parser.add_argument("--single", action="store_true",

@@ -203,33 +203,6 @@ def lines_of(found: Iterable[tuple[int, int, bool]], pipe: int, options: str,
     return made
 
 
-EXAMPLE = """FILE has Mahimahi's milliseconds, at each of which a packet of 1504 bytes may
-leave (grouped by --every). Or it is CSV whose first line names the columns,
-moment (ns) or seconds, and rate (bit/s, or as 5Mbit/s): each rate holds until
-the next row, and the last row is the end of the trace.
-
-The output is commands `pipe P config bw ..` with all other options from
---config; with --scenario, it is the scenario with these commands added, and
-the options are those of its own `pipe P config`.
-
-A rate of 0 is an outage (`bw 0` would mean unlimited). `--outage hold`: packets
-wait, and leave when it ends. A packet of --size bytes that is next in an outage
-finishes as if its service had started at the end of the outage, at most one
---step later. A shorter packet may leave early, so give the size of the packets
-that matter. `--outage drop`: arriving packets are lost, queued packets are
-sent. Rates at which a packet takes longer than the rate lasts are reported on
-standard error: the packet keeps its finish time, so the link is busy until
-then.
-
-Example:
-  tools/rate-trace verizon.trace --config 'delay 20 queue 100' --outage drop
-  tools/rate-trace lte.csv --scenario link.txt --outage hold --out changing.txt
-  ./dnlab alone --trace < changing.txt > report.txt
-
-Exit status: 0 written, 2 wrong usage or a faulty input, 3 something is missing
-on this machine."""
-
-
 def rate_word(text: str) -> int:
     try:
         return rate_of(text)
@@ -238,7 +211,7 @@ def rate_word(text: str) -> int:
 
 
 def words(given: Sequence[str]) -> argparse.Namespace:
-    parser = parser_of("rate-trace", __doc__ or "", EXAMPLE)
+    parser = parser_of("rate-trace")
     parser.add_argument("file", metavar="FILE", help="the trace")
     which = parser.add_mutually_exclusive_group()
     which.add_argument("--config", default="", metavar="WORDS",

@@ -21,34 +21,8 @@ from dnlab.processes.subprocesses import TempDir
 from dnlab.programs import program as program_of
 from dnlab.sweeps.engines import Job, RunFailedError, RunOptions, failure, run_parts
 
-EXAMPLE = """The scenarios are split at their experiments into N parts with about the same
-number of commands. `dnlab alone` runs each part, and each report is checked
-against its scenario. The reports are joined in order, which gives the bytes of
-`dnlab alone < SCENARIO`. Scenarios may be compressed with gzip.
-
-A scenario may have more than 256 experiments and 16777216 bytes, the limits of
-`dnlab` itself: there are then as many parts as needed. `dnlab check` reads all
-of it first, so a fault has its line in the whole file, after the file's name if
-there are several. The report is written completely or not at all. REPORT.json,
-next to it, records what made it; the other tools use it to recognise the
-scenario. The program is that of the environment variable DNLAB, else the proved
-one of the repository, else a checked build of its sources. --ssh uses GNU
-parallel (Debian: parallel, and rsync on both sides). SIGINT, SIGTERM and SIGHUP
-end the tool and all processes that it started; finished parts are kept. See
-docs/howto/many_machines.md.
-
-Example:
-  tools/spread scenario.txt --parts 8 --out report.txt
-  tools/spread scenario.txt --ssh 4/alpha,4/beta --program /usr/bin/dnlab \\
-    --out report.txt
-
-Exit status: 0 done; 1 a fault in the scenario (`line L: CAUSE`); 2 wrong usage;
-3 a part failed, a report doesn't match its scenario, memory ran out, or a read
-or write failed. If a signal ends it, the status is that signal's."""
-
-
 def parser_of_words() -> argparse.ArgumentParser:
-    parser = parser_of("spread", __doc__ or "", EXAMPLE)
+    parser = parser_of("spread")
     parser.allow_abbrev = False
     parser.add_argument("scenarios", metavar="SCENARIO", nargs="+",
                         help="a scenario, or - for standard input")

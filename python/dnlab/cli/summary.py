@@ -161,55 +161,8 @@ def sweep_table(rows: Sequence[Row], settings: Sequence[str], exact: bool = Fals
     return lines_of(cells, left)
 
 
-EXAMPLE = """Rows: each flow's segments, each flow's acknowledgements, each train, the
-injected packets (--name names some of them), each pipe and instance (two rows
-if it had packets of both directions), both directions, and all packets.
-Columns:
-  packets    created; for pipes: served
-  delivered  delivered; for pipes: that left the pipe
-  in_flight  in flight at the end (for pipes: in the delay line)
-  bytes      of delivered packets; for pipes: of served packets
-  time       from the first packet's creation to the last delivery; for pipes:
-             from the first arrival to the last finish
-  rate       bytes * 8 over that time, bit/s, rounded down
-  drops      by cause; for pipes only in a report made with --trace: no other
-             line says which pipe lost a packet
-  min, p50, p99, max
-             the time from creation to delivery; for pipes: from arrival to
-             exit. Percentiles are by nearest rank.
-  goodput    bit/s of new data: each byte once, for flows without headers
-  retransmissions
-             segments that were sent again
-  fct        from the flow's command to the delivery of its last missing byte
-  jain       Jain's index over the flows' goodputs, 1 if all are equal
-  ended      `end`, or `spent` with the time at which the steps were spent, and
-             that of the end
-  warnings   possible mistakes: refused, spent, no-way-back, denied, nopipe,
-             budget, unsent, reconfigured, outage, half-duplex,
-             window-limited, unused, units (docs/reference/tools.md explains
-             each)
-Times are printed in ms, and the column's heading says so.
-A missing value is `-` (empty in --csv, null in --json, whose times are in
-nanoseconds). Without --trace, sizes, delays and senders of trains are missing.
-REPORT may also be rows (`dnlab alone --format npy`), which are read faster;
-their experiments have names only with the scenario. --csv and --json have a
-column of drops for each cause, and also the mean and the jitter (RFC 3550) of
-the one-way delay, utilisation (for pipes: the bytes served
-divided by what the rate could have carried), refused (the number of refused
-commands) and their codes, the seed, budgets and params of the experiment, and
-`varied`, the pipe settings that differ between experiments.
-
-Example:
-  ./dnlab alone --trace < scenario.txt | tools/summary - scenario.txt
-  tools/summary report.txt scenario.txt --of 'train *' --percentiles 50,95 \\
-    --by varied --columns p95,goodput
-
-Exit status: 0 printed, 2 wrong usage or a faulty input, 3 something is missing
-on this machine (a package, disk space)."""
-
-
 def words(given: Sequence[str]) -> argparse.Namespace:
-    parser = parser_of("summary", __doc__ or "", EXAMPLE)
+    parser = parser_of("summary")
     add_texts(parser)
     add_names(parser)
     add_of(parser, "only these rows, as 'flow 1', 'train *', 'pipe 1.0' (repeatable) [all]")

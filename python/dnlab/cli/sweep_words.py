@@ -10,58 +10,6 @@ from dnlab.cli.arguments import (Parser, add_design, add_span, add_workers, chec
                                  design_of, is_designed, listed, parser_of, picture, words_in)
 from dnlab.sweeps.grid import DASK, seeds_of, setting_of, value_of
 
-ABOUT = "Runs a template with each setting and seed, and prints means with intervals."
-EXAMPLE = f"""TEMPLATE is a scenario of one experiment in Jinja2 (Debian: python3-jinja2)
-that begins with
-  experiment {{{{ name }}}} seed {{{{ seed }}}} budget 1000
-Each setting is a variable in it. So are
-  name, seed      of the experiment; the name consists of settings and seed
-  rng             random numbers, the same for a seed on every machine:
-                  rng.whole(a, b) (a to b, both included),
-                  rng.uniform(a, b), rng.exponential(mean),
-                  rng.arrivals(mean, end), rng.pareto(shape, least),
-                  rng.choice(list, weights), rng.sample(list, n),
-                  rng.shuffled(list), rng.random()
-  20 | ms         a time in nanoseconds; also s and us
-A value of --set is a number if it can be read as one, else text; floats are
-written without an exponent.
-
---of     flows (all segments together), trains, 'flow 1', 'flow *' (each flow,
-         without its acknowledgements), 'flow 1 acks', 'flow * acks',
-         'train 9', 'train *', injected, 'pipe 1.0', there, back, all
-         [flows, each train and the injected packets]
---stat   for the --of before it, separated by commas:
-         {listed(STATS, indent=9)}
-         (N from 1 to 100)
-         [{",".join(USUAL)}]
-         delay is the time from creation to delivery (for pipes: in the pipe),
-         lost all drops, drops.lost those by plr. FILE.py:NAME is a function
-         of your own: it takes the run (a dnlab.Experiment) and optionally the
-         sender's name, and returns a number
-
-Results are cached in TEMPLATE.kept, by the checksums of the experiment's text,
-the program and this package. The same command therefore continues after an
-interruption, and only new settings, or those that a changed template affects,
-are run. An experiment with a refused command ends the sweep, with the line and
-the reason; so does one whose steps are spent before its end. With --allow
-refused or --allow spent the sweep continues, and the rows have a warning.
-
---on 4/alpha,beta runs through ssh, --on slurm as an array, and
---on dask tcp://HOST:8786 on the workers of a Dask scheduler.
-
-Example:
-  tools/sweep python/examples/bottleneck.tmpl --set queue=10,25,50,100,200 \\
-    --seeds 1-30 --of 'train 9' --stat delay.p50,delay.p95 \\
-    --of flows --stat goodput,lost --csv best.csv --plot best.svg
-  tools/sweep python/examples/bottleneck.tmpl --set queue=10,25,50,100,200 \\
-    --seeds 1-30 --of 'train 9' --stat delay.p95 --of flows --stat goodput \\
-    --plot tradeoff.svg --kind tradeoff --label 'train 9=the call'
-  tools/sweep python/examples/bottleneck.tmpl --set queue=50 --dry-run
-
-Exit status: 0 done; 2 wrong usage, a fault in the template, in a scenario
-made from it or in the arguments, an experiment that did not run as written; 3
-the program failed, or something is missing. SIGINT, SIGTERM and SIGHUP end it
-and all processes that it started, with the signal's status; results are kept."""
 
 
 class Asked(argparse.Action):
@@ -134,7 +82,7 @@ def look_of(given: argparse.Namespace, known: Mapping[str, str] = {}) -> Any:
 
 
 def parser_of_words() -> Parser:
-    parser = parser_of("sweep", ABOUT, EXAMPLE)
+    parser = parser_of("sweep", stats=listed(STATS, indent=9), usual=",".join(USUAL))
     parser.add_argument("template", metavar="TEMPLATE", nargs="?",
                         help="the template's file, or - for standard input; FILE.yaml is a hosts file "
                              "(see tools/hosts)")
