@@ -3,6 +3,7 @@ sleep(1). Runs nothing."""
 import ast
 import operator
 import re
+from fractions import Fraction
 from typing import Callable, Mapping, NamedTuple, Optional, Sequence
 
 from dnlab.errors import ParseError
@@ -253,10 +254,12 @@ class Interpreter:
             raise self.no(f"`$({text[:60]})` isn't executed: write its output") from None
 
 
+# As in C, a quotient is rounded towards 0.
 _SUMS: Mapping[type, Callable[[int, int], int]] = {
     ast.Add: operator.add, ast.Sub: operator.sub, ast.Mult: operator.mul, ast.BitAnd: operator.and_,
-    ast.BitOr: operator.or_,
-    ast.BitXor: operator.xor, ast.LShift: lambda a, b: a << (b & 63), ast.RShift: lambda a, b: a >> (b & 63)}
+    ast.BitOr: operator.or_, ast.BitXor: operator.xor, ast.LShift: lambda a, b: a << (b & 63),
+    ast.RShift: lambda a, b: a >> (b & 63), ast.Div: lambda a, b: int(Fraction(a, b)),
+    ast.Mod: lambda a, b: a - b * int(Fraction(a, b))}
 _COMPARED: Mapping[str, Callable[[int, int], bool]] = {
     "-eq": operator.eq, "-ne": operator.ne, "-lt": operator.lt, "-le": operator.le, "-gt": operator.gt,
     "-ge": operator.ge}
@@ -310,10 +313,9 @@ def sum_of(text: str) -> int:
     if len(text) > _LONGEST:
         raise ValueError(text)
     try:
-        found = _calculated(ast.parse(text, mode="eval").body)
+        return _calculated(ast.parse(text, mode="eval").body)
     except (SyntaxError, ZeroDivisionError, MemoryError):
         raise ValueError(text) from None
-    return _cut(found)
 
 
 def _cut(value: int) -> int:
@@ -325,11 +327,6 @@ def _calculated(tree: ast.AST) -> int:
         return tree.value
     if isinstance(tree, ast.UnaryOp) and isinstance(tree.op, (ast.USub, ast.UAdd)):
         return _cut(_calculated(tree.operand) * (-1 if isinstance(tree.op, ast.USub) else 1))
-    if isinstance(tree, ast.BinOp):
-        left, right = _calculated(tree.left), _calculated(tree.right)
-        if isinstance(tree.op, (ast.Div, ast.Mod)):
-            whole = abs(left) // abs(right) * (1 if (left < 0) == (right < 0) else -1)
-            return left - whole * right if isinstance(tree.op, ast.Mod) else whole
-        if type(tree.op) in _SUMS:
-            return _cut(_SUMS[type(tree.op)](left, right))
+    if isinstance(tree, ast.BinOp) and type(tree.op) in _SUMS:
+        return _cut(_SUMS[type(tree.op)](_calculated(tree.left), _calculated(tree.right)))
     raise ValueError(tree)

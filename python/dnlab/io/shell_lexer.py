@@ -1,6 +1,5 @@
 """Splits a shell script into words and operators, with the parts of each word."""
 import re
-from bisect import bisect_left
 from dataclasses import dataclass
 from typing import NamedTuple
 
@@ -52,10 +51,9 @@ class Lexer:
 
     def __init__(self, text: str, line: int = 1) -> None:
         self.text, self.first = text, line
-        self._feeds = [found.start() for found in re.finditer("\n", text)]
 
     def _line(self, at: int) -> int:
-        return self.first + bisect_left(self._feeds, at)
+        return self.first + self.text.count("\n", 0, at)
 
     def _skipped(self, at: int) -> int:
         blank = _BLANK.match(self.text, at)
@@ -90,19 +88,14 @@ class Lexer:
 
     def _here(self, token: Token, last: Word, at: int) -> int:
         """Reads a here-document. Returns where it ends."""
-        end, lines = "".join(part.text for part in last), list[str]()
-        while at < len(self.text):
-            feed = self.text.find("\n", at)
-            line = self.text[at:feed if feed >= 0 else len(self.text)]
-            at += len(line) + 1
-            line = line.lstrip("\t") if token.operator == "<<-" else line
-            if line == end:
-                text = "".join(f"{one}\n" for one in lines)
-                is_quoted = any(part.quoted for part in last)
-                token.body = (Part("text", text, True),) if is_quoted else parts_of(text, token.line)
-                return at
-            lines.append(line)
-        raise ParseError(token.line, f"the here-document `{end}` doesn't end")
+        end, tabs = "".join(part.text for part in last), "\t*" * (token.operator == "<<-")
+        found = re.compile(rf"(.*?)^{tabs}{re.escape(end)}(\n|\Z)", re.S | re.M).match(self.text, at)
+        if found is None:
+            raise ParseError(token.line, f"the here-document `{end}` doesn't end")
+        text = re.sub("^\t+", "", found[1], flags=re.M) if tabs else found[1]
+        is_quoted = any(part.quoted for part in last)
+        token.body = (Part("text", text, True),) if is_quoted else parts_of(text, token.line)
+        return found.end()
 
     def _word(self, at: int) -> tuple[Word, int]:
         """Returns a word, and where it ends."""
