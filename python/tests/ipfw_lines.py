@@ -1,7 +1,6 @@
 """Lines of ipfw as tools/from-ipfw imports them."""
-from dnlab.io.ipfw_script import Translation
-from dnlab.io.ipfw_import import Import
-from dnlab.io.ipfw_script import Line
+from dnlab.io.ipfw_import import Import, Translation
+from dnlab.io.ipfw_words import Line
 
 
 def imported(*lines: str, **more: object) -> list[Translation]:

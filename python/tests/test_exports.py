@@ -8,7 +8,7 @@ import pytest
 from conftest import ROOT, tool
 
 from dnlab.io.ipfw_import import Import
-from dnlab.io.ipfw_script import lines_of
+from dnlab.io.ipfw_words import lines_of
 
 HEAD = "experiment a seed 1 budget 100\n"
 SCENARIO = HEAD + """@0 pipe 1 config bw 10Mbit/s delay 20 queue 200 plr 0.01

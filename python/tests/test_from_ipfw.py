@@ -11,7 +11,7 @@ from conftest import tool
 from ipfw_lines import became, imported
 
 from dnlab.io.ipfw_import import Import
-from dnlab.io.ipfw_script import lines_of
+from dnlab.io.ipfw_words import lines_of
 from dnlab.io.ipfw_words import APPROXIMATED, DROPPED, REFUSED, REWRITTEN, SAME
 
 FOLDER = Path(__file__).parent / "ipfw"

@@ -11,9 +11,8 @@ from dnlab.errors import InputError, ParseError, reading
 from dnlab.io import tc_export
 from dnlab.io.files import whole_file
 from dnlab.io.ipfw_export import Machine, chosen, script_of, setting_of
-from dnlab.io.ipfw_import import Import
-from dnlab.io.ipfw_script import Translation, lines_of, scenario_of
-from dnlab.io.ipfw_words import APPROXIMATED, REFUSED
+from dnlab.io.ipfw_import import Import, Translation, scenario_of
+from dnlab.io.ipfw_words import APPROXIMATED, REFUSED, lines_of
 from dnlab.io.scenario import Judged, read
 from dnlab.io.scenario_parts import Plan
 from dnlab.io.tc_export import Place

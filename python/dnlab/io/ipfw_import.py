@@ -1,18 +1,28 @@
-"""Translates lines of ipfw(8) into commands of a scenario."""
+"""Translates lines of ipfw(8) into commands of a scenario, and the scenario that they become."""
 import re
 from collections import Counter
+from dataclasses import dataclass
 from decimal import Decimal
 from typing import Mapping, Optional, Sequence
 
-from dnlab.io import ipfw_rules, ipfw_script, ipfw_words
+from dnlab.io import ipfw_rules, ipfw_words
 from dnlab.io.ipfw_rules import Known
-from dnlab.io.ipfw_script import Line, Translation
-from dnlab.io.ipfw_words import (APPROXIMATED, DROPPED, KINDS, REFUSED, REWRITTEN, SAME, How, Unmatchable,
-                                 UnsupportedError)
+from dnlab.io.ipfw_words import (APPROXIMATED, DROPPED, KINDS, REFUSED, REWRITTEN, SAME, How, Line,
+                                 Unmatchable, UnsupportedError)
 
-_LAST = 65534
-_MOST_RULES, _MOST_PIPES = 256, 64
+_LAST, _MOST_RULES, _MOST_PIPES = 65534, 256, 64
 _TICKS = "not modelled: a real machine rounds to ticks of 1/kern.hz, here time is whole nanoseconds"
+
+
+@dataclass(frozen=True)
+class Translation:
+    """A line of ipfw, its kind (`same`, `rewritten`, `approximated`, `dropped`, `refused`), the scenario
+    commands that it became, without their time, and what that costs or why it is refused."""
+    text: str
+    kind: str
+    moment: int
+    commands: tuple[str, ...] = ()
+    said: tuple[str, ...] = ()
 
 
 class Import:
@@ -20,8 +30,7 @@ class Import:
     replaces queues by their pipes; `drop_unmatchable` leaves out rules that match no packet of a scenario."""
 
     def __init__(self, behind: Mapping[str, str], me: Optional[str] = None, flatten: bool = False,
-                 drop_unmatchable: bool = False,
-                 moment: int = 0) -> None:
+                 drop_unmatchable: bool = False, moment: int = 0) -> None:
         self.behind, self.me = dict(behind), me
         self.flatten, self.drop_unmatchable = flatten, drop_unmatchable
         self.moment = moment
@@ -36,11 +45,9 @@ class Import:
         self._around: set[int] = set()
         self._step = 100
         self._one_pass = True
-        # Pipes that a later line configures, and whether packets continue after a pipe although one_pass is 1
-        # (for `prob .. deny`).
-        self._later: set[int] = set()
-        self._goes_on = False
-        self._off: set[str] = set()
+        # Pipes that a later line configures, whether packets continue after a pipe although one_pass is 1
+        # (for `prob .. deny`), and sets that are disabled.
+        self._later, self._goes_on, self._off = set[int](), False, set[str]()
 
     def take_all(self, lines: Sequence[Line]) -> None:
         """Translates all lines. Sets that are disabled anywhere, pipes and random denials are known from the
@@ -51,10 +58,10 @@ class Import:
                 self._off |= set(words[2:words.index("enable") if "enable" in words else None])
             if words[:1] == ["pipe"] and "config" in words[1:3]:
                 self._later |= {int(word) for word in words[1:3] if word.isdigit()}
-        zeros = (["net.inet.ip.fw.one_pass=0"], ["disable", "one_pass"])
-        self._goes_on = any(words[:1] == ["add"] and {"prob", "deny"} <= set(words)
-                            for words in bare) and not any(
-            words[-len(zero):] == zero for words in bare for zero in zeros)
+        is_zero = any(words[-1:] == ["net.inet.ip.fw.one_pass=0"] or words[-2:] == ["disable", "one_pass"]
+                      for words in bare)
+        self._goes_on = not is_zero and any(words[:1] == ["add"] and {"prob", "deny"} <= set(words)
+                                            for words in bare)
         for line in lines:
             self.take(line)
 
@@ -93,8 +100,7 @@ class Import:
         self.moment += int(Decimal(words[0].rstrip("s")) * 10**9)
 
     def _say(self, how: How) -> str:
-        if how.cost:
-            self._costs.append(how.cost)
+        self._costs += filter(None, [how.cost])
         return how.words
 
     def _sysctl(self, words: list[str]) -> Optional[list[str]]:
@@ -109,9 +115,7 @@ class Import:
 
     def _one_pass_is(self, value: str) -> list[str]:
         self._one_pass = value == "1"
-        if self._goes_on:
-            return []
-        return [f"one_pass {value}"]
+        return [] if self._goes_on else [f"one_pass {value}"]
 
     def _ipfw(self, words: list[str]) -> Optional[list[str]]:
         if not words:
@@ -274,10 +278,8 @@ class Import:
         if rule.is_void or rule.group in self._off:
             return None
         self._costs += rule.costs
-        before: list[str] = []
-        if rule.share:
-            before = self._by_chance(rule)
-        commands = ipfw_script.commands_of(rule, number, known)
+        before = self._by_chance(rule) if rule.share else []
+        commands = ipfw_rules.commands_of(rule, number, known)
         if self._goes_on and rule.action.startswith("pipe ") and not rule.share:
             # A rule of its own allows what leaves the pipe, as one_pass 1 would.
             commands = [each for one in commands
@@ -321,3 +323,27 @@ class Import:
         self._costs.append(
             f"`prob` as pipe {pipe}, which loses this share: it has its own random numbers, and takes 1 ns")
         return [*(["one_pass 0"] if self._one_pass else []), f"pipe {pipe} config plr {share} queue 1000"]
+
+
+def scenario_of(became: Sequence[Translation], head: str, traffic: Sequence[tuple[int, str]],
+                end: int) -> str:
+    """Returns a scenario: each line of ipfw that is not the same is a comment before its translation; then
+    the commands of `traffic`, each with its time, merged by time."""
+    parts: list[tuple[int, str]] = []
+    for one in became:
+        above = ("" if one.kind == SAME
+                 else f"# {'refused' if one.kind == REFUSED else 'ipfw'}: {_printable(one.text)}\n")
+        parts.append((one.moment, above + "".join(f"@{one.moment} {command}\n" for command in one.commands)))
+    parts += [(moment, f"@{moment} {words}\n") for moment, words in traffic]
+    body = "".join(text for _, text in sorted(parts, key=lambda part: part[0]))
+    return f"{head}\n{body}@{end} end\n"
+
+
+def _printable(text: str) -> str:
+    """Returns text for a comment: printable ASCII, short enough for a line.
+
+    >>> _printable("caf\\u00e9")
+    'caf?'
+    """
+    shown = re.sub(r"[^ -~]", "?", text)
+    return shown if len(shown) <= 480 else shown[:476] + " .."

@@ -1,4 +1,5 @@
-"""Parses the rules of ipfw(8), after `add`. `ipfw_spread` writes them as rules of a scenario."""
+"""Parses the rules of ipfw(8), after `add`, and writes them as rules of a scenario."""
+import itertools
 import re
 import socket
 from dataclasses import dataclass, field
@@ -8,19 +9,20 @@ from dnlab.io.ipfw_words import Unmatchable, UnsupportedError, address, narrowed
 
 ACTIONS = {"allow": "allow", "accept": "allow", "pass": "allow", "permit": "allow", "deny": "deny",
            "drop": "deny", "count": "count"}
-_ANSWERS = {"reset": 0, "reset6": 0, "reject": 0, "unreach": 1, "unreach6": 1}
+# Actions that become another: it, the number of words that follow, and what is lost.
+_BECOMES = {"tee": ("count", 1, "nobody gets the copy"),
+            **dict.fromkeys(("reset", "reset6", "reject"), ("deny", 0, "there is no reply")),
+            **dict.fromkeys(("unreach", "unreach6"), ("deny", 1, "there is no reply"))}
 _NUMBERED = ("skipto", "pipe", "queue")
+# The maximum number of rules of an experiment.
+_MOST = 256
 _BOTH = {"tcp", "udp"}
 _PROTOCOLS = {"ip": _BOTH, "all": _BOTH, "ip4": _BOTH, "ipv4": _BOTH, "tcp": {"tcp"}, "6": {"tcp"},
               "udp": {"udp"}, "17": {"udp"}}
 _OTHERS = {"icmp", "ip6", "ipv6", "icmp6", "ipv6-icmp", "igmp", "esp", "ah", "gre", "ospf", "pim", "sctp",
            "carp", "vrrp", "ipencap"}
-# Properties that no packet has here, so their opposite always matches.
-_NEVER = {"layer2", "frag"}
-_NO_FLAGS = "packets here have no flags, no fragments and no owners"
-_LACKING = {"established": _NO_FLAGS, "frag": _NO_FLAGS, "tcpflags": _NO_FLAGS, "iptos": _NO_FLAGS,
-            "ipttl": _NO_FLAGS, "uid": _NO_FLAGS, "gid": _NO_FLAGS, "mac": _NO_FLAGS, "MAC": _NO_FLAGS,
-            "layer2": _NO_FLAGS, "ipoptions": _NO_FLAGS, "tcpoptions": _NO_FLAGS}
+_LACKING = {"established", "frag", "tcpflags", "iptos", "ipttl", "uid", "gid", "mac", "MAC", "layer2",
+            "ipoptions", "tcpoptions"}
 
 
 @dataclass(frozen=True)
@@ -63,12 +65,8 @@ def read(words: Sequence[str], known: Known) -> Rule:
     left = list(words[:words.index("//")] if "//" in words else words)
     rule = Rule()
     while left and left[0] in ("set", "prob"):
-        name = left.pop(0)
-        value = _take(left, "a number")
-        if name == "set":
-            rule.group = value
-        else:
-            rule.share = value
+        name = {"set": "group", "prob": "share"}[left.pop(0)]
+        setattr(rule, name, _take(left, "a number"))
     _action(rule, left, known)
     if rule.is_void:
         return rule
@@ -91,21 +89,16 @@ def _action(rule: Rule, words: list[str], known: Known) -> None:
         rule.is_void = True
     elif action in ACTIONS:
         rule.action = ACTIONS[action]
-    elif action == "tee":
-        _take(words, "a port")
-        rule.action = "count"
-        rule.costs.append("`tee` becomes count: nobody gets the copy")
-    elif action in _ANSWERS:
-        del words[:_ANSWERS[action]]
-        rule.action = "deny"
-        rule.costs.append(f"`{action}` becomes deny: there is no reply")
+    elif action in _BECOMES:
+        rule.action, count, lost = _BECOMES[action]
+        del words[:count]
+        rule.costs.append(f"`{action}` becomes {rule.action}: {lost}")
     elif action in _NUMBERED:
         number = _take(words, "a number")
         if action == "queue":
             if number not in map(str, known.queues):
-                raise UnsupportedError(
-                    f"`queue {number}`: weighted queues (WF2Q+) are not supported: --flatten uses "
-                    "the pipe instead")
+                raise UnsupportedError(f"`queue {number}`: weighted queues (WF2Q+) are not supported: "
+                                       "--flatten uses the pipe instead")
             rule.costs.append(f"`queue {number}` is replaced by its pipe: the weights are lost")
             action, number = "pipe", str(known.queues[int(number)])
         if not number.isdigit() and not (action == "pipe" and number == "tablearg"):
@@ -121,8 +114,7 @@ def _action(rule: Rule, words: list[str], known: Known) -> None:
 
 def _protocol(rule: Rule, words: list[str]) -> None:
     """Parses a protocol, its opposite, or a group, and keeps the part that TCP and UDP can match."""
-    if words[:1] == ["proto"]:
-        words.pop(0)
+    del words[:words[:1] == ["proto"]]
     is_not = words[:1] == ["not"]
     del words[:is_not]
     first = _take(words, "a protocol")
@@ -131,9 +123,7 @@ def _protocol(rule: Rule, words: list[str]) -> None:
     matched = _BOTH - matched if is_not else matched
     left = matched & (_BOTH if rule.protocols == ["ip"] else {*rule.protocols})
     if not left:
-        raise Unmatchable(
-            f"`{'not ' * is_not}{' or '.join(names)}`: packets here are TCP or UDP, so the rule matches "
-            "nothing: --drop-unmatchable leaves it out")
+        raise Unmatchable(f"{'not ' * is_not}{' or '.join(names)}")
     rule.protocols = ["ip"] if left == _BOTH else sorted(left)
 
 
@@ -186,89 +176,80 @@ def _addresses(rule: Rule, words: list[str], known: Known) -> list[str]:
     if rule.table:
         return found
     # An address within another would be matched twice.
-    return [one for place, one in enumerate(found)
+    return [one for one in dict.fromkeys(found)
             if not any(network(one) != network(other) and network(one).subnet_of(network(other))
-                       or (one == other and place > after)
-                       for after, other in enumerate(found))]
+                       for other in found)]
 
 
 def _side(rule: Rule, words: list[str], side: int, known: Known) -> None:
-    if words and words[0] == "not":
-        words.pop(0)
-        rule.excluded.append((side, _addresses(rule, words, known)))
-        if rule.table:
-            rule.table = ""
-    else:
-        rule.sides[side] = _addresses(rule, words, known)
-    if words and re.match(r"[0-9]", words[0]):
-        rule.ports[side] = ports(words.pop(0))
-    elif len(words) > 1 and words[0] == "not" and re.match(r"[0-9]", words[1]):
-        rule.excluded.append((2 + side, ports(words[1])))
-        del words[:2]
-    elif words and side == 0 and words[0] != "to":
-        rule.ports[side] = ports(words.pop(0))
+    is_not = words[:1] == ["not"]
+    del words[:is_not]
+    _restrict(rule, side, _addresses(rule, words, known), is_not)
+    rule.table = "" if is_not else rule.table
+    is_not = len(words) > 1 and words[0] == "not" and words[1][0].isdigit()
+    del words[:is_not]
+    if words and (words[0][0].isdigit() or side == 0 and words[0] != "to"):
+        _restrict(rule, 2 + side, ports(words.pop(0)), is_not)
 
 
 def _option(rule: Rule, words: list[str], known: Known) -> None:
-    name = words.pop(0)
-    if name == "not":
-        _opposite(rule, words, known)
-    elif name in ("dst-port", "src-port"):
-        rule.ports[name == "dst-port"] = ports(_take(words, "a port"))
+    """Parses an option, or the opposite of one."""
+    is_not = words[0] == "not"
+    del words[:is_not]
+    name = _take(words, "an option")
+    side = int(name.startswith("dst"))
+    if name in ("dst-port", "src-port"):
+        _restrict(rule, 2 + side, ports(_take(words, "a port")), is_not)
     elif name in ("dst-ip", "src-ip"):
-        if rule.sides[name == "dst-ip"] != ["any"]:
+        if not is_not and rule.sides[side] != ["any"]:
             raise UnsupportedError(
                 f"`{name}` with another address of the same side is not supported: write one")
-        rule.sides[name == "dst-ip"] = _addresses(rule, words, known)
+        _restrict(rule, side, _addresses(rule, words, known), is_not)
     elif name == "proto":
+        words[:0] = ["not"] * is_not
         _protocol(rule, words)
     elif name in ("in", "out"):
-        _direction(rule, words, name, known)
+        turned = {"in": "out", "out": "in"}[name]
+        _direction(rule, [] if is_not else words, turned if is_not else name, known)
+    elif is_not:
+        if name not in ("layer2", "frag"):  # No packet has these here, so their opposite always matches.
+            raise UnsupportedError(f"`not {name}` is not supported here")
     elif name in ("via", "recv", "xmit"):
         _interface(rule, {"via": "", "recv": "in", "xmit": "out"}[name], _take(words, "an interface"), known)
-    elif name == "setup":
-        if rule.action == "deny":
-            raise UnsupportedError(
-                "`deny .. setup`: without flags the whole connection would be denied: deny its addresses "
-                "and ports instead")
-        rule.costs.append("`setup` left out: the rule matches all packets of the connection")
     elif name in ("keep-state", "limit"):
-        _state(rule, words, name)
+        if name == "limit":
+            _take(words, "whose number is limited")
+            _take(words, "a number")
+            rule.costs.append("`limit` left out: any number of connections")
+        del words[:bool(words) and words[0].startswith(":")]
+        rule.both = True
+        rule.costs.append("a second rule for the return path: it also accepts unsolicited packets")
+    else:
+        _other(rule, name)
+
+
+def _restrict(rule: Rule, place: int, found: list[str], is_not: bool) -> None:
+    """Sets the addresses (0, 1) or ports (2, 3) of source and destination, or excludes them."""
+    if is_not:
+        rule.excluded.append((place, found))
+    else:
+        (rule.sides if place < 2 else rule.ports)[place % 2] = found
+
+
+def _other(rule: Rule, name: str) -> None:
+    """Judges an option that no packet of a scenario has."""
+    if name == "setup" and rule.action != "deny":
+        rule.costs.append("`setup` left out: the rule matches all packets of the connection")
+    elif name == "setup":
+        raise UnsupportedError("`deny .. setup`: without flags the whole connection would be denied: deny "
+                               "its addresses and ports instead")
     elif name in ("icmptypes", "icmp6types"):
-        raise Unmatchable(
-            f"`{name}`: packets here are TCP or UDP, so the rule matches nothing: "
-            "--drop-unmatchable leaves it out")
+        raise Unmatchable(name)
     elif name in _LACKING:
-        raise UnsupportedError(
-            f"`{name}`: {_LACKING[name]}: leave the rule out, or write its purpose as addresses and ports")
+        raise UnsupportedError(f"`{name}`: packets here have no flags, no fragments and no owners: leave the "
+                               "rule out, or write its purpose as addresses and ports")
     else:
         raise UnsupportedError(f"`{name}` is not supported here")
-
-
-def _opposite(rule: Rule, words: list[str], known: Known) -> None:
-    """Parses what follows `not`."""
-    name = _take(words, "an option")
-    if name in ("dst-port", "src-port"):
-        rule.excluded.append((3 if name == "dst-port" else 2, ports(_take(words, "a port"))))
-    elif name in ("dst-ip", "src-ip"):
-        rule.excluded.append((int(name == "dst-ip"), _addresses(rule, words, known)))
-    elif name == "proto":
-        _protocol(rule, ["not", *[words.pop(0) for _ in words[:1]]])
-    elif name in ("in", "out"):
-        _direction(rule, [], "out" if name == "in" else "in", known)
-    elif name not in _NEVER:
-        raise UnsupportedError(f"`not {name}` is not supported here")
-
-
-def _state(rule: Rule, words: list[str], name: str) -> None:
-    if name == "limit":
-        _take(words, "whose number is limited")
-        _take(words, "a number")
-        rule.costs.append("`limit` left out: any number of connections")
-    elif words and words[0].startswith(":"):
-        words.pop(0)
-    rule.both = True
-    rule.costs.append("a second rule for the return path: it also accepts unsolicited packets")
 
 
 def _direction(rule: Rule, words: list[str], name: str, known: Known) -> None:
@@ -288,10 +269,9 @@ def _direction(rule: Rule, words: list[str], name: str, known: Known) -> None:
 
 def _other_way(rule: Rule) -> str:
     """Returns what it costs to leave out a direction."""
-    if not all("any" in side for side in rule.sides):
-        return ""
     does = "go through this pipe" if rule.action.startswith("pipe") else "match"
-    return f"; packets the other way now {does} too: narrow the source or destination"
+    return (f"; packets the other way now {does} too: narrow the source or destination"
+            if all("any" in side for side in rule.sides) else "")
 
 
 def _interface(rule: Rule, direction: str, name: str, known: Known) -> None:
@@ -304,10 +284,8 @@ def _interface(rule: Rule, direction: str, name: str, known: Known) -> None:
             f"--if {name}=any")
     behind = known.behind[name]
     if behind == "any":
-        rule.costs.append(
-            f"`{f'{direction} .. ' if direction else 'via '}{name}` left out, because any address "
-            f"is behind {name}"
-            + (_other_way(rule) if direction else ""))
+        shown, more = (f"{direction} ..", _other_way(rule)) if direction else ("via", "")
+        rule.costs.append(f"`{shown} {name}` left out, because any address is behind {name}{more}")
         return
     if not direction:
         rule.either = behind
@@ -317,7 +295,56 @@ def _interface(rule: Rule, direction: str, name: str, known: Known) -> None:
     parts = [narrowed(one, behind) for one in rule.sides[side]]
     rule.sides[side] = [one for one, _ in parts]
     what = ("source", "destination")[side]
-    rule.costs.append(
-        f"`{direction} .. {name}` replaced by its {what} address: a packet passes the rules once here, on "
-        "a router twice"
-        + ("" if all(inside for _, inside in parts) else f"; no {what} of it is behind {name}"))
+    more = "" if all(inside for _, inside in parts) else f"; no {what} of it is behind {name}"
+    rule.costs.append(f"`{direction} .. {name}` replaced by its {what} address: a packet passes the rules "
+                      f"once here, on a router twice{more}")
+
+
+def _spread(rule: Rule, number: int, action: str, places: Sequence[Sequence[str]]) -> list[str]:
+    """Returns a rule for each protocol, address and port, and with `both` one for the way back."""
+    made = []
+    for protocol, *ends in itertools.product(rule.protocols, *places):
+        for source, target, out, into in (ends, [ends[1], ends[0], ends[3], ends[2]])[:1 + rule.both]:
+            made.append(f"add {number} {action} {protocol} from {f'{source} {out}'.strip()} to "
+                        f"{f'{target} {into}'.strip()}")
+    return made
+
+
+def commands_of(rule: Rule, number: int, known: Known) -> list[str]:
+    """Returns the `add` commands of a rule, all with its number."""
+    wanted = [[*rule.sides, *rule.ports]]
+    if rule.either:
+        behind = [[narrowed(one, rule.either)[0] for one in side] for side in rule.sides]
+        wanted = [[behind[0], rule.sides[1], *rule.ports], [rule.sides[0], behind[1], *rule.ports]]
+    if rule.excluded and (rule.both or rule.table):
+        raise UnsupportedError(
+            "`not` with `keep-state` or a table is not supported: write the intended rules")
+    made: list[str] = []
+    for places in wanted:
+        for place, excluded in rule.excluded:
+            made += _spread(rule, number, f"skipto {number + 1}",
+                            [excluded if one == place else places[one] for one in range(4)])
+        made += _valued(rule, number, places, known)
+    if len(made) > _MOST:
+        raise UnsupportedError(
+            f"it needs {len(made)} rules, but an experiment has {_MOST}: write prefixes and ranges")
+    return made
+
+
+def _valued(rule: Rule, number: int, places: Sequence[Sequence[str]], known: Known) -> list[str]:
+    """Returns the rules themselves; with `tablearg` each entry goes to the pipe of its value."""
+    if rule.action != "pipe tablearg":
+        return _spread(rule, number, rule.action, places)
+    if not rule.table:
+        raise UnsupportedError("`pipe tablearg`: the rule has no table")
+    entries = known.tables[rule.table]
+    side = next(side for side in (0, 1) if set(places[side]) >= set(entries))
+    made: list[str] = []
+    for entry in places[side]:
+        value = entries.get(entry, "")
+        if not value.isdigit() or not int(value):
+            raise UnsupportedError(
+                f"`pipe tablearg`: the entry {entry} of table {rule.table} has no pipe's number")
+        made += _spread(rule, number, f"pipe {int(value)}",
+                        [[entry] if one == side else places[one] for one in range(4)])
+    return made
