@@ -1,7 +1,7 @@
 """The exceptions and warnings of the package, and the exit statuses and messages that commands derive from
 them."""
 from contextlib import contextmanager
-from typing import Any, Iterable, Iterator, NamedTuple, Sequence
+from typing import Iterable, Iterator, NamedTuple, Sequence
 
 
 class ParseError(Exception):
@@ -146,9 +146,6 @@ class Failing(NamedTuple):
     def line(self) -> str:
         return (f"FAILS  {self.mark}: experiment {self.experiment}: {self.said} (--allow "
                 f"{self.mark} permits it)")
-
-    def record(self) -> dict[str, Any]:
-        return self._asdict()
 
 
 def failing(notes: Iterable[tuple[str, Note]], allowed: Sequence[str] = ()) -> list[Failing]:

@@ -41,12 +41,9 @@ class Loop:
             wanted = min(until, self._timers[0][0]) if self._timers else until
             if wanted == LATEST and self.link.next_due() is None and not self._timers:
                 return
-            self._deliver(self.link.until_mine(max(wanted, self.now), hold))
-
-    def _deliver(self, events: list[Event]) -> None:
-        for event in events:
-            if event.packet is not None and not event.cause and event.packet.target in self._hosts:
-                self._hosts[event.packet.target](event)
+            for event in self.link.until_mine(max(wanted, self.now), hold):
+                if event.packet is not None and not event.cause and event.packet.target in self._hosts:
+                    self._hosts[event.packet.target](event)
 
 
 class _Player:

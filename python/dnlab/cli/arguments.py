@@ -7,7 +7,7 @@ import textwrap
 from contextlib import contextmanager
 from fractions import Fraction
 from pathlib import Path
-from typing import TYPE_CHECKING, Any, Callable, Iterable, Iterator, Mapping, NoReturn, TextIO, TypeVar, cast
+from typing import TYPE_CHECKING, Any, Callable, Iterable, Iterator, NoReturn, TextIO, TypeVar, cast
 
 from dnlab import __version__
 from dnlab.analysis.quantities import TIMES
@@ -124,17 +124,12 @@ def renamed(text: str) -> str:
     return re.sub(r"\btools/(?=[a-z]+\b)", "dnlab-", text).replace("./dnlab ", "dnlab ")
 
 
-def help_of(name: str, filled: Mapping[str, str] = {}) -> tuple[str, str]:
-    """Returns what a command does, and the rest of its help, by its file in `help/`. There `[[NAME]]` stands
-    for a text of `filled`."""
+def parser_of(name: str, **filled: str) -> Parser:
+    """Returns a parser whose help is the command's file in `help/`. There `[[NAME]]` stands for a text of
+    `filled`."""
     text = (Path(__file__).parent / "help" / f"{name}.txt").read_text()
     about, _, more = text.rstrip("\n").partition("\n\n")
-    return about, re.sub(r"\[\[(\w+)\]\]", lambda found: filled[found[1]], more)
-
-
-def parser_of(name: str, **filled: str) -> Parser:
-    """Returns a parser whose help is that of `help_of`."""
-    about, more = help_of(name, filled)
+    more = re.sub(r"\[\[(\w+)\]\]", lambda found: filled[found[1]], more)
     prog = f"tools/{name}" if is_repository() else f"dnlab-{name}"
     parser = Parser(prog=prog, description=about, epilog=more,
                     formatter_class=argparse.RawDescriptionHelpFormatter)
@@ -351,9 +346,3 @@ def design_of(given: argparse.Namespace) -> Any:
     made = Design(given.title, dict(given.label), given.size, given.font or "", given.style, given.legend)
     made.rc()
     return made
-
-
-def is_designed(given: argparse.Namespace) -> bool:
-    """Returns whether an option changes how the picture looks."""
-    return (bool(given.label or given.size or given.font or given.style) or given.title is not None
-            or given.legend != "right")

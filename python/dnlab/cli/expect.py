@@ -72,18 +72,15 @@ def github_annotations(judged: Sequence[Judged], failed: Sequence[Failing]) -> I
     """Returns a GitHub Actions workflow command for each failure, with its file and line if known."""
     for case in _cases(judged, failed):
         if case.failed:
-            place = [f"{name}={_property(str(value))}"
+            place = [f"{name}={_quoted(value, '%,:')}"
                      for name, value in (("file", case.file), ("line", case.line)) if value is not None]
-            yield ("::error "
-                   f"{','.join([*place, 'title=dnlab-expect'])}::{_data(f'{case.name}: {case.failed}')}")
+            text = _quoted(f"{case.name}: {case.failed}", "%")
+            yield f"::error {','.join([*place, 'title=dnlab-expect'])}::{text}"
 
 
-def _data(text: str) -> str:
-    return text.replace("%", "%25").replace("\r", "%0D").replace("\n", "%0A")
-
-
-def _property(text: str) -> str:
-    return _data(text).replace(":", "%3A").replace(",", "%2C")
+def _quoted(value: object, characters: str) -> str:
+    """Returns a text with these characters, and ends of lines, as %XX."""
+    return re.sub(f"[{characters}\r\n]", lambda found: f"%{ord(found[0]):02X}", str(value))
 
 
 def words(given: Sequence[str]) -> argparse.Namespace:
@@ -165,7 +162,7 @@ def show(judged: Sequence[Judged], failed: Sequence[Failing], given: argparse.Na
     if given.json:
         holds = not failed and all(one.holds for one in judged)
         print(json.dumps({"holds": holds, "bounds": [one.record() for one in judged],
-                          "failing": [one.record() for one in failed]}, indent=1))
+                          "failing": [one._asdict() for one in failed]}, indent=1))
         return
     is_coloured = (given.color == "always" or given.color == "auto" and sys.stdout.isatty()
                    and not os.environ.get("NO_COLOR"))

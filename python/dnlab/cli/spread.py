@@ -89,9 +89,8 @@ def text_of(name: str) -> bytes:
         raise RunFailedError(2, f"spread: {name}: {refused}\n") from None
 
 
-def count_commands(program: str, text: bytes) -> "Fault | tuple[int, int]":
-    """Returns the number of experiments and commands, as counted by `dnlab check`, or the fault. Raises
-    `RunFailedError` for any other answer."""
+def fault_of(program: str, text: bytes) -> Optional[Fault]:
+    """Returns the fault that `dnlab check` finds. Raises `RunFailedError` for any other answer."""
     done = subprocesses.run([program, "check"], text)
     said = done.said()
     number, _, cause = said[5:].partition(": ")
@@ -99,44 +98,37 @@ def count_commands(program: str, text: bytes) -> "Fault | tuple[int, int]":
         return Fault(int(number), cause)
     if done.status != 0:
         raise RunFailedError(done.status if done.status in (1, 3) else 3, said + "\n")
-    fields = done.out.split()
-    if len(fields) != 3 or fields[0] != b"ok" or not (fields[1] + fields[2]).isdigit():
-        raise RunFailedError(3, f"spread: {program} check answered {done.out[:60]!r}\n")
-    return int(fields[1]), int(fields[2])
+    return None
 
 
-def check_text(program: str, text: bytes, parts: Sequence[Part],
-               names: set[str]) -> "Fault | tuple[int, int]":
-    """Like `count_commands`, for a scenario of any length, which is checked in as many pieces as the
+def check_text(program: str, text: bytes, parts: Sequence[Part], names: set[str]) -> Optional[Fault]:
+    """Returns the first fault of a scenario of any length, which is checked in as many pieces as the
     program's limits require. An experiment name that another file has is also a fault."""
     if len(text) <= MOST_BYTES and len(parts) <= MOST_EXPERIMENTS:
-        found = count_commands(program, text)
-        return first_fault(found, repeated(parts, names))
+        return first_fault(fault_of(program, text), repeated(parts, names))
     head = Judged(text[:next(lines_in(text), (len(text), b"", 0))[0]], limited=False).fault
     if head:
         return Fault(*head)
-    experiments = commands = 0
     pieces = texts_of(parts)
     for place, piece in enumerate(pieces):
         own = b"".join(part.text for part in piece)
         if len(own) > MOST_BYTES:
             return Fault(piece[0].line, "toobig")
-        found = count_commands(program, own)
-        if isinstance(found, Fault):
+        found = fault_of(program, own)
+        if found is not None:
             found = Fault(found.line + piece[0].line - 1, found.cause)
             if found.cause == "noend" and place + 1 < len(pieces):
                 # The next heading: its own options are checked before a missing `end`.
                 found = Fault(found.line, heading_fault(pieces[place + 1][0].text) or "noend")
         found = first_fault(found, repeated(piece, names))
-        if isinstance(found, Fault):
+        if found is not None:
             return found
-        experiments, commands = experiments + found[0], commands + found[1]
-    return experiments, commands
+    return None
 
 
-def first_fault(found: "Fault | tuple[int, int]", again: Optional[Part]) -> "Fault | tuple[int, int]":
+def first_fault(found: Optional[Fault], again: Optional[Part]) -> Optional[Fault]:
     """Returns the first of a fault and a repeated name."""
-    if again is None or (isinstance(found, Fault) and found.line <= again.line):
+    if again is None or (found is not None and found.line <= again.line):
         return found
     return Fault(again.line, "samename")
 
@@ -150,14 +142,9 @@ def experiments_of(args: argparse.Namespace, program: str) -> list[Part]:
         text = text_of(name)
         parts = experiments_in([text])
         found = check_text(program, text, parts, names)
-        if isinstance(found, Fault):
+        if found is not None:
             said = f"line {found.line}: {found.cause}\n"
             raise RunFailedError(1, said if len(args.scenarios) == 1 else f"{name}: {said}")
-        own = len(parts), sum(part.commands for part in parts)
-        if own != found:
-            raise RunFailedError(3,
-                                 f"spread: {program} counts {found[0]} experiments and {found[1]} commands, "
-                                 "but spread counts others\n")
         everything += parts
     return everything
 

@@ -1,15 +1,14 @@
 """The arguments of `dnlab-sweep`."""
 import argparse
 import os
-from typing import Any, Mapping, Optional, Sequence
+from typing import Any, Iterator, Mapping, Optional, Sequence
 
 from dnlab.analysis.quantities import KINDS
 from dnlab.errors import STOPPING
 from dnlab.analysis.statistics import STATS, USUAL, StatRequest, stats_of
 from dnlab.cli.arguments import (Parser, add_design, add_span, add_workers, checked, checked_span, count_of,
-                                 design_of, is_designed, listed, parser_of, picture, words_in)
+                                 design_of, listed, parser_of, picture, words_in)
 from dnlab.sweeps.grid import DASK, seeds_of, setting_of, value_of
-
 
 
 class Asked(argparse.Action):
@@ -26,13 +25,19 @@ class Asked(argparse.Action):
             given.asks = [*before, StatRequest(last.of, last.stats + value)]
 
 
-def level_of(text: str) -> float:
+def _between(text: str, most: float, what: str) -> float:
+    """Returns a number between 0 and `most`."""
     try:
-        level = float(text)
+        number = float(text)
     except ValueError:
-        level = 0
-    if not 0 < level < 100:
-        raise argparse.ArgumentTypeError(f"{text!r} is not a level between 0 and 100, as 95")
+        number = 0
+    if not 0 < number < most:
+        raise ValueError(what)
+    return number
+
+
+def level_of(text: str) -> float:
+    level = _between(text, 100, f"{text!r} is not a level between 0 and 100, as 95")
     return int(level) if level.is_integer() else level
 
 
@@ -42,13 +47,8 @@ def share_of(text: str) -> float:
     >>> share_of("5%"), share_of("0.5")
     (0.05, 0.005)
     """
-    try:
-        share = float(text.removesuffix("%")) / 100
-    except ValueError:
-        share = 0
-    if not 0 < share < 1:
-        raise argparse.ArgumentTypeError(f"{text!r} is not a percentage between 0% and 100%, as 5%")
-    return share
+    return _between(text.removesuffix("%"), 100,
+                    f"{text!r} is not a percentage between 0% and 100%, as 5%") / 100
 
 
 # Equal to `dnlab.plot.style.KINDS`, which needs matplotlib.
@@ -114,7 +114,7 @@ def parser_of_words() -> Parser:
 
 
 def _add_tables(parser: Parser) -> None:
-    parser.add_argument("--ci", type=level_of, default=95, metavar="LEVEL",
+    parser.add_argument("--ci", type=checked(level_of), default=95, metavar="LEVEL",
                         help="confidence level of the intervals, in percent [95]")
     parser.add_argument("--interval", choices=KINDS, default="t",
                         help="Student's t, or the bootstrap for values that are far from normal [t]")
@@ -133,7 +133,7 @@ def _add_tables(parser: Parser) -> None:
                         help="compare the values of this setting with VALUE [the first], seed by seed, and "
                              "print the differences with their intervals; --csv and the others "
                              "have the means")
-    parser.add_argument("--within", type=share_of, metavar="PERCENT",
+    parser.add_argument("--within", type=checked(share_of), metavar="PERCENT",
                         help="estimate how many seeds you need for an interval of at most +-PERCENT of "
                              "the mean, as 5%%")
 
@@ -166,50 +166,51 @@ def is_of_programs(found: argparse.Namespace) -> bool:
     return found.run is not None or str(found.template).endswith((".yaml", ".yml"))
 
 
-def check_source(parser: argparse.ArgumentParser, found: argparse.Namespace) -> None:
-    """Reports a usage error unless there is exactly one source, and for options that don't go with
-    programs."""
-    if (found.run is None) == (found.template is None):
-        parser.error("give TEMPLATE or --run COMMAND" if found.run is None
-                     else "--run COMMAND replaces TEMPLATE: leave one out")
-    if is_of_programs(found) and (found.on or found.kept or found.anew):
-        parser.error(
-            "--on, --kept and --anew don't go with programs: they run on this machine, and their results "
-            "are not cached")
+def is_designed(given: argparse.Namespace) -> bool:
+    """Returns whether an option changes how the picture looks."""
+    return (bool(given.label or given.size or given.font or given.style) or given.title is not None
+            or given.legend != "right")
 
 
 def words(given: Sequence[str]) -> argparse.Namespace:
     parser = parser_of_words()
     found = parser.parse_args(joined(given))
     names = [name for name, _ in found.set]
-    if len(set(names)) < len(names):
-        parser.error("--set: a name is given twice; put all its values into one --set, separated by commas")
+    is_drawn = bool(found.along or found.rows or found.columns or found.log or found.kind != "means"
+                    or is_designed(found))
+    wrong = (
+        (len(set(names)) < len(names),
+         "--set: a name is given twice; put all its values into one --set, separated by commas"),
+        (found.run is None and found.template is None, "give TEMPLATE or --run COMMAND"),
+        (found.run is not None and found.template is not None,
+         "--run COMMAND replaces TEMPLATE: leave one out"),
+        (is_of_programs(found) and bool(found.on or found.kept or found.anew),
+         "--on, --kept and --anew don't go with programs: they run on this machine, and their results "
+         "are not cached"),
+        (bool(found.program or found.parts) and not found.on,
+         "--program and --parts go with --on (on this machine, DNLAB names the program)"),
+        (found.on in ("dask", DASK), "--on dask: the scheduler's address must follow, as tcp://alpha:8786"),
+        ((found.csv, found.json).count("-") > 1, "standard output can't be both --csv and --json"),
+        *(one for option in ("csv", "json", "parquet", "each", "long", "plot", "kept")
+          for one in _wrong_file(option, getattr(found, option))),
+        (is_drawn and not found.plot,
+         "--kind, --along, --rows, --columns, --log, --title, --label, --size, --font, --style and "
+         "--legend go with --plot"))
     checked_span(parser, found)
-    check_source(parser, found)
-    if (found.program or found.parts) and not found.on:
-        parser.error("--program and --parts go with --on (on this machine, DNLAB names the program)")
-    if found.on in ("dask", DASK):
-        parser.error("--on dask: the scheduler's address must follow, as tcp://alpha:8786")
-    if (found.csv, found.json).count("-") > 1:
-        parser.error("standard output can't be both --csv and --json")
-    for option in "csv", "json", "parquet", "each", "long", "plot", "kept":
-        name = getattr(found, option)
-        if name is None or name == "-":
-            continue
-        if not os.path.isdir(os.path.dirname(name) or "."):
-            parser.error(f"--{option} {name}: its folder does not exist")
-        if os.path.exists(name) and not os.path.isfile(name):
-            parser.error(f"--{option} {name}: not a regular file")
-    for option in "each", "long":
-        name = getattr(found, option)
-        if name is not None and name.rsplit(".", 1)[-1] not in ("csv", "json", "parquet"):
-            parser.error(f"--{option} {name}: the name must end in .csv, .json or .parquet")
-    if (not found.plot and (found.along or found.rows or found.columns or found.log or found.kind != "means"
-                            or is_designed(found))):
-        parser.error(
-            "--kind, --along, --rows, --columns, --log, --title, --label, --size, --font, --style and "
-            "--legend go with --plot")
+    for is_wrong, why in wrong:
+        if is_wrong:
+            parser.error(why)
     return found
+
+
+def _wrong_file(option: str, name: Optional[str]) -> Iterator[tuple[bool, str]]:
+    """Yields what can be wrong with a file that an option names."""
+    if name is not None and name != "-":
+        yield not os.path.isdir(os.path.dirname(name) or "."), f"--{option} {name}: its folder does not exist"
+        yield os.path.exists(name) and not os.path.isfile(name), f"--{option} {name}: not a regular file"
+    if name is not None and option in ("each", "long"):
+        yield (name.rsplit(".", 1)[-1] not in ("csv", "json", "parquet"),
+               f"--{option} {name}: the name must end in .csv, .json or .parquet")
 
 
 def pair_in(text: str) -> tuple[str, Any]:

@@ -148,10 +148,6 @@ def suggestion(word: str, known: Iterable[str]) -> str:
     return f" (did you mean {near[0]}?)" if near else ""
 
 
-def _code(character: object) -> int:
-    return character if isinstance(character, int) else ord(str(character))
-
-
 def root_of(file: str, text: bytes) -> Value:
     """Returns the root of a file; what is not YAML, or is empty, is refused."""
     try:
@@ -163,7 +159,7 @@ def root_of(file: str, text: bytes) -> Value:
     except yaml.reader.ReaderError as fault:
         line = text.decode()[:fault.position].count("\n") + 1
         raise InputError(
-            f"{file}:{line}: the character #x{_code(fault.character):04x} is not allowed in YAML; "
+            f"{file}:{line}: the character #x{fault.character:04x} is not allowed in YAML; "
             "expected a text") from None
     except yaml.MarkedYAMLError as fault:
         mark = fault.problem_mark or fault.context_mark

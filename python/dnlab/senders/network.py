@@ -65,15 +65,15 @@ class Network:
 
     def at(self, moment: int, call: Call) -> None:
         """Schedules a call at a time (ns), or now if that is past."""
+        def called() -> None:
+            self._open -= 1
+            call()
+
         self._open += 1
-        self._push(moment, lambda: self._called(call))
+        self._push(moment, called)
 
     def _push(self, moment: int, call: Call) -> None:
         heapq.heappush(self._timers, (moment, next(self._count), call))
-
-    def _called(self, call: Call) -> None:
-        self._open -= 1
-        call()
 
     def after(self, time: int, call: Call) -> None:
         """Schedules a call after a time (ns)."""
@@ -127,7 +127,7 @@ class Network:
         Columns: flow (number), window (the class), begin, arrived (ns), fct (flow completion time: from its
         start to the arrival of its last missing byte, ns), bytes, goodput (bit/s over that time), segments
         (sent), retransmissions, timeouts. What has not happened is None."""
-        return [_row(flow) for flow in self.flows]
+        return [dict(zip(_COLUMNS, _values(flow))) for flow in self.flows]
 
     def table(self) -> "pd.DataFrame":
         """Returns `rows` as a DataFrame; integers stay integers, and <NA> is what has not happened."""
@@ -140,13 +140,10 @@ _COLUMNS = ("flow", "window", "begin", "arrived", "fct", "bytes", "goodput", "se
             "timeouts")
 
 
-def _row(flow: Flow) -> dict[str, Any]:
+def _values(flow: Flow) -> tuple[Any, ...]:
     fct = None if flow.arrived is None else flow.arrived - flow.begun
-    values: Iterable[Any] = (flow.number, type(flow.window).__name__, flow.begun, flow.arrived,
-                             fct, flow.size,
-                             flow.size * 8 * 10**9 // fct if fct else None, flow.sent, flow.retransmissions,
-                             flow.timeouts)
-    return dict(zip(_COLUMNS, values))
+    return (flow.number, type(flow.window).__name__, flow.begun, flow.arrived, fct, flow.size,
+            flow.size * 8 * 10**9 // fct if fct else None, flow.sent, flow.retransmissions, flow.timeouts)
 
 
 Make = Callable[[int], Window]
@@ -212,13 +209,13 @@ class Requests:
 
         def answer() -> None:
             flow = self.network.flow(size, self.window, (self.server, 80), (self.client, port), **self.more)
-            flow.on_arrival(lambda: self._answered(begun))
+            flow.on_arrival(answered)
+
+        def answered() -> None:
+            self.times.append(self.network.now - begun)
+            self.network.after(drawn(self.think, self.chance), self._ask)
 
         asked.on_arrival(lambda: self.network.after(self.work, answer))
-
-    def _answered(self, begun: int) -> None:
-        self.times.append(self.network.now - begun)
-        self.network.after(drawn(self.think, self.chance), self._ask)
 
 
 class Web:

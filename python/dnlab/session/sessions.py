@@ -214,7 +214,12 @@ class Session:
     """A running program or library, with experiments. It ends with its block, even after an exception."""
 
     def __init__(self, dnlab: Optional[str] = None, engine: str = "process", trace: bool = False) -> None:
-        self.transport = _transport(dnlab, engine)
+        if engine not in ("process", "library"):
+            raise ValueError(f'the engine is "process" or "library", not {engine!r}')
+        if engine == "library" and dnlab is not None:
+            raise ValueError('engine="library" takes no program: leave it out, or use engine="process"')
+        self.transport: Transport = (LibraryTransport() if engine == "library"
+                                     else ProcessTransport(program(dnlab)))
         self._traces = trace
         self._lines: list[str] = []
         self._bytes = 0
@@ -325,16 +330,6 @@ class Session:
             self.close()
         elif not self.transport.has_ended:
             self.transport.kill()
-
-
-def _transport(dnlab: Optional[str], engine: str) -> Transport:
-    if engine == "library":
-        if dnlab is not None:
-            raise ValueError('engine="library" takes no program: leave it out, or use engine="process"')
-        return LibraryTransport()
-    if engine != "process":
-        raise ValueError(f'the engine is "process" or "library", not {engine!r}')
-    return ProcessTransport(program(dnlab))
 
 
 def live(dnlab: Optional[str] = None, engine: str = "process", trace: bool = False) -> Session:

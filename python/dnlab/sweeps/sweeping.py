@@ -14,7 +14,7 @@ from dnlab.analysis.metrics import Span, span_of
 from dnlab.analysis.reports import cores
 from dnlab.io.scenario import read
 from dnlab.io.scenario_parts import MOST_BYTES, MOST_EXPERIMENTS, Plan
-from dnlab.io.scenario_text import lines_in, names_of
+from dnlab.io.scenario_text import names_of
 from dnlab.analysis import names
 from dnlab.processes import subprocesses
 from dnlab.processes.subprocesses import Killed
@@ -29,7 +29,8 @@ from dnlab.sweeps.results import SweepResults
 
 # An experiment's name depends on the order of --set, but its results don't.
 _HEADING = re.compile(r"^( *experiment +)\S+", re.MULTILINE)
-_LOSS = re.compile(rb" plr +(?!0(\.0*)?( |$))", re.MULTILINE)
+_HEADINGS = re.compile(r"^ *experiment .*", re.MULTILINE)
+_LOSS = re.compile(r" plr +(?!0(\.0*)?( |$))", re.MULTILINE)
 
 
 class Sweep(SweepResults):
@@ -244,7 +245,7 @@ class Sweep(SweepResults):
             by_setting.setdefault(tuple(map(str, case.settings.values())), []).append(case)
         found: list[str] = []
         for same in by_setting.values():
-            texts = [_without_heading(self.text(case).encode()) for case in same[:2]]
+            texts = [_HEADINGS.sub("", self.text(case)) for case in same[:2]]
             if len(texts) == 2 and texts[0] == texts[1] and not _LOSS.search(texts[0]):
                 found += [case.name for case in same]
         return frozenset(found)
@@ -261,11 +262,6 @@ class Sweep(SweepResults):
         """Returns the warnings of experiments that were run, with their names."""
         return [(case.name, note) for case in self.cases if case.name in self.found
                 for note in self.found[case.name].notes]
-
-
-def _without_heading(text: bytes) -> bytes:
-    place, heading, _ = next(lines_in(text), (0, b"", 0))
-    return text[:place] + text[place + len(heading):]
 
 
 def sweep(template: Union[str, Path], *, seed: Union[int, Iterable[int]] = 1, of: Any = None,

@@ -29,11 +29,6 @@ MOST_MEMORY = 2**29
 _MOST_DIGITS = 1 << 10
 
 
-@jinja2.pass_context
-def _as_written(_: Any, value: Any) -> Any:
-    return as_written(value)
-
-
 def nanoseconds(unit: int) -> Callable[[Any], int]:
     """Returns the filter of a unit, which converts to whole nanoseconds.
 
@@ -149,7 +144,7 @@ class Template:
             # Rendering has limits (`making`), compiling has none: so the compiler must not evaluate
             # constants. It evaluates none without its optimizer, and with a `finalize` that takes the
             # context.
-            optimized=False, finalize=_as_written)
+            optimized=False, finalize=jinja2.pass_context(lambda _, value: as_written(value)))
         self._environment.filters.update(s=nanoseconds(10**9), ms=nanoseconds(10**6), us=nanoseconds(10**3),
                                          random=_no_chance)
         self._environment.globals.pop("lipsum")
