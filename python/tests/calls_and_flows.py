@@ -1,7 +1,4 @@
 """Two scenarios whose figures are easy to calculate: a call, and two flows."""
-from typing import Callable
-
-Alone = Callable[[bytes], bytes]
 # A call of 100 bytes every 20 ms and five packets of 1000 bytes, over 8 Mbit/s and 10 ms: a packet of 1000
 # bytes takes 1 ms, one of 100 bytes 0.1 ms.
 CALL = """experiment a seed 0 budget 100
@@ -14,6 +11,7 @@ CALL = """experiment a seed 0 budget 100
 SLOW = CALL.replace("experiment a", "experiment b").replace("8Mbit/s", "4Mbit/s")
 REFUSED = CALL.replace("@1000000 train", "@0 add 70000 allow ip from any to any\n@1000000 train").replace(
     "train 1 ", "train 9 ")
+SPENT = CALL.replace("budget 100", "budget 100 steps 8")
 # Two flows with segments of 1000 bytes, headers included. Flow 1 has 4 segments and ends, flow 2 has 4000 and
 # does not.
 FLOWS = """experiment f seed 0 budget 100

@@ -1,22 +1,21 @@
-"""The results of `compare` and `expect` for runs whose times are calculated by hand."""
+"""tools/compare: metrics side by side, and where two runs diverge, for runs whose times are calculated by
+hand."""
+import gzip
 import json
 import os
-import subprocess
-import sys
 from fractions import Fraction
 from pathlib import Path
 from typing import Callable, Optional
 
 import pytest
-from conftest import ROOT, records_in, report_of, tool
+from calls_and_flows import FLOWS
+from conftest import records_in, report_of, tool
 
-from dnlab.analysis.bounds import Pair, bound_of, bounds_in, tolerance_of
+from dnlab.analysis.bounds import Pair, tolerance_of
 from dnlab.analysis.metrics import metric_of
 from dnlab.analysis.divergence import parting
 from dnlab.analysis.view import View
-from dnlab.errors import InputError
 from dnlab.io import scenario
-from dnlab.analysis.quantities import amount_of, shown
 
 Alone = Callable[[bytes], bytes]
 # Five packets of 1000 bytes at once: at 8 Mbit/s each is served in 1 ms, and delivered 10 ms later: 11 .. 15
@@ -84,16 +83,12 @@ def test_three_digits_unless_exact() -> None:
     assert pair(Fraction(0), Fraction(0)).shown(exact=False) == ["0ns", "0ns", "-"]
 
 
-def test_exact_goes_with_the_table(two: list[Path], tmp_path: Path) -> None:
+def test_exact_goes_with_the_table(two: list[Path], traced: Alone) -> None:
     """The last of five packets of 1000 bytes at 7 Mbit/s and 8 takes 5714286 ns (40000 bits, rounded up once)
     and 5000000."""
-    report, plan = two[:2]
-    other = tmp_path / "seven"
-    other.write_bytes(subprocess.run([os.environ["DNLAB"], "alone", "--trace"],
-                                     input=TRAIN.replace("8Mbit/s", "7Mbit/s").encode(),
-                                     capture_output=True, check=True).stdout)
-    seven = tmp_path / "seven.txt"
+    report, plan, other, seven = two
     seven.write_text(TRAIN.replace("8Mbit/s", "7Mbit/s"))
+    other.write_bytes(traced(seven.read_bytes()))
     rows = [line.split() for words in ((), ("--exact",))
             for line in tool("compare", report, other, plan, seven, "--of", "train 9", *words)[1].splitlines()
             if " delay.max " in line]
@@ -128,18 +123,70 @@ def test_the_same(two: list[Path]) -> None:
     assert status == 0 and not err and first == "a: the same, line by line" and last[0] == last[2]
 
 
-def test_tolerances(two: list[Path]) -> None:
-    a, plan, b, other = two
+@pytest.mark.parametrize("tolerances, status, said", [
     # The median is 16/13 = 123.1 % of A's, and 3 ms above it.
-    for words, status in ((["delay.p50=24%"], 0), (["delay.p50=23%"], 1), (["delay.p50=3ms"], 0),
-                          (["delay.p50=2999999ns"], 1), (["packets=0"], 0), (["*=1%"], 1),
-                          (["*=100%", "delay.p50=1%"], 1), (["delay.p50=1%", "*=100%"], 0)):
-        given = [word for one in words for word in ("--tolerance", one)]
-        assert tool("compare", a, b, plan, other, "--of", "train *", *given)[0] == status, words
-    out = tool("compare", a, b, plan, other, "--of", "train *", "--tolerance", "delay.p50=24%")[1]
-    assert "within 24%" in out
+    (["delay.p50=24%"], 0, ""), (["delay.p50=23%"], 1, ""), (["delay.p50=3ms"], 0, ""),
+    (["delay.p50=2999999ns"], 1, ""), (["packets=0"], 0, ""), (["*=1%"], 1, ""),
+    (["*=100%", "delay.p50=1%"], 1, ""), (["delay.p50=1%", "*=100%"], 0, ""),
+    (["fct=5%"], 2, "only a flow has a completion"), (["retransmissions=5"], 2, "only a flow retransmits"),
+    (["delay.95=5%"], 2, "there is no metric 'delay.95'"),
+    (["delay.p95=5"], 2, "its unit is missing: ns, us")])
+def test_tolerances(tolerances: list[str], status: int, said: str, two: list[Path]) -> None:
+    a, plan, b, other = two
+    given = [word for one in tolerances for word in ("--tolerance", one)]
+    got, out, err = tool("compare", a, b, plan, other, "--of", "train *", *given)
+    assert got == status and said in err
+    assert "within 24%" in out or tolerances != ["delay.p50=24%"]
+
+
+def test_tolerances_of_counts() -> None:
     assert (tolerance_of("drops=2").allows(Fraction(3), Fraction(5))
             and not tolerance_of("drops=2").allows(Fraction(3), Fraction(6)))
+
+
+@pytest.mark.parametrize("tolerance, status, said", [
+    ("delay.p95=5%", 2, "no row has this metric, so nothing is judged: make the report with --trace"),
+    ("goodput=5%", 2, "no row has this metric"), ("delay.*=1s", 2, "no row has this metric"),
+    ("*=1000%", 0, "no row has bytes, useful, first, time, rate, goodput"), ("packets=0", 0, "")])
+def test_tolerances_that_judge_nothing(tolerance: str, status: int, said: str, tmp_path: Path) -> None:
+    for name, text in (("a", TRAIN), ("b", SLOW)):
+        (tmp_path / name).write_bytes(report_of(text.encode()))
+    got, _, err = tool("compare", tmp_path / "a", tmp_path / "b", "--tolerance", tolerance)
+    assert got == status and said in err
+
+
+def test_what_both_lack_is_not_within(files: Callable[..., list[Path]]) -> None:
+    """In both runs flow 1 ended and flow 2 didn't. A missing value can't be within the tolerance on
+    completion."""
+    report, plan = files(FLOWS)
+    status, out, _ = tool("compare", report, report, plan, "--tolerance", "fct=5%")
+    row = next(line for line in out.split("\n") if " flow 2 " in line)
+    assert status == 1 and "can't be told: it had not finished when the experiment ended, at 0.1s" in row
+    for flow, status in (1, 0), (2, 2):
+        assert tool("compare", report, report, plan, "--tolerance", "fct=5%", "--of",
+                    f"flow {flow}")[0] == status
+
+
+def test_stored_summaries(two: list[Path], tmp_path: Path) -> None:
+    first, plan, second, other = two
+    base = tmp_path / "base.json"
+    base.write_text(tool("summary", first, plan, "--json", "--percentiles", "50,95")[1])
+    same = tool("compare", base, first, plan)
+    assert same[0] == 0 and "a: only rows are compared, since a summary has no lines" in same[1]
+    assert tool("compare", first, base, plan)[0] == 0 and tool("compare", base, second, other)[0] == 1
+    (tmp_path / "packed.gz").write_bytes(gzip.compress(base.read_bytes()))
+    assert tool("compare", tmp_path / "packed.gz", base)[0] == 0
+    # The 95th percentile of train 9 is 15 ms, and 20 ms at half the rate: a third more.
+    for tolerance, status in ("delay.p95=34%", 0), ("delay.p95=33%", 1):
+        assert tool("compare", base, second, other, "--tolerance", tolerance, "--of",
+                    "train 9")[0] == status
+    status, _, err = tool("compare", base, second, other, "--tolerance", "delay.p99=5%")
+    assert status == 2 and "base.json was made without it" in err
+    for text in ("[1]", base.read_text()[:-9], '[{"experiment": "a", "of": "b"}]',
+                 tool("summary", first, plan, "--json", "--every", "10ms")[1]):
+        (tmp_path / "bad.json").write_text(text)
+        status, out, err = tool("compare", tmp_path / "bad.json", first, plan)
+        assert status == 2 and "it is not a complete summary" in err and not out, text[:40]
 
 
 def test_serial_numbers_that_shift(traced: Alone) -> None:
@@ -184,104 +231,22 @@ def test_segments_are_told_by_bytes(traced: Alone) -> None:
 
 def test_what_compare_refuses(two: list[Path]) -> None:
     a, plan, b, other = two
-    for status, said, words in (
-            (2, "there is no metric 'delay.95'", (a, b, "--tolerance", "delay.95=5%")), (2, "usage", (a,)),
-            (2, "its unit is missing: ns, us", (a, b, "--tolerance", "delay.p95=5")),
-            (2, "two scenarios", (a, b, plan, plan, plan)),
-            (2, "it has no experiment x; its experiments are a", (a, b, plan, other, "--experiment", "x")),
-            (2, "it has no experiment, so", (a, os.devnull)),
-            (2, "no row matches train 8", (a, b, "--of", "train 8")),
-            (2, "none.txt", (a, "none.txt")), (2, "line 1", (a, plan)), (2, "standard input", ("-", "-"))):
-        got = tool("compare", *words)
-        assert got[0] == status and said in got[2] and not got[1], words
-    many = two[0].parent / "many"
+    for said, words in (
+            ("two scenarios", (a, b, plan, plan, plan)), ("no row matches", (a, b, "--of", "train 8")),
+            ("it has no experiment x; its experiments are a", (a, b, plan, other, "--experiment", "x")),
+            ("it has no experiment, so", (a, os.devnull)), ("line 1", (a, plan)),
+            ("standard input", ("-", "-"))):
+        status, out, err = tool("compare", *words)
+        assert (status, out) == (2, "") and said in err, words
+
+
+def test_experiments_that_one_report_lacks(two: list[Path], tmp_path: Path) -> None:
+    a, plan, b, other = two
+    many, plans = tmp_path / "many", tmp_path / "plans"
     many.write_bytes(a.read_bytes() + b.read_bytes().replace(b"experiment a", b"experiment b"))
+    plans.write_bytes(plan.read_bytes() + other.read_bytes().replace(b"experiment a", b"experiment b"))
     status, out, _ = tool("compare", a, many)
     assert status == 1 and f"{a} has no experiment b" in out and "a: the same" in out
     assert tool("compare", many, many, "--experiment", "a=b")[0] == 1
-
-
-def test_bounds_that_hold_and_fail(two: list[Path], tmp_path: Path) -> None:
-    a, plan, *_ = two
-    status, out, err = tool("expect", a, plan, "train 9: delay.p95 <= 15ms", "a/train *: goodput > 2.6Mbit/s",
-                            "all: drops = 0")
-    assert status == 0 and not err and out.split("\n")[:3] == [
-        "holds  bound 1: train 9: delay.p95 <= 15ms  (measured 15ms of a/train 9; holds by 0 %)",
-        "holds  bound 2: a/train *: goodput > 2.6Mbit/s  (measured 2.666666Mbit/s of a/train 9; "
-        "holds by 2.6 %)",
-        "holds  bound 3: all: drops = 0  (measured 0 of a/all)"]
-    (tmp_path / "bounds").write_text(
-        "# of the train\ntrain 9: delay.min >= 11ms\n\n train 9 : delay.p95<15 ms\nall: packets > 9\n")
-    status, out, _ = tool("expect", a, plan, "--bounds", tmp_path / "bounds")
-    assert status == 1 and out == (
-        f"holds  {tmp_path}/bounds: line 2: train 9: delay.min >= 11ms  (measured 11ms of a/train 9; holds "
-        f"by 0 %)\nFAILS  {tmp_path}/bounds: line 4: train 9 : delay.p95<15 ms  (measured 15ms of a/train "
-        f"9)\nFAILS  {tmp_path}/bounds: line 5: all: packets > 9  (measured 5 of a/all)\n")
-    status, out, _ = tool("expect", a, plan, "--bounds", tmp_path / "bounds", "--first")
-    assert status == 1 and out.count("\n") == 2 and "line 5" not in out
-    (tmp_path / "untraced").write_bytes(report_of(TRAIN.encode()))
-    status, out, _ = tool("expect", tmp_path / "untraced", "plain: delay.p95 < 1s")
-    assert (status == 1
-            and "it is unknown for a/plain: make the report with --trace: `dnlab alone --trace "
-                "< scenario.txt" in out)
-
-
-@pytest.mark.parametrize("text, said", [
-    ("train 9: delay.p95 < 50", "its unit is missing: ns, us, ms, s"),
-    ("train 9: delay.p95 < 50kg", "'kg' is not a unit here"),
-    ("train 9: delay.q95 < 50ms", "there is no metric 'delay.q95'; the metrics are packets, delivered"),
-    ("train 9 delay.p95 < 50ms", "the colon"),
-    ("train 9: delay.p95 50ms", "a sign"), ("train 9: delay.p95 => 50ms", "'=>' is not a sign"),
-    (": drops < 1", "WHO"),
-    ("all: drops < many", "'many' is not an amount such as 3"),
-    ("all: delay.p0 < 1ms", "no metric 'delay.p0'"),
-    ("all: delay.p100.5 < 1ms", "no metric"), ("all: loss < 5", "%"),
-    ("all: rate < 5Mbps", "'Mbps' is not a unit here: bit/s, kbit/s")])
-def test_what_is_no_bound(text: str, said: str) -> None:
-    with pytest.raises(InputError, match="line 2: ") as faulty:
-        bounds_in("bounds", f"# first\n{text}\n")
-    assert said in str(faulty.value)
-
-
-def test_statuses_of_expect(two: list[Path], tmp_path: Path) -> None:
-    a, plan, *_ = two
-    for status, said, words in (
-            (2, "no row 'train 8'; there are train 9, pipe 1.0, all", (a, plan, "train 8: drops < 1")),
-            (2, "no experiment 'b'; there are a", (a, plan, "b/train 9: drops < 1")),
-            (2, "no bound", (a, plan)),
-            (2, "a sign", (a, plan, "train 9: drops 1")), (2, "none", (tmp_path / "none", "all: drops < 1")),
-            (2, "line 1", (plan, "all: drops < 1")), (2, "no experiment", (os.devnull, "all: drops < 1")),
-            (2, "it has no bound", (a, "--bounds", os.devnull))):
-        got = tool("expect", *words)
-        assert got[0] == status and said in got[2] and not got[1], words
-
-
-def test_amounts() -> None:
-    assert amount_of("1.5us", "time") == (1500, "us") and amount_of("10 Mbit/s", "rate") == (10**7, "Mbit/s")
-    assert shown(Fraction(10**15 + 1), "time", "s") == "1000000.000000001s"
-    row = {"packets": 40, "denied": 1,
-           **dict.fromkeys(("nopipe", "noinstance", "lost", "full", "codel", "deleted", "budget"), 0)}
-    assert metric_of("loss").of(row) == Fraction(1, 40) and metric_of("drops.denied").of(row) == 1
-    assert bound_of("all: loss<2.5%", "").holds(Fraction(1, 40)) is False
-    assert metric_of("loss").of({**row, "full": None}) is None
-
-
-def test_the_fixture(two: list[Path], tmp_path: Path) -> None:
-    """Runs a user's own test file with pytest."""
-    a, plan, *_ = two
-    room = tmp_path / "own"
-    room.mkdir()
-    (room / "conftest.py").write_text('pytest_plugins = ["dnlab.testing"]\n')
-    (room / "test_own.py").write_text(
-        "import dnlab\nfrom pathlib import Path\n"
-        f"report = dnlab.read({str(a)!r}, {str(plan)!r})\n"
-        "def test_good(expect):\n    expect(report, 'train 9: delay.p95 <= 15ms', 'all: drops == 0')\n"
-        "def test_bad(expect):\n    expect(report, 'all: drops == 0', 'train 9: delay.p95 < 15ms')\n"
-        "def test_file(expect, tmp_path):\n    (tmp_path / 'b').write_text('all: packets == 5\\n')\n"
-        "    expect(report, tmp_path / 'b')\n")
-    done = subprocess.run([sys.executable, "-B", "-m", "pytest", "-q", "-p", "no:cacheprovider", str(room)],
-                          cwd=room, env={**os.environ, "PYTHONPATH": str(ROOT / "python")},
-                          capture_output=True, text=True, check=False)
-    assert "1 failed, 2 passed" in done.stdout, done.stdout
-    assert "FAILS  bound 2: train 9: delay.p95 < 15ms  (measured 15ms of a/train 9)" in done.stdout
-    assert "holds  bound 1: all: drops == 0" in done.stdout
+    status, _, err = tool("compare", a, a, plans)
+    assert status == 2 and "it has no experiment b" in err

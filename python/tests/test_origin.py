@@ -79,6 +79,17 @@ def test_a_report_that_was_changed(stored: tuple[Path, Path, Path]) -> None:
         dnlab.read(report)
 
 
+def test_spread_keeps_what_run_keeps(tmp_path: Path, program: str) -> None:
+    (tmp_path / "s.txt").write_text(TEXT)
+    words = [tmp_path / "s.txt", "--trace", "--parts", 2, "--out", tmp_path / "a.txt"]
+    assert tool("spread", *words)[0] == 0
+    dnlab.run(tmp_path / "s.txt", out=tmp_path / "b.txt", dnlab=program)
+    one, other = (json.loads((tmp_path / f"{name}.txt.json").read_bytes()) for name in "ab")
+    assert one["command"] == ["dnlab-spread", *map(str, words)]
+    assert [one[name] for name in ("report", "scenario", "program")] == [
+        other[name] for name in ("report", "scenario", "program")]
+
+
 def test_files_that_are_something_else(stored: tuple[Path, Path, Path]) -> None:
     """A summary with that name, or a file that is not JSON, is not a record of the origin."""
     report, plan, other = stored

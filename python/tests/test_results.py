@@ -2,11 +2,14 @@
 import os
 import subprocess
 import sys
+import warnings
 from pathlib import Path
+from typing import Callable
 
 import numpy as np
 import pandas as pd
 import pytest
+from calls_and_flows import CALL, REFUSED, SLOW
 from conftest import EXAMPLES, ROOT, records_in, report_of, text_of, view_of
 
 import dnlab
@@ -66,20 +69,11 @@ def test_other_tables() -> None:
                   "bytes"]].values.tolist() == [[112000000, "train 1", "codel", "1.0", 1000]]
 
 
-def test_nothing_is_rounded() -> None:
-    """Times that a float can't represent exactly stay exact."""
-    view = view_of("reno_four_segments")
-    view.packets.made[0] = 2**53 + 1
-    assert Experiment(view).packets().made.iloc[0] == 2**53 + 1
-
-
 def test_read() -> None:
     report = dnlab.read(FOUR / "expected.txt", FOUR / "scenario.txt")
     names = [line.split()[1]
              for line in (FOUR / "expected.txt").read_text().split("\n") if line.startswith("experiment")]
     assert list(report) == names and len(report) == 4 and names[1] in report
-    with pytest.raises(KeyError):
-        report["none"]
     rows = report.summary(percentiles=(50, 95), of="flow *")
     assert "p95" in rows and "p99" not in rows and all(sender.startswith("flow") for sender in rows.sender)
     assert rows.seed.notna().all() and (rows.ended == "end").all()
@@ -104,20 +98,77 @@ def test_run(program: str, tmp_path: Path, monkeypatch: pytest.MonkeyPatch) -> N
     dnlab.run(FOUR / "scenario.txt", out=tmp_path / "rows.npy")
     assert (tmp_path / "rows.npy").read_bytes() == Path(report.given.report).read_bytes()
     with pytest.raises(dnlab.ProgramError, match="line 2: badword") as failed:
-        dnlab.run("experiment a seed 1 budget 1\n@0 nothing\n@0 end\n", out=tmp_path / "none")
-    assert failed.value.status == 1 and not (tmp_path / "none").exists()
+        dnlab.run(CALL.replace("8Mbit/s", "8Mbps"), out=tmp_path / "none")
+    # The fault is explained.
+    assert failed.value.status == 1 and "10Mbit/s" in failed.value.said and not (tmp_path / "none").exists()
     with pytest.raises(dnlab.ProgramError, match="is no program"):
         dnlab.run(text, dnlab="/nowhere/dnlab")
 
 
 def test_run_more_than_the_program_takes(program: str, monkeypatch: pytest.MonkeyPatch) -> None:
     monkeypatch.setenv("DNLAB", program)
-    text = "".join(f"# a\nexperiment e{number} seed 0 budget 10\n@0 show\n@9 end\n" for number in range(600))
+    text = "".join(f"# a\nexperiment e{number} seed 0 budget 10\n@0 add 1 allow ip from any to any\n"
+                   f"@{number} inject udp 10.0.0.1 1 10.0.0.2 2 100\n@999 end\n" for number in range(600))
     report = dnlab.run(text)
-    assert len(report) == 600 and report["e599"].counters.made == 0 and list(report)[300] == "e300"
-    with pytest.raises(dnlab.ProgramError, match="line 2003: badword"):
-        dnlab.run(text.replace("experiment e500 seed 0 budget 10\n@0 show",
-                               "experiment e500 seed 0 budget 10\n@0 sho"))
+    assert len(report) == 600 and list(report)[300] == "e300"
+    assert [report[name].packets().made.tolist()
+            for name in ("e0", "e255", "e256", "e599")] == [[0], [255], [256], [599]]
+    with pytest.raises(dnlab.ProgramError, match="line 2504: badword"):
+        dnlab.run(text.replace("@500 inject", "@500 injekt"))
+
+
+def test_programs_that_are_not_dnlab(tmp_path: Path, files: Callable[..., list[Path]]) -> None:
+    for name, body, said in (("silent", "exit 0", "wrote no report of experiment a"),
+                             ("other", f"cat {files(SLOW)[0]}", "wrote no report of experiment a"),
+                             ("chatty", "echo hello", "wrote no report")):
+        (tmp_path / name).write_text(f"#!/bin/sh\n{body}\n")
+        (tmp_path / name).chmod(0o755)
+        with pytest.raises(dnlab.ProgramError) as failed:
+            dnlab.run(CALL, dnlab=str(tmp_path / name), out=tmp_path / "out")
+        assert said in failed.value.said and not list(tmp_path.glob("out*")), name
+    with pytest.raises(dnlab.ProgramError, match="is it dnlab"):
+        dnlab.run(CALL, dnlab="/bin/true")
+
+
+def test_a_typed_text_may_lack_its_last_line_feed(program: str, tmp_path: Path) -> None:
+    """Strings in Python often lack the last line feed. A file without it may have been cut."""
+    typed = CALL.rstrip("\n")
+    for number, text in enumerate((typed, CALL)):
+        dnlab.run(text, dnlab=program, out=tmp_path / str(number))
+    assert (tmp_path / "0").read_bytes() == (tmp_path / "1").read_bytes()
+    (tmp_path / "cut.txt").write_text(typed)
+    for text in (tmp_path / "cut.txt", typed.encode()):
+        with pytest.raises(dnlab.ProgramError, match="cut"):
+            dnlab.run(text, dnlab=program)
+
+
+def test_refused_commands(files: Callable[..., list[Path]]) -> None:
+    opened = dnlab.read(*files(REFUSED))
+    one, rows = opened["a"], opened.summary()
+    assert [(row.line, row.code) for row in one.refused] == [(5, 10), (6, 22)] and one.warnings == "refused"
+    assert rows.warnings.unique().tolist() == ["refused"] and rows.refused.unique().tolist() == [2]
+    assert rows.codes.unique().tolist() == ["10:1 22:1"]
+
+
+def test_columns_are_attributes(files: Callable[..., list[Path]]) -> None:
+    """pandas uses none of their names except `min` and `max`, and warns of nothing."""
+    report = dnlab.read(*files(CALL))
+    with warnings.catch_warnings():
+        warnings.simplefilter("error")
+        one, summary = report["a"], report.summary()
+        packets, row = one.packets(), summary[summary.sender == "train 9"].iloc[0]
+        assert packets[packets.sender == "train 1"].bytes.tolist() == [100] * 3
+        assert (row["min"], row.p50, row["max"], row.in_flight) == (11_000_000, 13_000_000, 15_000_000, 0)
+        assert {"fct", "retransmissions", "params", "warnings", "p99"} <= set(summary.columns)
+        assert one.params == "pipe 1 bw 8Mbit/s delay 10" and one.warnings == ""
+
+
+def test_shown_in_a_notebook(files: Callable[..., list[Path]]) -> None:
+    report = dnlab.read(*files(CALL))
+    with pytest.raises(KeyError, match="nope: there is no such experiment, only a"):
+        report["nope"]
+    shown = str(report["a"])
+    assert len(shown.splitlines()) <= 5 and "train 9" in shown and len(shown) < 500
 
 
 def test_intervals() -> None:
@@ -132,16 +183,8 @@ def test_intervals() -> None:
 
 def test_without_numpy() -> None:
     """Missing packages are named, and functions that need none work. With -S Python has no packages."""
-    words = (
-        "import dnlab, dnlab.io.scenario, dnlab.io.scenario_text\ntry:\n    dnlab.read\nexcept "
-        "ModuleNotFoundError as fault:\n    print(fault)")
+    words = ("import dnlab, dnlab.io.scenario, dnlab.io.scenario_text\ntry:\n    dnlab.read\nexcept "
+             "ModuleNotFoundError as fault:\n    print(fault)")
     done = subprocess.run([sys.executable, "-B", "-S", "-c", words], capture_output=True, text=True,
-                          check=False,
-                          env={**os.environ, "PYTHONPATH": str(ROOT / "python")})
+                          check=False, env={**os.environ, "PYTHONPATH": str(ROOT / "python")})
     assert done.stdout == "numpy is missing (Debian: apt-get install python3-numpy)\n" and not done.stderr
-
-
-def test_nothing_unknown_in_the_package() -> None:
-    assert set(dnlab.__all__) <= {name for name in dnlab.__all__ if getattr(dnlab, name)}
-    with pytest.raises(AttributeError):
-        dnlab.nothing
