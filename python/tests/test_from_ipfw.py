@@ -8,11 +8,10 @@ from typing import Callable
 
 import pytest
 from conftest import tool
-from ipfw_lines import became, imported
+from ipfw_lines import imported
 
 from dnlab.io.ipfw_import import Import
 from dnlab.io.ipfw_words import lines_of
-from dnlab.io.ipfw_words import APPROXIMATED, DROPPED, REFUSED, REWRITTEN, SAME
 
 FOLDER = Path(__file__).parent / "ipfw"
 INTERFACES = ("--if", "em1=10.0.1.0/24", "--if", "dc0=any", "--if", "igb0=any", "--if", "igb1=any", "--me",
@@ -40,13 +39,6 @@ def test_configurations(name: str, tmp_path: Path, alone: Callable[[bytes], byte
     assert alone(text.encode()).count(b" refused ") == 0
 
 
-def test_how_many_come_through() -> None:
-    """72 of 86 lines are imported. The other fourteen have the firewall's flags and ICMP, and weighted
-    queues."""
-    assert sum(lines for lines, _, _ in LINES.values()) == 86
-    assert sum(lines - refused for lines, _, refused in LINES.values()) == 72
-
-
 def test_refused_lines_leave_no_file(tmp_path: Path) -> None:
     out = tmp_path / "scenario.txt"
     status, said, told = tool("from-ipfw", FOLDER / "satellite-voip.sh", "--out", out)
@@ -63,67 +55,6 @@ def test_flattened() -> None:
     assert "@0 add 1010 pipe 1 ip from any to 192.0.2.0/24\n" in said
 
 
-def test_flattened_schedulers() -> None:
-    """A pipe with FQ-CoDel becomes a pipe with CoDel and the same times."""
-    became = imported("pipe 1 config bw 9Mbit/s delay 5",
-                      "sched 1 config pipe 1 type fq_codel target 4ms interval 80ms flows 1024",
-                      "queue 1 config sched 1 weight 9", "add 10 queue 1 ip from any to any", flatten=True)
-    assert became[1].commands == ("pipe 1 config bw 9Mbit/s delay 5 codel target 4ms interval 80ms",)
-    assert became[3].commands == ("add 10 pipe 1 ip from any to any",)
-    assert [one.kind for one in became] == [SAME, APPROXIMATED, APPROXIMATED, APPROXIMATED]
-
-
-def test_what_the_rules_do(tmp_path: Path, alone: Callable[[bytes], bytes]) -> None:
-    """By hand: rule 2000 sends 320 bytes to port 24 through pipe 2, 256 kbit/s and 270 ms, and 2099 allows
-    them (1 ns): 280000001 ns. With `not dst-port 22`, packets to port 22 bypass it: 1 ns. Rule 2020 after the
-    pipe denies a TCP packet to port 23."""
-    traffic = tmp_path / "traffic.txt"
-    traffic.write_text(
-        "@1000000000 inject udp 192.0.2.1 1000 198.51.100.1 24 320\n@2000000000 inject udp 192.0.2.1 1000 "
-        "198.51.100.1 22 320\n@3000000000 inject tcp 192.0.2.1 1000 198.51.100.1 23 320\n")
-    status, said, _ = tool("from-ipfw", FOLDER / "satellite-voip.sh", "--lenient", "--traffic", traffic,
-                           "--seed", 7)
-    assert status == 0
-    report = alone(said.encode()).decode()
-    assert "1280000001 deliver 0 plain" in report
-    assert "2000000001 deliver 1 plain" in report
-    assert "3280000000 drop 2 plain denied" in report
-
-
-def test_directions_of_a_host() -> None:
-    """With --me and no --if, outgoing packets have the host's address as source, and incoming ones as
-    destination."""
-    rules = imported("add 1 pipe 1 out", "add 2 pipe 2 in", "add 3 allow ip from 10.0.0.1 to any out",
-                     behind={}, me="10.0.0.9")
-    assert [one.commands[0] for one in rules] == ["add 1 pipe 1 ip from 10.0.0.9 to any",
-                                                  "add 2 pipe 2 ip from any to 10.0.0.9",
-                                                  "add 3 allow ip from 10.0.0.1 to any"]
-
-
-def test_any_address_behind_an_interface() -> None:
-    """Nothing narrows the rule, so the note states that the direction is lost."""
-    deny, via = imported("add 1 deny tcp from any to any 113 in via em0",
-                         "add 2 deny udp from any to any via em0", behind={"em0": "any"})
-    assert (deny.commands == ("add 1 deny tcp from any to any 113",)
-            and via.commands == ("add 2 deny udp from any to any",))
-    assert ("left out" in deny.said[0] and "packets the other way now match too" in deny.said[0]
-            and "left out" in via.said[0])
-
-
-def test_denied_by_chance(alone: Callable[[bytes], bytes]) -> None:
-    """By hand: with one_pass 1 a packet that leaves pipe 1 is delivered (100 bytes at 1 Mbit/s: 0.8 ms, 1 ns
-    for a delay of 0, and 1 ns for `allow`), although rule 300 would deny it. A packet to port 9 goes through
-    the pipe without loss (1 ns), and rule 300 denies it."""
-    lines = ["pipe 1 config bw 1Mbit/s", "add 100 pipe 1 udp from any to any 7",
-             "add 200 prob 0 deny ip from any to any",
-             "add 300 deny udp from any to any"]
-    one = [command for each in imported(*lines) for command in each.commands]
-    text = "experiment e seed 1 budget 9\n" + "".join(f"@0 {command}\n" for command in one)
-    text += "@1 inject udp 10.0.0.1 1 10.0.0.2 7 100\n@2 inject udp 10.0.0.1 1 10.0.0.2 9 100\n@9000000 end\n"
-    report = alone(text.encode()).decode()
-    assert "800003 deliver 0 plain" in report and "drop 1 plain denied" in report
-
-
 def test_dummynets_own_examples() -> None:
     """Four of the 29 lines of ipfw(8)'s and dummynet's examples are refused: two that route at random, a rate
     of an interface, and `call`."""
@@ -137,63 +68,76 @@ def test_dummynets_own_examples() -> None:
         "60000 call 100 ip from any to any"]
 
 
-def test_refusals_have_a_way_out() -> None:
+# Lines, all commands that they become, and the kind of each line.
+SEQUENCES = {
+    # A pipe with FQ-CoDel becomes a pipe with CoDel and the same times.
+    "schedulers": (["pipe 1 config bw 9Mbit/s delay 5",
+                    "sched 1 config pipe 1 type fq_codel target 4ms interval 80ms flows 1024",
+                    "queue 1 config sched 1 weight 9", "add 10 queue 1 ip from any to any"],
+                   ["pipe 1 config bw 9Mbit/s delay 5",
+                    "pipe 1 config bw 9Mbit/s delay 5 codel target 4ms interval 80ms",
+                    "add 10 pipe 1 ip from any to any"], "same approximated approximated approximated"),
+    # ipfw(8): the default number of a rule is the maximum so far plus 100.
+    "numbers": (["add allow ip from any to any", "add 250 allow ip from any to any", "add count",
+                 "add 60 count", "add count", "add fwd 1.2.3.4 ip from any to any", "add count"],
+                ["add 100 allow ip from any to any", "add 250 allow ip from any to any",
+                 "add 350 count ip from any to any", "add 60 count ip from any to any",
+                 "add 450 count ip from any to any", "add 650 count ip from any to any"],
+                "rewritten same rewritten rewritten rewritten refused rewritten"),
+    # The longest prefix comes first, because it determines a table's value.
+    "tables": (["table 1 add 10.0.0.0/8 1", "table 1 add 10.1.0.0/16 2",
+                "add 5 pipe tablearg ip from table(1) to any", "add 6 allow ip from any to table(9)"],
+               ["add 5 pipe 2 ip from 10.1.0.0/16 to any", "add 5 pipe 1 ip from 10.0.0.0/8 to any"],
+               "rewritten rewritten approximated refused"),
+    "flush": (["flush", "add 1 allow ip from any to any", "flush"], ["add 1 allow ip from any to any"],
+              "dropped same refused"),
+    # `not` skips a rule of its own number, so no other rule may have that.
+    "not": (["add 5 deny ip from any to not 10.0.0.1", "add 5 allow ip from any to any"],
+            ["add 5 skipto 6 ip from any to 10.0.0.1", "add 5 deny ip from any to any"],
+            "rewritten refused"),
+    "sets": (["set disable 3", "add 5 set 3 allow ip from any to any",
+              "add 5 set 4 allow ip from any to any"],
+             ["add 5 allow ip from any to any"], "dropped dropped rewritten"),
+}
+
+
+@pytest.mark.parametrize("name", SEQUENCES)
+def test_sequences(name: str) -> None:
+    lines, commands, kinds = SEQUENCES[name]
+    found = imported(*lines, flatten=True)
+    assert [command for one in found for command in one.commands] == commands
+    assert [one.kind for one in found] == kinds.split()
+
+
+@pytest.mark.parametrize("line, context, command, said", [
+    # With --me and no --if, outgoing packets have the host's address as source, and incoming ones as
+    # destination.
+    ("add 1 pipe 1 out", {"behind": {}, "me": "10.0.0.9"}, "pipe 1 ip from 10.0.0.9 to any", "--me"),
+    ("add 1 pipe 2 in", {"behind": {}, "me": "10.0.0.9"}, "pipe 2 ip from any to 10.0.0.9", "--me"),
+    ("add 1 allow ip from 10.0.0.1 to any out", {"behind": {}, "me": "10.0.0.9"},
+     "allow ip from 10.0.0.1 to any", "`out` left out"),
+    # Nothing narrows the rule, so the direction is lost.
+    ("add 1 deny tcp from any to any 113 in via em0", {"behind": {"em0": "any"}},
+     "deny tcp from any to any 113", "packets the other way now match too"),
+    ("add 1 deny udp from any to any via em0", {"behind": {"em0": "any"}}, "deny udp from any to any",
+     "left out"),
+    ("add 1 pipe 1 ip from any to any out", {}, "pipe 1 ip from any to any",
+     "packets the other way now go through this pipe too: narrow")])
+def test_directions(line: str, context: dict[str, object], command: str, said: str) -> None:
+    one, = imported(line, **context)
+    assert one.commands == (f"add 1 {command}",) and len(one.said) == 1 and said in one.said[0]
+    assert ("the other way" in one.said[0]) == ("the other way" in said)
+
+
+@pytest.mark.parametrize("line, words", [
+    ("add 1 allow ip from any to any in via em7", ("em7", "--if em7=")),
+    ("add 1 allow ip from me to any", ("me", "--me")), ("pipe 1 config plr 1%", ("1%", "0.01")),
+    ("pipe 1 config bw em0", ("em0", "10Mbit/s")),
+    ("add 1 prob 0.5 allow ip from any to any", ("prob", "addresses and ports"))])
+def test_refusals_have_a_way_out(line: str, words: tuple[str, str]) -> None:
     """Each refusal names the word, and what to do instead."""
-    for line, *wanted in (("add 1 allow ip from any to any in via em7", "em7", "--if em7="),
-                          ("add 1 allow ip from me to any", "me", "--me"),
-                          ("pipe 1 config plr 1%", "1%", "0.01"), ("pipe 1 config bw em0", "em0", "10Mbit/s"),
-                          ("add 1 prob 0.5 allow ip from any to any", "prob", "addresses and ports")):
-        said = imported(line)[-1].said[0]
-        assert all(word in said for word in wanted), said
-
-
-def test_a_direction_left_out() -> None:
-    """Without `out`, a pipe between any addresses also receives incoming packets. A pipe from the host's own
-    address does not."""
-    pipe, rule, own = (imported(line)[-1].said for line in (
-        "add 1 pipe 1 ip from any to any out", "add 1 deny ip from any to any in",
-        "add 1 pipe 1 ip from 10.0.0.1 to any out"))
-    assert (len(pipe) == 1 and "packets the other way now go through this pipe too" in pipe[0]
-            and "narrow" in pipe[0])
-    assert "packets the other way now match too" in rule[0]
-    assert len(own) == 1 and "`out` left out" in own[0] and "the other way" not in own[0]
-
-
-def test_numbers_of_rules() -> None:
-    """ipfw(8): the default number of a rule is the maximum so far plus 100."""
-    rules = imported("add allow ip from any to any", "add 250 allow ip from any to any",
-                     "add allow ip from any to any",
-                     "add 60 allow ip from any to any", "add allow ip from any to any",
-                     "add fwd 1.2.3.4 ip from any to any",
-                     "add allow ip from any to any")
-    assert [one.commands[0].split()[1]
-            for one in rules if one.kind != REFUSED] == ["100", "250", "350", "60", "450", "650"]
-
-
-def test_tables() -> None:
-    """The longest prefix comes first, because it determines a table's value."""
-    rules = imported("table 1 add 10.0.0.0/8 1", "table 1 add 10.1.0.0/16 2",
-                     "add 5 pipe tablearg ip from table(1) to any",
-                     "add 6 allow ip from any to table(9)")
-    assert rules[2].commands == ("add 5 pipe 2 ip from 10.1.0.0/16 to any",
-                                 "add 5 pipe 1 ip from 10.0.0.0/8 to any")
-    assert rules[3].kind == REFUSED
-
-
-def test_flush_behind_rules() -> None:
-    assert [one.kind for one in imported("flush", "add 1 allow ip from any to any",
-                                         "flush")] == [DROPPED, SAME, REFUSED]
-
-
-def test_not_goes_around_its_own_rule_alone() -> None:
-    rules = imported("add 5 deny ip from any to not 10.0.0.1", "add 5 allow ip from any to any")
-    assert [one.kind for one in rules] == [REWRITTEN, REFUSED]
-
-
-def test_disabled_sets() -> None:
-    assert became("add 5 set 3 allow ip from any to any", "set disable 3") == (DROPPED, ())
-    assert became("add 5 set 4 allow ip from any to any",
-                  "set disable 3") == (REWRITTEN, ("add 5 allow ip from any to any",))
+    said = imported(line)[-1].said[0]
+    assert all(word in said for word in words)
 
 
 def test_listings() -> None:
