@@ -39,16 +39,3 @@ def test_help_fits_and_shows_two_examples(tool: str) -> None:
     assert len(found) >= 2
     # At least one example calls the tool by its path.
     assert sum(tool in line for line in found) >= 1
-
-
-def test_what_an_example_is() -> None:
-    text = "usage: a\n\nExample:\n  a one \\\n    two\n  a three\n\nExit status: 0\n  no example\n"
-    assert examples_in(text) == ["a one \\", "a three"]
-    assert not examples_in("usage: a\n\n  a one\n")
-
-
-def test_all_tools_are_asked() -> None:
-    assert {"tools/summary", "tools/gate/docs", "tools/attack/hostile", "cookbook/check", "stacks/check",
-            "test"} <= set(TOOLS)
-    assert all((ROOT / tool).exists() for tool in OF_DNLAB)
-    assert not [tool for tool in TOOLS if Path(tool).suffix == ".md"]

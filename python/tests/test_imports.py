@@ -53,12 +53,6 @@ def test_a_script_is_named_after_its_command(name: str, tmp_path: Path) -> None:
     assert done.stdout.startswith("dnlab-from-ipfw ")
 
 
-def test_tables_load_them() -> None:
-    """This shows that the test above can fail."""
-    example = next(ROOT.glob("examples/*/codel_one_drop"))
-    assert "numpy" in loaded(ROOT / "tools" / "summary", example / "expected.txt", example / "scenario.txt")
-
-
 RUN = """import dnlab
 report = dnlab.run("experiment a seed 1 budget 9\\n@9 end\\n")
 assert list(report) == ["a"] and "Report" in repr(report) and report.origin is not None

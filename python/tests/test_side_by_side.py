@@ -53,11 +53,6 @@ def test_what_fails_is_counted(script: str, how: str, passed: str) -> None:
     assert status == 1 and f"test: it: {how}, S s" in said and said[-1] == passed
 
 
-def test_none_that_ran_is_no_success() -> None:
-    status, said = ran(piece("it", "echo 1 passed, 0 failed", needs="command -v no-such-program"))
-    assert status == 1 and said[-1] == "0 passed, 0 failed, 1 skipped"
-
-
 @pytest.mark.parametrize("made, status, last", [("echo /made/it", 0, "1 passed, 0 failed"),
                                                 ("exit 3", 1, "0 passed, 1 failed, 1 skipped")])
 def test_what_waits_for_a_program(made: str, status: int, last: str) -> None:
@@ -78,13 +73,3 @@ def test_ctrl_c_ends_what_runs(tmp_path: Path) -> None:
     assert process.stdout and "passed" not in process.stdout.read()
     with pytest.raises(ProcessLookupError):
         os.kill(int((tmp_path / "number").read_text()), 0)
-
-
-def test_each_piece_is_there() -> None:
-    """Each name in a list can be called, and no name occurs twice."""
-    for words in (["seen"], ["quick"], ["whole", "/bin/true"]):
-        said = subprocess.run([GATE / "side_by_side", *words, "--list"], capture_output=True, text=True,
-                              check=True).stdout.splitlines()
-        names = [line.partition(": ")[0] for line in said]
-        assert len(set(names)) == len(names) > 5
-        assert all((ROOT / name).is_file() for name in names if not name.startswith("the "))

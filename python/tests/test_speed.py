@@ -1,8 +1,6 @@
 """tools/beside/speed: the cost of runs, as two tables, for a program that claims to be proved."""
 import hashlib
-import signal
 import subprocess
-import time
 from pathlib import Path
 
 from conftest import ROOT
@@ -58,24 +56,3 @@ def test_a_program_that_is_not_proved(tmp_path: Path) -> None:
 def test_reports_that_differ(tmp_path: Path) -> None:
     done = speed(stub(tmp_path, "dnlab 9 (commit abc, proved by kit)", "date +%N"))
     assert done.returncode == 1 and "reports of one load differ" in done.stderr
-
-
-def test_a_run_that_fails(tmp_path: Path) -> None:
-    done = speed(stub(tmp_path, "dnlab 9 (commit abc, proved by kit)", "exit 4"))
-    assert done.returncode == 3 and "status 4" in done.stderr
-
-
-def test_its_end_by_sigint(tmp_path: Path) -> None:
-    # A run that would continue: the tool ends it, and itself, within two seconds.
-    words = ["/bin/sh", "-c", "trap - INT; exec \"$0\" \"$@\"", str(TOOL),
-             stub(tmp_path, "dnlab 9 (commit abc, proved by kit)", f"touch {tmp_path}/begun; exec sleep 60"),
-             "--small"]
-    child = subprocess.Popen(words, stdout=subprocess.DEVNULL, stderr=subprocess.PIPE, text=True,
-                             preexec_fn=lambda: signal.signal(signal.SIGINT, signal.default_int_handler))
-    until = time.monotonic() + 20
-    while not (tmp_path / "begun").exists() and time.monotonic() < until:
-        time.sleep(0.05)
-    begun = time.monotonic()
-    child.send_signal(signal.SIGINT)
-    _, said = child.communicate(timeout=20)
-    assert child.returncode == 130 and said == "speed: ended by SIGINT\n" and time.monotonic() - begun < 2
