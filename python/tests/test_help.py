@@ -1,7 +1,6 @@
 """The `--help` of each tool fits a terminal of 80 columns and has two examples."""
 import os
 import subprocess
-from pathlib import Path
 
 import pytest
 from conftest import ROOT

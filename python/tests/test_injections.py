@@ -1,17 +1,14 @@
 """Lines `inject` that are read in blocks: the result agrees with the grammar of docs/reference/scenario.md
 and with the program."""
 import subprocess
-from pathlib import Path
-from typing import Callable, Iterator, Optional
+from typing import Iterator, Optional
 
 import pytest
-from test_naming import LINK, MINE, MS, SCENARIO, row_of
 
-import dnlab
 from dnlab.io import scenario
 from dnlab.io.files import scenario_checksum
 from dnlab.io.scenario import Judged
-from dnlab.io.scenario_parts import Run, Sends
+from dnlab.io.scenario_parts import Run
 
 GOOD = b"@5 inject udp 10.0.0.1 1000 10.0.1.1 2000 1000"
 # Each line with the cause of its fault by the grammar, or None if it has none.
@@ -118,20 +115,6 @@ def test_commands_are_what_lines_say(many: int) -> None:
                                            for place in range(101)]
 
 
-def test_commands_are_a_sequence(many: int) -> None:
-    commands = scenario.read(text_of_packets())["a"].commands
-    packets = [one for one in commands if one.word == "inject"]
-    assert [one.moment for one in packets] == [packet[0] for packet in PACKETS]
-    assert commands[20].stops == 3 and commands[-1].word == "end" and list(commands) == commands[:]
-    assert [commands[place] for place in range(len(commands))] == list(commands)
-    assert commands[3] == (5, 3 * 10**13, "inject", "inject udp 10.0.0.3 1800 255.3.0.0 65532 82",
-                           Sends("inject", None, 82, source="10.0.0.3", target="255.3.0.0"), None, None)
-    with pytest.raises(IndexError):
-        commands[len(PACKETS) + 2]
-    assert (commands.text().count(b"\n") == len(PACKETS) + 2 and b"  " not in commands.text()
-            and b"#" not in commands.text())
-
-
 def test_a_checksum_is_of_the_commands(monkeypatch: pytest.MonkeyPatch) -> None:
     found = []
     for number in (1, 10**9):
@@ -141,27 +124,6 @@ def test_a_checksum_is_of_the_commands(monkeypatch: pytest.MonkeyPatch) -> None:
     # printf 'a 1 9 1000000\n@5 inject udp 10.0.0.1 1000 10.0.1.1 2000 1000\n@5 inject .. 1000\n@9 end\n' |
     # sha256sum
     assert found == ["6a51660581b73791e79962fc27538c2c8b983b84d6a3ef07511e91812bcaf963"] * 2
-
-
-def test_tables_by_hand(many: int, tmp_path: Path, traced: Callable[[bytes], bytes]) -> None:
-    """The rows are those that test_naming.py calculates by hand, whichever way lines are read."""
-    (tmp_path / "scenario.txt").write_text(SCENARIO)
-    (tmp_path / "report.txt").write_bytes(traced(SCENARIO.encode()))
-    report = dnlab.read(tmp_path / "report.txt", tmp_path / "scenario.txt", names=MINE)
-    assert row_of(report.summary(), "mine") == [3, 2, 1, 2000, 11 * MS, 12_500_000, 1_280_000]
-    one = report["one"]
-    assert list(one.packets().sender) == ["mine", "injected", "mine", "mine", "injected", "train 1"]
-    assert one.commands().text.tolist() == [line.split(" ", 1)[1] for line in LINK.splitlines()]
-    assert (one.commands().line.tolist() == list(range(2, 11))
-            and bool(one.view.plan.commands.runs) == (many == 1))
-
-
-def test_another_moment_is_refused(many: int, tmp_path: Path, traced: Callable[[bytes], bytes]) -> None:
-    (tmp_path / "report.txt").write_bytes(traced(SCENARIO.encode()))
-    (tmp_path / "scenario.txt").write_text(SCENARIO.replace("@30000000 inject", "@30000001 inject"))
-    with pytest.raises(dnlab.InputError,
-                       match="command 6 at 30000000, where line 8 of the scenario has 30000001"):
-        dnlab.read(tmp_path / "report.txt", tmp_path / "scenario.txt")["one"]
 
 
 @pytest.mark.parametrize("line,cause", LINES, ids=[f"{place}" for place in range(len(LINES))])

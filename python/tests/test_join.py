@@ -2,13 +2,17 @@
 scenarios."""
 import os
 import random
+import sys
 
 import pytest
-from conftest import QUICK, report_of, text_of, text_view, view_of, views_of
+from conftest import QUICK, ROOT, report_of, text_of, text_view, view_of, views_of
 
 from dnlab.analysis.view import View
 from dnlab.errors import ParseError
 from dnlab.io.rows import DATA, INSTANCE, RULE, instance_name
+
+sys.path.append(str(ROOT / "tools" / "second"))
+import draw_scenario  # noqa: E402  (the path is set first)
 
 # Changes of the scenario or the report of reno_four_segments: which of them, old and new text, and the cause.
 JOINS = [
@@ -67,68 +71,16 @@ def test_visits_by_hand() -> None:
     assert traced.is_told
 
 
-FLOWS = ("", " window 3000", " ssthresh 4000", " rto 100", " rto adaptive", " rto 20 ssthresh 3000")
-
-
-def pipe_words(chance: random.Random, number: int) -> str:
-    """Generates a configuration, in which each option may be missing."""
-    words = [f"pipe {number} config"]
-    choices = ((0.8, "bw", ("0", "1Mbit/s", "8Mbit/s", "100Kbit/s")), (0.8, "delay", ("0", "1", "5", "20")),
-               (0.6, "queue", ("2", "5", "50", "3KB")), (0.4, "plr", ("0.1", "0.3", "0.01")),
-               (0.3, "mask", ("all", "dst-ip 0xffffffff src-port 0xffff", "proto 0xff")),
-               (0.3, "codel", ("", "target 1 interval 10")))
-    for share, word, values in choices:
-        if chance.random() < share:
-            words.append(f"{word} {chance.choice(values)}".strip())
-    return " ".join(words)
-
-
-def command(chance: random.Random, pipes: int, flows: list[int]) -> str:
-    """Generates a command for the middle of a scenario."""
-    kind = chance.randrange(8)
-    number = chance.randrange(1, 9)
-    if kind <= 2:
-        flows.append(number)
-        return (f"flow {number} 10.0.0.1 1000 10.0.0.2 80 smss {chance.choice((100, 1024, 1095, 1460))}"
-                f" segments {chance.choice((chance.randrange(1, 60), 200))}{chance.choice(FLOWS)}")
-    if kind == 3:
-        return (f"train {number} udp 10.0.0.1 1 10.0.0.3 2 {chance.randrange(40, 1501)}"
-                f" count {chance.randrange(1, 60)} gap {chance.choice((0, 1, 1000000, 1234567))}")
-    if kind == 4:
-        return f"inject udp 10.0.0.1 1 10.0.0.3 2 {chance.randrange(40, 1501)}"
-    if kind == 5:
-        return pipe_words(chance, chance.randrange(1, pipes + 1))
-    if kind == 6:
-        return chance.choice([f"pipe delete {chance.randrange(1, pipes + 1)}", "one_pass 0", "one_pass 1"])
-    return f"stop {chance.choice(flows)}" if flows and chance.random() < 0.5 else "pipe show"
-
-
 def random_scenario(seed: int) -> str:
-    """Generates scenarios with pipes of all kinds, flows, trains, loss, later commands, small budgets, and
-    four listings. A third of them are traced from the start, and a third from a later time."""
-    chance = random.Random(seed)
-    pipes = chance.randrange(1, 4)
-    lines = [f"experiment x seed {seed} budget {chance.choice((5, 20, 100, 1000))}"
-             f" steps {chance.choice((50, 500, 100000))}"]
-    lines += ["@0 trace 1"] if seed % 3 == 0 else []
-    lines += [f"@0 one_pass {chance.randrange(2)}"]
-    lines += [f"@0 {pipe_words(chance, number)}" for number in range(1, pipes + 1)]
-    for number in range(chance.randrange(1, 5)):
-        action = chance.choice([f"pipe {chance.randrange(1, pipes + 1)}"] * 4 + ["allow", "count"])
-        lines.append(f"@0 add {100 * (number + 1)} {action} {chance.choice(('ip', 'tcp', 'udp'))}"
-                     f" from {chance.choice(('any', '10.0.0.0/24'))} to any")
-    lines.append("@0 add 900 allow ip from any to any")
-    moment, flows = 0, []
-    for _ in range(chance.randrange(2, 9)):
-        moment += chance.choice((0, 0, 1000000, 50000000, 200000000))
-        lines.append(f"@{moment} {command(chance, pipes, flows)}")
-    lines += [f"@{moment} trace 1"] if seed % 3 == 1 else []
-    for _ in range(4):
+    """Returns a random scenario with four listings of its pipes at the end."""
+    head, *lines = draw_scenario.experiment(random.Random(seed), "x")
+    lines = [line for line in lines if not line.endswith((" end", " show"))]
+    moment = int(lines[-1].split(" ")[0][1:])
+    for later in 1_000_003, 10_000_019, 100_000_007, 1_000_000_007:
         # There is no other command at these times, so a listing has the state before it.
-        moment += chance.choice((1000003, 10000019, 100000007))
+        moment += later
         lines.append(f"@{moment} pipe show")
-    lines.append(f"@{moment + chance.choice((0, 10**9, 6 * 10**10))} end")
-    return "\n".join(lines) + "\n"
+    return "\n".join([head, *lines, f"@{moment + 10**9} end", ""])
 
 
 def listed(view: View, moment: int, pipe: int) -> tuple[int, int]:

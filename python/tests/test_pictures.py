@@ -1,14 +1,15 @@
 """The axes of figures, compared with values calculated by hand from the reports (times in ms). Long series
 are thinned."""
+from pathlib import Path
+
 import numpy as np
 import pytest
-from conftest import records_in, text_of, view_of
+from conftest import EXAMPLES, records_in, rows_file, text_of, tool, view_of
 from hypothesis import given, settings
 from hypothesis import strategies as some
 
 from dnlab.analysis.series import Series, thinned
 from dnlab.analysis.view import View
-
 from dnlab.plot import pictures
 
 
@@ -116,3 +117,17 @@ def test_thinned(values: list[int], stretches: int, chance) -> None:
         before, after = one.values[at == stretch], few.values[kept == stretch]
         assert (before.min(), before.max(), before[0],
                 before[-1]) == (after.min(), after.max(), after[0], after[-1])
+
+
+def test_files_drawn(tmp_path: Path) -> None:
+    scenario = EXAMPLES / "reno_four_segments" / "scenario.txt"
+    report = rows_file(scenario, tmp_path)
+    for ending, begins in (("svg", b"<?xml"), ("png", b"\x89PNG"), ("pdf", b"%PDF")):
+        twice = []
+        for name in (f"a.{ending}", f"b.{ending}"):
+            status, _, err = tool("plot", report, scenario, "--out", tmp_path / name)
+            assert status == 0 and not err
+            twice.append((tmp_path / name).read_bytes())
+        assert twice[0].startswith(begins) and twice[0] == twice[1]
+    status, _, err = tool("plot", report, scenario, "--out", tmp_path / "none" / "a.svg")
+    assert status == 3 and "a.svg" in err

@@ -171,6 +171,28 @@ def test_shown_in_a_notebook(files: Callable[..., list[Path]]) -> None:
     assert len(shown.splitlines()) <= 5 and "train 9" in shown and len(shown) < 500
 
 
+def test_settings_are_columns_with_their_defaults(program: str) -> None:
+    """According to docs/reference/scenario.md: no rate, no delay, 50 slots, no loss, droptail; CoDel has 5
+    and 100 ms, a flow 65535 bytes."""
+    text = ("experiment a seed 1 budget 9\n@0 pipe 1 config\n@0 pipe 2 config bw 8Mbit/s delay 3\n@0 flow 1 "
+            "10.0.0.1 1 10.0.0.2 2 smss 100 segments 2\n@1 pipe 2 config bw 4Mbit/s delay 3\n@9 "
+            "end\nexperiment b seed 2 budget 9\n@0 pipe 1 config codel interval 200us mask dst-ip 0xff proto "
+            "0x0f queue 3KBytes plr 0.5\n@9 end\nexperiment c seed 2 budget 9\n@0 pipe 1 config codel "
+            "target 1\n@9 end\n")
+    found = dnlab.run(text, dnlab=program).params()
+    a, b = found.loc["a"], found.loc["b"]
+    names = ("bw", "delay", "queue", "plr", "discipline", "mask")
+    assert [a[f"pipe1_{name}"] for name in names] == [0, 0, 50, 0, "droptail", ""]
+    names = ("queue_bytes", "plr", "discipline", "target", "interval", "mask")
+    wanted = [3072, 0.5, "codel", 5_000_000, 200_000, "dst-ip 0xff proto 0x0f"]
+    assert [b[f"pipe1_{name}"] for name in names] == wanted
+    assert (found.loc["c", ["pipe1_target", "pipe1_interval"]].tolist() == [1_000_000, 100_000_000]
+            and a["pipe1_target"] is pd.NA)
+    assert (a["pipe2_bw"], a["pipe2_delay"], a["flow1_window"],
+            a["flow1_segments"]) == ("varies", 3_000_000, 65535, 2)
+    assert "pipe1_bw" not in dnlab.run(text, dnlab=program).params(changed=True)
+
+
 def test_intervals() -> None:
     rows = pd.DataFrame({"varied": ["a", "a", "b", "b"], "p95": pd.array([1, 3, 5, None], "Int64"),
                          "rate": [1, 1, 1, 3]})

@@ -145,16 +145,6 @@ def test_spread_joins_rows(tmp_path: Path) -> None:
     assert tool("summary", tmp_path / "r.npy", scenario)[0] == 0
 
 
-def test_a_run_in_parts(tmp_path: Path) -> None:
-    """600 experiments are more than one call of the program takes; each has its own packet."""
-    text = "".join(
-        f"experiment e{number} seed 0 budget 10\n@0 add 1 allow ip from any to any\n@{number} inject udp "
-        "10.0.0.1 1 10.0.0.2 2 100\n@999 end\n" for number in range(600))
-    report = dnlab.run(text, out=tmp_path / "r.npy")
-    assert [report[name].packets().made.tolist()
-            for name in ("e0", "e255", "e256", "e599")] == [[0], [255], [256], [599]]
-
-
 def test_a_program_that_writes_a_text(tmp_path: Path, program: str) -> None:
     """A program that ignores --format is no answer without values."""
     (tmp_path / "old").write_text(
@@ -175,7 +165,7 @@ def test_without_the_scenario(data: bytes) -> None:
         records_in(data[:700])
 
 
-@pytest.mark.parametrize("name", ["drawn_05", "four_experiments", "two_pipes_in_turn", "reno_timeouts"])
+@pytest.mark.parametrize("name", ["drawn_05", "four_experiments"])
 def test_tools_on_rows(name: str, tmp_path: Path, traced: Traced) -> None:
     """Each tool prints the same of rows, of packed rows, of rows on standard input and of a traced text."""
     scenario, text = EXAMPLES / name / "scenario.txt", text_of(name, "scenario.txt")

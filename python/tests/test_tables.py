@@ -1,20 +1,13 @@
-"""Rows of a summary, windows, losses, groups and notes, compared with values calculated by hand."""
-import math
-
+"""Rows of a summary, windows, losses and groups, compared with values calculated by hand."""
 import pytest
 from conftest import records_in, text_of, view_of, views_of
-from hypothesis import given
-from hypothesis import strategies as some
 
-from dnlab.analysis.quantities import half_of
-from dnlab.analysis.quantities import Interval, interval, jain, percentile_name, place
 from dnlab.analysis.intervals import losses, windows_of
-from dnlab.analysis.names import varied
 from dnlab.analysis.metrics import times_of
+from dnlab.analysis.names import varied
 from dnlab.analysis.summary import grouped
 from dnlab.analysis.tables import Tables
 from dnlab.analysis.view import View
-from dnlab.cli.summary import milliseconds, table
 from dnlab.errors import InputError
 from dnlab.io import scenario
 
@@ -62,13 +55,6 @@ def test_a_flow() -> None:
     assert (rows["there"]["bytes"], rows["back"]["bytes"], rows["all"]["bytes"]) == (6000, 160, None)
     assert (rows["all"]["packets"], rows["there"]["packets"], rows["back"]["packets"]) == (8, 4, 4)
     assert rows["all"]["jain"] == 1.0
-
-
-def test_sent_again() -> None:
-    """reno_timeouts: three segments and two timeouts, all lost; nothing arrived."""
-    flow = rows_of(view_of("reno_timeouts"))["flow 1"]
-    assert (flow["packets"], flow["retransmissions"], flow["useful"], flow["goodput"],
-            flow["fct"]) == (5, 2, 0, None, None)
 
 
 BOTH = b"""experiment both seed 7 budget 20 steps 100
@@ -164,72 +150,6 @@ def test_losses() -> None:
             for row in timeouts] == [("flow 1", "lost", "1.0", 5)]
 
 
-SILENT = b"""experiment silent seed 1 budget 2 steps 13
-@0 pipe 1 config delay 10
-@0 add 100 pipe 1 tcp from 10.0.0.0/24 to 10.0.1.0/24
-@0 flow 1 10.0.0.1 1 10.0.1.1 2 smss 1000 segments 9
-@15000000 train 2 udp 10.0.0.1 1 10.0.1.1 2 100 count 1 gap 0
-@20000000 end
-"""
-
-
-def test_what_is_silently_wrong() -> None:
-    """By hand: three commands, two emissions with their finishes, two more that the budget drops, two
-    deliveries whose acknowledgements no rule allows, the command of the train and its packet, which no rule
-    allows either: 13 steps."""
-    view, = views_of(SILENT)
-    kinds = {note.kind: note.text for note in view.notes}
-    assert "flow 1 acks" in kinds["no way back"]
-    assert "train 2: 1 of 1 packets were denied" in kinds["denied"]
-    # Two of the four segments that the first window allows exceed the budget.
-    assert "flow 1: 2 of 4 packets" in kinds["budget"]
-    assert "at 15000000 ns, before its end at 20000000 ns" in kinds["spent"]
-    rows = rows_of(view)
-    assert rows["flow 1 acks"]["warnings"].split() == ["spent", "no-way-back"]
-    assert rows["flow 1"]["warnings"].split() == ["spent", "budget"]
-    assert {"spent", "no-way-back", "denied", "budget"} == set(rows["all"]["warnings"].split())
-    assert (rows["all"]["ended"], rows["all"]["end"]) == ("spent", 20000000)
-    assert f"spent {milliseconds(view.ended.moment)} of 20.000000 ms" in table(
-        Tables(view).rows(), exact=True)
-
-
-def test_ranks() -> None:
-    assert [place(count, of) + 1
-            for count, of in ((1, 50), (2, 50), (3, 50), (200, 99), (1000, "99.9"), (4, 100))] == [
-        1, 1, 2, 198, 999, 4]
-    assert [percentile_name(one) for one in (50, "50.0", 95, "99.9")] == ["p50", "p50", "p95", "p99.9"]
-
-
-@given(some.lists(some.integers(0, 10**15), min_size=1, max_size=60), some.integers(1, 100))
-def test_rank_is_the_least_that_fits(values: list[int], percentile: int) -> None:
-    values.sort()
-    found = values[place(len(values), percentile)]
-    assert sum(value <= found for value in values) * 100 >= percentile * len(values)
-    assert all(sum(value <= less for value in values) * 100 < percentile * len(values)
-               for less in values if less < found)
-
-
-def test_fairness() -> None:
-    # By hand: (1 + 3)^2 / (2 * (1 + 9)).
-    assert jain([1, 3]) == 0.8 and jain([5, 5, 5]) == 1.0 and jain([0, 0]) is None
-
-
-def test_intervals() -> None:
-    # From a table of Student's t (97.5 %).
-    wanted = {1: 12.706, 2: 4.303, 3: 3.182, 4: 2.776, 10: 2.228, 29: 2.045, 30: 2.042, 120: 1.980}
-    # Half of the values are -1 and half are 1, or one is 0: t is half the width over their standard error.
-    for freedom, t in wanted.items():
-        values = [float(place % 2) for place in range(freedom + 1)]
-        mean = sum(values) / len(values)
-        error = (sum((value - mean) ** 2 for value in values) / freedom / len(values)) ** 0.5
-        assert round(half_of(values) / error, 3) == t
-    found = interval([2.0, 4.0, 4.0, 6.0])
-    # Mean 4, squares 4 + 0 + 0 + 4, so the deviation is sqrt(8 / 3), over sqrt(4).
-    assert found.count == 4 and found.mean == 4.0
-    assert math.isclose(found.half, 3.182446 * math.sqrt(8 / 3) / 2, rel_tol=1e-6)
-    assert interval([7.0]) == Interval(1, 7.0, None) and interval([]) == Interval(0, None, None)
-
-
 def test_groups() -> None:
     rows = [{"sender": "train 1", "varied": setting, "p95": value} for setting, value in
             (("a", 1), ("b", 10), ("a", 3), ("b", None))]
@@ -239,32 +159,26 @@ def test_groups() -> None:
     assert found[1]["p95 ci95"] is None
 
 
-def test_what_varies() -> None:
-    text = "".join(
-        f"experiment {name} seed 1 budget 9\n@0 pipe 1 config bw 1Mbit/s {queue}\n@0 pipe 2 config "
-        "delay 9\n@9 end\n" for name, queue in
-        (("a", "queue 5"), ("b", "queue 5 codel target 5 interval 9"),
-         ("c", "mask proto 0xff queue 7")))
+EVERY = "experiment {} seed 1 budget 9\n@0 pipe 1 config {}\n@9 end\n"
+
+
+@pytest.mark.parametrize("configs, wanted", [
+    # A queue of 50 slots is the default, and 1000Kbit/s is 1Mbit/s: only values that differ are listed.
+    (["bw 1Mbit/s", "bw 1000Kbit/s queue 50", "bw 1Mbit/s queue 9"], ["queue 50", "queue 50", "queue 9"]),
+    (["queue 5", "queue 5 codel target 5 interval 9", "mask proto 0xff queue 7"],
+     ["queue 5 droptail", "queue 5 codel target 5 interval 9", "queue 7 droptail mask proto 0xff"]),
+    (["bw 1Mbit/s\n@5 pipe 1 config bw 2Mbit/s", "bw 1Mbit/s"],
+     ["bw 1Mbit/s then bw 2Mbit/s", "bw 1Mbit/s"])])
+def test_what_varies(configs: list[str], wanted: list[str]) -> None:
+    text = "".join(EVERY.format(f"e{number}", words) for number, words in enumerate(configs))
     assert varied(scenario.read(text.encode())) == {
-        "a": "pipe 1 queue 5 droptail", "b": "pipe 1 queue 5 codel target 5 interval 9",
-        "c": "pipe 1 queue 7 droptail mask proto 0xff"}
+        f"e{number}": f"pipe 1 {words}" for number, words in enumerate(wanted)}
 
 
-def test_what_varies_counts_defaults_and_not_words() -> None:
-    """A queue of 50 slots is the default, and 1000Kbit/s is 1Mbit/s: only values that differ are listed."""
-    text = "".join(f"experiment {name} seed 1 budget 9\n@0 pipe 1 config {words}\n@9 end\n" for name, words in
-                   (("a", "bw 1Mbit/s"), ("b", "bw 1000Kbit/s queue 50"), ("c", "bw 1Mbit/s queue 9")))
-    assert varied(scenario.read(text.encode())) == {"a": "pipe 1 queue 50", "b": "pipe 1 queue 50",
-                                                    "c": "pipe 1 queue 9"}
-    # A pipe that some experiments lack: options that were given are listed, defaults are not.
-    more = ("experiment a seed 1 budget 9\n@0 pipe 1 config\n@0 pipe 2 config delay 9\n@9 end\n"
-            "experiment b seed 1 budget 9\n@0 pipe 1 config\n@9 end\n")
-    assert varied(scenario.read(more.encode())) == {"a": "pipe 2 delay 9", "b": ""}
-    outage = "".join(
-        f"experiment {name} seed 1 budget 9\n@0 pipe 1 config bw 1Mbit/s\n@5 pipe 1 config {words}\n@9 end\n"
-        for name, words in (("a", "bw 2Mbit/s"), ("b", "bw 1Mbit/s")))
-    assert varied(scenario.read(outage.encode())) == {"a": "pipe 1 bw 1Mbit/s then bw 2Mbit/s",
-                                                      "b": "pipe 1 bw 1Mbit/s"}
+def test_a_pipe_that_some_experiments_lack() -> None:
+    """Options that were given are listed, defaults are not."""
+    text = EVERY.format("a", "\n@0 pipe 2 config delay 9") + EVERY.format("b", "")
+    assert varied(scenario.read(text.encode())) == {"a": "pipe 2 delay 9", "b": ""}
 
 
 @pytest.mark.parametrize("name", ["masked_instances", "deleted_everywhere", "one_packet_held"])

@@ -9,7 +9,6 @@ import pytest
 from conftest import tool
 
 import dnlab
-from dnlab.analysis.names import names_of
 from dnlab.testing import expecting
 
 MS = 10**6
@@ -82,6 +81,9 @@ def test_an_address_names_all_its_ports(files: tuple[Path, Path]) -> None:
     assert list(report.summary().sender)[0] == "injected"
     named = pickle.loads(pickle.dumps(dnlab.read(*files, names=MINE)))
     assert list(named.summary(of="mine").sender) == ["mine"]
+    expecting(report, "host: drops == 1", names={"10.0.0.1": "host"})
+    with pytest.raises(pytest.fail.Exception, match="measured 1 of one/host"):
+        expecting(report, "host: drops < 1", names={"10.0.0.1": "host"})
 
 
 def test_beside_a_flow(program: str) -> None:
@@ -100,27 +102,6 @@ def test_beside_a_flow(program: str) -> None:
     delays = dict(zip(rows.sender, rows["max"]))
     assert [delays[one] for one in ("mine", "injected", "flow 65535",
                                     "flow 65535 acks")] == [11 * MS, 11 * MS, 12 * MS, 1]
-
-
-def test_a_session(program: str, tmp_path: Path) -> None:
-    """1000 bytes take 8 ms at 1 Mbit/s, the reply's 40 bytes 0.32 ms, and each direction has a delay of 10
-    ms."""
-    with dnlab.live(program) as session:
-        link = session.experiment("asked", seed=1, budget=10)
-        link.command("pipe 1 config bw 1Mbit/s delay 10")
-        link.command("add 100 pipe 1 ip from any to any")
-        link.send(("10.0.0.1", 1000), ("10.0.1.1", 80), 1000)
-        link.until_mine()
-        link.send(("10.0.1.1", 80), ("10.0.0.1", 1000), 40)
-        link.end(200 * MS)
-        link.save(tmp_path / "scenario.txt", tmp_path / "report.txt")
-    report = dnlab.run(tmp_path / "scenario.txt", dnlab=program)
-    rows = report.summary(names={"10.0.0.1:1000": "client", "10.0.1.1": "server"})
-    assert list(rows.sender) == ["client", "server", "pipe 1.0", "all"]
-    assert list(rows["max"])[:2] == [18 * MS, 10_320_000]
-    expecting(report, "client: delay.max == 18ms", names={"10.0.0.1": "client"})
-    with pytest.raises(pytest.fail.Exception, match="measured 10.32ms of asked/server"):
-        expecting(report, "server: delay.max < 10ms", names={"10.0.1.1:80": "server"})
 
 
 def test_another_scenario_is_still_refused(files: tuple[Path, Path]) -> None:
@@ -151,10 +132,8 @@ def test_the_tools(files: tuple[Path, Path], tmp_path: Path) -> None:
     (["10.0.0.1:53=mine"], f"name 10.0.0.1:53=mine: no packet is injected from 10.0.0.1:53: {SOURCES}"),
     (["10.0.0.1=a", "10.0.0.1=b"], "name '10.0.0.1=b': 10.0.0.1 is named 'a' already"),
     (["10.0.0.1=a", "10.0.0.1:2000=b"], "10.0.0.1:2000 would have two names, 'a' and 'b'"),
-    (["10.0.0.1=flow 1"], "'flow 1' can't be a name"), (["10.0.0.1=train 2"], "'train 2' can't be a name"),
-    (["10.0.0.1=injected"], "'injected' can't be a name"), (["10.0.0.1=all"], "'all' can't be a name"),
+    (["10.0.0.1=flow 1"], "'flow 1' can't be a name"), (["10.0.0.1=all"], "'all' can't be a name"),
     (["10.0.0.1=m*"], "'m*' can't be a name"), (["10.0.0.1="], "'' can't be a name"),
-    (["10.0.0.1"], "name '10.0.0.1': it must be SOURCE=NAME"),
     (["=mine"], "name '=mine': it must be SOURCE=NAME")])
 def test_what_is_refused(files: tuple[Path, Path], words: list[str], said: str) -> None:
     given = [part for word in words for part in ("--name", word)]
@@ -196,7 +175,3 @@ def test_no_packet_is_injected(tmp_path: Path, program: str) -> None:
     assert not list(tmp_path.iterdir())
     with pytest.raises(dnlab.ProgramError, match="line 2: badword"):
         dnlab.run(text.replace("train", "trains"), dnlab=program, names={"10.0.0.1": "mine"})
-
-
-def test_a_name_said_twice_is_one() -> None:
-    assert names_of(["10.0.0.1=a", "10.0.0.1=a"]) == {"10.0.0.1": "a"}

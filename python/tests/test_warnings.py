@@ -1,16 +1,11 @@
 """Warnings about silent mistakes: each has a realistic scenario with the mistake, and a similar one without
 it."""
-import json
-from pathlib import Path
-from typing import Callable
-
 import pytest
-from conftest import tool, views_of
+from conftest import views_of
 
 from dnlab.analysis.diagnostics import MEANS, codes_of
 from dnlab.analysis.view import View
 
-Alone = Callable[[bytes], bytes]
 LINK = "@0 pipe 1 config bw 10Mbit/s delay 20 queue 50\n"
 BACK = "@0 pipe 2 config delay 20\n"
 THERE = "@0 add 100 pipe 1 ip from 10.0.0.0/24 to any\n@0 add 200 pipe 2 ip from 10.0.1.0/24 to any\n"
@@ -143,37 +138,7 @@ def test_what_refusals_say() -> None:
     assert sorted(MEANS) == [10, 11, 12, 13, 20, 21, 22, 23, 24, 25]
 
 
-def test_too_many_of_each() -> None:
-    """After 256 flows and trains, 256 rules or 64 pipes, further ones are refused."""
-    trains = "".join(TRAIN.replace("train 9", f"train {number}") for number in range(1, 260))
-    assert codes_of(view(BOTH + trains).refused) == "25:3"
-    rules = "".join(f"@0 add {number} allow ip from any to any\n" for number in range(1, 260))
-    assert codes_of(view(rules + "@0 inject udp 10.0.0.1 1 10.0.0.2 2 100\n").refused) == "12:3"
-    pipes = "".join(f"@0 pipe {number} config delay 1\n" for number in range(1, 67))
-    assert codes_of(view(pipes).refused) == "24:2"
-    mask = (LINK + "@0 add 100 pipe 1 ip from any to any\n" + TRAIN
-            + "@1000000 pipe 1 config bw 10Mbit/s delay 20 queue 50 mask all\n")
-    assert codes_of(view(mask).refused) == "21:1"
-
-
-def test_columns_of_the_summary(traced: Alone, tmp_path: Path) -> None:
-    """Each row has the count and the codes; the rows of another experiment have none."""
-    good = f"experiment a seed 0 budget 1000\n{BOTH}{TRAIN}@5000000000 end\n"
-    bad = good.replace("experiment a", "experiment b").replace(TRAIN, TRAIN + TRAIN)
-    (tmp_path / "s").write_text(good + bad)
-    (tmp_path / "r").write_bytes(traced((good + bad).encode()))
-    status, out, err = tool("summary", tmp_path / "r", tmp_path / "s", "--json")
-    rows = {(row["experiment"], row["sender"]): row for row in json.loads(out)}
-    assert status == 0 and [(rows[name, "train 9"]["refused"], rows[name, "train 9"]["codes"],
-                             rows[name, "train 9"]["warnings"])
-                            for name in "ab"] == [(0, "", ""), (1, "22:1", "refused")]
-    assert "experiment b: 1 of 7 commands was refused and did nothing: line 14: `train 9" in err
-    status, out, _ = tool("summary", tmp_path / "r", tmp_path / "s")
-    assert [line.split()[-1] for line in out.split("\n")[1:-1]] == ["-"] * 3 + ["refused"] * 3
-
-
-def test_what_is_unused() -> None:
-    """The notes of summary and expect name the unused pipe and rule."""
+def test_notes_name_what_is_unused() -> None:
     made = view("@0 add 10 allow ip from any to any\n" + BOTH + TRAIN)
     note = next(note for note in made.notes if note.mark == "unused")
     assert "pipe 1" in note.text and "`add 100 pipe 1 ip" in note.text and note.of == ""

@@ -1,12 +1,14 @@
-"""Reports and metrics that were calculated by hand: the program writes the reports, and each metric has the
-value."""
+"""Each metric of a summary, compared with values calculated by hand, for reports that the program writes."""
+import re
 from fractions import Fraction
 from typing import Callable
 
 import pytest
+from conftest import text_of, views_of
 from hand_calculated import FLOWS, TRAIN, Run, rows_of
 
 from dnlab.analysis.metrics import WORDS, metric_of
+from dnlab.analysis.tables import Tables
 
 # Two of the train's four packets arrived, after 11 and 12 ms. 16000 bits in 12 ms are 1333333 bit/s. The only
 # difference, 1 ms, counts a sixteenth in the jitter (RFC 3550). The pipe served 32000 bits by 6 ms, and could
@@ -47,3 +49,21 @@ def test_each_metric_has_an_example() -> None:
     shown = {word for _, _, values in VALUES for word in values}
     wanted = {word.replace("pN", "p95") for word in WORDS if not word.startswith("drops.")}
     assert wanted | {"drops.full", "drops.lost", "drops.denied"} <= shown
+
+
+def test_bytes_that_come_twice_count_once() -> None:
+    """Some segments of these examples arrive twice."""
+    twice = 0
+    for name in ("drawn_03", "drawn_07", "random_08"):
+        parts = re.split(r"(?m)^experiment ", text_of(name, "expected.txt").decode())[1:]
+        for view, part in zip(views_of(text_of(name, "scenario.txt")), parts):
+            rows = {row["sender"]: row for row in Tables(view).rows()}
+            came: dict[str, list[str]] = {}
+            for flow, first in re.findall(r"(?m)^\d+ deliver \d+ data (\d+) (\d+)", part):
+                came.setdefault(flow, []).append(first)
+            for flow, firsts in came.items():
+                row, once = rows[f"flow {flow}"], len(set(firsts))
+                twice += len(firsts) - once
+                # A data packet has its segment's bytes and 40 bytes of headers.
+                assert row["useful"] == once * (row["bytes"] // len(firsts) - 40)
+    assert twice >= 7
