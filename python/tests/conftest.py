@@ -29,7 +29,7 @@ from dnlab.programs import program as program_of  # noqa: E402
 QUICK = bool(os.environ.get("DNLAB_QUICK"))
 # The files that take longest. They start first, so that no core waits for one of them at the end.
 LONGEST = ("test_spread", "test_hosts_runs", "test_hosts_endings", "test_sweep_runs", "test_view",
-           "test_endings", "test_spread_faults", "test_sweep", "test_green", "test_commands", "test_seeds",
+           "test_sweep_endings", "test_spread_faults", "test_sweep", "test_expect", "test_inputs",
            "test_docs", "test_pages")
 Case = TypeVar("Case")
 

@@ -15,6 +15,9 @@ ONE = """experiment {{ name }} seed {{ seed }} budget 10
 @0 train 1 udp 10.0.0.1 1 10.0.0.2 2 {{ rng.whole(100, 1500) }} count 1 gap 0
 @1000000000 end
 """
+# The same with more settings; with `count` the train is longer than the run.
+WIDE = ONE.replace("1Mbit/s", '{{ bw | default("1Mbit/s") }}').replace(
+    "count 1 gap 0", "count {{ count | default(1) }} gap 300000000")
 
 
 def template(folder: Path, text: str = ONE, name: str = "one.tmpl") -> Path:

@@ -52,7 +52,7 @@ ELSEWHERE = {
     ("docs/howto/many_machines.md",
      "tools/spread scenario.txt --parts 16 --ssh"): "a cluster; with stand-ins by test_spread.py",
     ("docs/howto/many_machines.md",
-     "tools/sweep link.tmpl"): "a cluster; with workers of this machine by test_seeds.py",
+     "tools/sweep link.tmpl"): "a cluster; with workers of this machine by test_sweep_runs.py",
     ("docs/howto/many_machines.md", "python3 python/examples/queues.py 1000"): "8000 experiments",
     ("docs/howto/own_protocol.md", "$ ./dnlab live"): "by test_live_page.py",
     ("docs/howto/page_loads.md", "apt-get install"): "root",

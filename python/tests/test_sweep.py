@@ -17,9 +17,7 @@ from sweeps import BOTTLENECK, ONE, rows_of, size_of, template
 
 import dnlab
 from dnlab.analysis.quantities import Interval, interval
-from dnlab.sweeps.grid import cases_of, name_of, seeds_of, setting_of
-from dnlab.sweeps.templates import Template
-from dnlab.sweeps.grid import value_of
+from dnlab.sweeps.grid import cases_of, hints_of, name_of, seeds_of, setting_of, value_of
 
 
 def test_names() -> None:
@@ -50,15 +48,6 @@ def test_wrong_seeds(text: str) -> None:
         seeds_of(text)
 
 
-def test_values_are_printed_as_they_were_written() -> None:
-    made = Template(
-        "\n{{ plr }} {{ plr * 2 }} {{ n * 1.5 }} {{ n / 3 }} {{ 20 | ms }} {{ plr | us }} {{ '1.5' | s }}\n")
-    assert (made.render("x", 1, {"plr": value_of("0.001"),
-                                 "n": 2}) == "\n0.001 0.002 3 0.6666666666666666 20000000 1 1500000000\n")
-    assert Template("\n{{ v }}").render("x", 1, {"v": value_of("0.000001")}) == "\n0.000001\n"
-    assert Template("\n{{ v }}").render("x", 1, {"v": 1e-6}) == "\n0.000001\n"
-
-
 WRONG = [["--set", "queue"], ["--set", "delay=1", "--set", "delay=2"], ["--seeds", "3-1"], ["--stat", "lost"],
          ["--of", "all", "--stat", "speed"], ["--of", "all", "--stat", "delay.p0"], ["--ci", "100"],
          ["--ci", "x"], ["--interval", "z"], ["--plot", "x.gif"], ["--csv", "-", "--json", "-"],
@@ -81,11 +70,12 @@ def test_what_is_refused_says_what_there_is(tmp_path: Path, program: str) -> Non
     assert "'delay' is undefined" in tool("sweep", file, DNLAB=program)[2]
     status, _, err = tool("sweep", file, "--set", "delay=1", "--kept", file, DNLAB=program)
     assert status == 2 and "--kept" in err and file.read_text() == ONE
-    status, out, err = tool("sweep", file, "--help")
-    assert status == 0 and "Example:" in out and "Exit status" in out
+    # `n`, the most natural name for a number of senders, is a column of the tables.
+    err = tool("sweep", template(tmp_path, ONE.replace("{{ delay }}", "{{ n }}")), DNLAB=program)[2]
+    assert "'n' is undefined" in err and "call it n_ here and in the template" in err
+    with pytest.raises(dnlab.InputError, match="no setting can be called min"):
+        dnlab.sweep(ONE + "# {{ min }}\n", settings={"min": [1, 2], "delay": 5})
 
-
-# ---- values
 
 def test_the_table_by_hand(tmp_path: Path, program: str) -> None:
     """A packet takes 8000 ns per byte plus the delay. For the five seeds, compare the mean and Student's
@@ -216,8 +206,6 @@ def test_marks_and_what_is_said(tmp_path: Path, program: str) -> None:
                                               "1-2", DNLAB=program)[2]
 
 
-# ---- files, and the same again
-
 def test_the_same_bytes(tmp_path: Path, program: str) -> None:
     files = []
     for turn, workers in (("a", 1), ("b", 3)):
@@ -236,36 +224,11 @@ def test_the_same_bytes(tmp_path: Path, program: str) -> None:
 
 
 def test_parquet_needs_pyarrow(tmp_path: Path, program: str) -> None:
+    if importlib.util.find_spec("pyarrow") is not None:
+        pytest.skip("pyarrow is there")
     status, _, err = tool("sweep", template(tmp_path), "--set", "delay=5", "--parquet",
                           tmp_path / "x.parquet", DNLAB=program)
-    if importlib.util.find_spec("pyarrow") is None:
-        assert status == 3 and "pyarrow" in err and "--csv" in err and os.listdir(tmp_path) == ["one.tmpl"]
-    else:
-        import pandas
-        assert status == 0 and len(pandas.read_parquet(tmp_path / "x.parquet")) == 4
-
-
-def test_the_picture(program: str) -> None:
-    """There is a point for each setting at the mean, with a bar as long as the interval, and a line for each
-    other setting."""
-    made = dnlab.sweep(ONE, delay=[5, 20, 10], seed=range(1, 4), of="train 1", stat=["delay.p50"],
-                       dnlab=program)
-    axes, = made.plot().axes
-    bars, = axes.containers
-    sizes = [size_of(made.text(case)) for case in made.cases[:3]]
-    mean = sum(sizes) / 3 * 0.008
-    assert list(bars[0].get_xdata()) == [5, 10, 20] and axes.get_ylabel() == "Median delay (ms)"
-    assert (axes.get_xlabel() == "Link delay (ms)"
-            and axes.figure._suptitle.get_text() == "Train 1 by link delay")
-    assert axes.figure._supxlabel.get_text() == "Points: means of 3 seeds; bars: 95 % intervals"
-    assert list(bars[0].get_ydata()) == pytest.approx([mean + 5, mean + 10, mean + 20])
-    half = 4.302653 * math.sqrt(sum((size * 0.008 - mean) ** 2 for size in sizes) / 2 / 3)
-    segment = bars[2][0].get_segments()[0]
-    assert segment[1][1] - segment[0][1] == pytest.approx(2 * half, rel=1e-6)
-    many = dnlab.sweep(ONE + "# {{ other }}\n", delay=[5, 6], other=list(range(9)), of="train 1", stat="lost",
-                       dnlab=program)
-    with pytest.raises(dnlab.InputError, match="9 lines"):
-        many.plot()
+    assert status == 3 and "pyarrow" in err and "--csv" in err and os.listdir(tmp_path) == ["one.tmpl"]
 
 
 def test_dry_run(tmp_path: Path) -> None:
@@ -280,6 +243,39 @@ def test_dry_run(tmp_path: Path) -> None:
 def test_standard_input(tmp_path: Path, program: str) -> None:
     status, out, err = tool("sweep", "-", "--set", "delay=5", "--csv", "-", text=ONE.encode(), DNLAB=program)
     assert status == 0 and len(rows_of(out)) == 4 and "0 were kept\n" in err
+
+
+@pytest.mark.parametrize("means, said", [
+    ([5, 5, 5], "identical"), ([5, 5, 6], ""), ([0, 0, 0, 0], ""), ([1, 1, 1], ""), ([1, 2, 4, 8], ""),
+    ([4, 1, 4], "jumps at queue 1"),
+    ([1, 4, 1], "jumps at queue 1"), ([1, 1.2, 1], ""), ([5, None, 5, 5], "identical"), ([5, 5], ""),
+    ([2, 0, 2], ""),
+])
+def test_neighbours(means: "list[float | None]", said: str) -> None:
+    """Neighbouring cells that are the same, or that jump, are worth a look."""
+    told = hints_of([{"queue": place, "sender": "flow 1", "stat": "goodput", "mean": mean}
+                     for place, mean in enumerate(means)], ["queue"])
+    assert (said in told[0]) if said else told == []
+
+
+def test_a_setting_in_words_has_no_neighbours() -> None:
+    assert hints_of([{"queue": word, "sender": "a", "stat": "b", "mean": 5}
+                     for word in ("1 codel", "2 codel", "3 codel")], ["queue"]) == []
+
+
+def test_runs_that_are_the_same_count_once(tmp_path: Path, program: str) -> None:
+    """Without losses the seeds change nothing, so no value has an interval; with losses they do. The CSV has
+    the settings as given."""
+    text = ONE.replace("delay {{ delay }}", "queue {{ queue }} plr {{ loss }}").replace(
+        "{{ rng.whole(100, 1500) }} count 1 gap 0", "100 count 9 gap 1000000")
+    status, out, told = tool("sweep", template(tmp_path, text), "--set", "queue=5,6,7", "--set",
+                             "loss=0,0.5", "--seeds", "1-4", "--of", "train 1", "--stat", "delay.mean",
+                             "--csv", "-", DNLAB=program)
+    assert status == 0 and "the seeds change nothing" in told and "is identical for queue 5 to 7" in told
+    table = rows_of(out)
+    assert [(row["queue"], row["loss"], row["n"]) for row in table] == [
+        (queue, loss, n) for queue in "567" for loss, n in (("0", "1"), ("0.5", "4"))]
+    assert all(bool(row["low"]) == (row["loss"] != "0") for row in table)
 
 
 def test_reports_and_sweeps_are_pickled(program: str) -> None:

@@ -1,15 +1,17 @@
 """The pictures of a sweep, compared with tables written by hand: means, one statistic against another, and
 distributions."""
+import re
 from pathlib import Path
 
 import pandas as pd
 import pytest
 from conftest import tool
+from sweeps import WIDE, template
 
-from dnlab.plot import curves
-
-from dnlab.errors import InputError
+import dnlab
 from dnlab.analysis import names
+from dnlab.errors import InputError
+from dnlab.plot import curves
 from dnlab.plot.style import Look, check_panels
 
 MS, MBIT = 10**6, 10**6
@@ -164,3 +166,64 @@ def test_designs_need_a_picture(tmp_path: Path) -> None:
     for words in (["--kind", "box"], ["--title", "x"], ["--size", "5x4in"]):
         status, _, err = tool("sweep", tmp_path / "t.tmpl", *words, DNLAB="")
         assert status == 2 and "go with --plot" in err
+
+
+@pytest.fixture
+def wide(tmp_path: Path) -> Path:
+    return template(tmp_path, WIDE)
+
+
+def test_a_picture_for_a_paper(program: str, tmp_path: Path) -> None:
+    """Labels have words and units, there is a panel for each setting, axes are logarithmic, and marked points
+    are hollow."""
+    made = dnlab.sweep(WIDE, delay=[5, 20], count=[1, 5], bw=["1Mbit/s", "2Mbit/s"], seed=[1, 2],
+                       of="train 1", stat="delay.p95", dnlab=program)
+    figure = made.plot(along="delay", columns="count", log=["x", "y"],
+                       labels={"delay": "One-way delay (ms)", "count": "Packets", "bw": "Link",
+                               "bw:1Mbit/s": "1 Mbit/s"})
+    left, right = figure.axes
+    assert (left.get_ylabel(), left.get_xlabel()) == ("95th percentile of delay (ms)", "One-way delay (ms)")
+    assert [axes.get_title("left") for axes in figure.axes] == ["Packets: 1", "Packets: 5"]
+    assert left.get_xscale() == left.get_yscale() == "log"
+    assert [tick.get_text() for tick in left.get_xticklabels()] == ["5", "20"]
+    # The ticks are plain numbers: 1, 2 and 5 in each decade.
+    assert all(re.fullmatch(r"[125]0*|0\.0*[125]", tick.get_text()) for tick in left.get_yticklabels())
+    # The legend is next to the last panel.
+    legend = right.get_legend()
+    assert (legend.get_title().get_text() == "Link"
+            and [text.get_text() for text in legend.get_texts()] == ["1 Mbit/s", "2Mbit/s"])
+
+    def hollow(axes) -> int:
+        return sum(len(line.get_xdata())
+                   for line in axes.get_lines() if line.get_markerfacecolor() == "white")
+
+    assert ((hollow(left), hollow(right)) == (0, 4)
+            and figure._supxlabel.get_text().endswith("; hollow points: unsent"))
+
+
+def test_rows_and_columns(program: str) -> None:
+    made = dnlab.sweep(WIDE, delay=[5, 20], count=[1, 2], bw=["1Mbit/s", "2Mbit/s", "4Mbit/s"], of="train 1",
+                       stat="delivered", dnlab=program)
+    figure = made.plot(along="delay", rows="bw", columns="count")
+    assert len(figure.axes) == 6 and figure.axes[5].get_title("left") == "Link rate: 4Mbit/s\nCount: 2"
+    several = dnlab.sweep(WIDE, delay=[5, 20], count=1, bw=["1Mbit/s", "2Mbit/s"], of="train 1",
+                          stat=["delivered", "delay.p95"], dnlab=program)
+    figure = several.plot(along="delay", rows="bw")
+    assert figure._suptitle.get_text() == "Train 1 by link delay"
+    assert [axes.get_title("left") for axes in figure.axes] == ["Link rate: 1Mbit/s",
+                                                                "Link rate: 2Mbit/s"] * 2
+    assert [axes.get_ylabel()[:5] for axes in figure.axes] == ["Packe"] * 2 + ["95th "] * 2
+    for wrong, said in (({"rows": "nothing"}, "no such setting"),
+                        ({"rows": "bw", "columns": "bw"}, "another setting"),
+                        ({"log": ["z"]}, "--log z")):
+        with pytest.raises(dnlab.InputError, match=said):
+            made.plot(**wrong)
+
+
+def test_a_pdf_by_the_tool(wide: Path, tmp_path: Path) -> None:
+    words = ["--set", "delay=5,20", "--of", "train 1", "--stat", "delay.p95", "--plot", tmp_path / "a.pdf"]
+    status, _, err = tool("sweep", wide, *words, "--label", "delay=One-way delay (ms)", "--log", "x")
+    assert status == 0 and (tmp_path / "a.pdf").read_bytes().startswith(b"%PDF"), err
+    assert tool("sweep", wide, *words, "--label", "delay")[0] == 2
+    assert tool("sweep", wide, *words, "--rows", "bw")[0] == 2
+    assert tool("sweep", wide, *words[:6], "--log", "x")[0] == 2

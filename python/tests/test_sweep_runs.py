@@ -3,7 +3,6 @@ import importlib.util
 import io
 import os
 import re
-import signal
 import sqlite3
 import subprocess
 import sys
@@ -132,32 +131,6 @@ def test_an_engine_that_is_not_there(tmp_path: Path, program: str, monkeypatch: 
     assert RunOptions().fault() is None
 
 
-def test_ended_from_outside(tmp_path: Path, program: str) -> None:
-    """A signal ends the sweep and everything that it started. Finished results are cached."""
-    slow = tmp_path / "slow"
-    # A script that doesn't `exec` the program that it starts, so that ending only the script isn't enough.
-    slow.write_text(
-        f'#!/bin/sh\n[ "$1" = alone ] || exec {program} "$@"\nsh -c "echo $$ >{tmp_path}/going; '
-        'exec sleep 60"\n')
-    slow.chmod(0o755)
-    file = template(tmp_path)
-    going = subprocess.Popen([ROOT / "tools" / "sweep", file, "--set", "delay=5"],
-                             stderr=subprocess.PIPE, text=True,
-                             env={**os.environ, "DNLAB": str(slow), "TMPDIR": str(tmp_path)})
-    for _ in range(300):
-        if (tmp_path / "going").exists():
-            break
-        with pytest.raises(subprocess.TimeoutExpired):
-            going.wait(0.1)
-    going.terminate()
-    assert going.communicate(timeout=20)[1] == (
-        f"sweep: ended by SIGTERM: 0 of 1 experiments are kept in {file}.kept; the same command continues\n")
-    assert going.returncode == -signal.SIGTERM and not list(tmp_path.glob("dnlab-room.*"))
-    words = [Path(f"/proc/{one}/cmdline") for one in os.listdir("/proc") if one.isdigit()]
-    assert not [one for one in words if one.exists() and one.read_bytes() == b"sleep\x0060\0"
-                and os.readlink(one.parent / "cwd") == os.getcwd()]
-
-
 def test_what_is_kept_is_judged(tmp_path: Path, program: str) -> None:
     """A changed digit in the file, a row of another experiment, or bytes that aren't text: it is run again,
     with a note, and no such number is used."""
@@ -228,13 +201,14 @@ def test_a_refused_command_ends_a_sweep(tmp_path: Path, program: str) -> None:
 
 
 def test_by_dask(tmp_path: Path, program: str, monkeypatch: pytest.MonkeyPatch) -> None:
-    """A scheduler and two workers on this machine make the same table. A missing scheduler is reported."""
+    """A scheduler and two workers on this machine make the same table, with a statistic of the user's own. A
+    missing scheduler is reported."""
     distributed = pytest.importorskip("distributed",
                                       reason="distributed is missing (Debian: python3-distributed)")
     monkeypatch.setenv("PYTHONPATH", str(ROOT / "python"))
-    file = template(tmp_path)
-    words = [file, "--set", "delay=5,7", "--seeds", "1-4", "--of", "train 1", "--stat", "delay.p95",
-             "--csv", "-"]
+    (tmp_path / "mine.py").write_text("def made(run):\n    return run.counters.made\n")
+    words = [template(tmp_path), "--set", "delay=5,7", "--seeds", "1-4", "--of", "train 1", "--stat",
+             f"delay.p95,{tmp_path}/mine.py:made", "--csv", "-"]
     here = tool("sweep", *words, "--kept", tmp_path / "here", DNLAB=program)
     with distributed.LocalCluster(n_workers=2, threads_per_worker=1, dashboard_address=None) as cluster:
         there = tool("sweep", *words, "--on", "dask", cluster.scheduler_address, DNLAB=program)

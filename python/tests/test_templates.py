@@ -7,9 +7,8 @@ from conftest import tool
 from sweeps import ONE, template
 
 import dnlab
+from dnlab.sweeps.grid import value_of
 from dnlab.sweeps.templates import Template
-
-# ---- faults
 
 FAULTS = [
     ("{% for x in y %}\n", "line 1", "endfor"), ("a\n{{ b c }}\n", "line 2", "expected token"),
@@ -118,7 +117,21 @@ def test_texts_within_the_limits() -> None:
             and made.endswith("@3298535883328 end\n".replace("3298535883328", str(2**40 * 3 + 10**6))))
 
 
-def test_numbers_that_are_only_taken_from(tmp_path: Path) -> None:
+def test_numbers_that_are_only_taken_from() -> None:
     """Random values can come from a range of any length: the last number of 10^15 is below it."""
     template = Template("\n{{ range(10**15) | length }} {{ range(10**15)[7] }} {{ 5 in range(9) }}\n")
     assert template.render("x", 1, {}) == "\n1000000000000000 7 True\n"
+
+
+def test_values_are_printed_as_they_were_written() -> None:
+    made = Template(
+        "\n{{ plr }} {{ plr * 2 }} {{ n * 1.5 }} {{ n / 3 }} {{ 20 | ms }} {{ plr | us }} {{ '1.5' | s }}\n")
+    assert (made.render("x", 1, {"plr": value_of("0.001"),
+                                 "n": 2}) == "\n0.001 0.002 3 0.6666666666666666 20000000 1 1500000000\n")
+    assert Template("\n{{ v }}").render("x", 1, {"v": 1e-6}) == "\n0.000001\n"
+
+
+def test_a_text_goes_on_behind_empty_pieces() -> None:
+    text = ("{% for place in range(5000) %}{{ '' }}{% endfor %}# {{ name }}\n{% for place in range(3) %}{{ "
+            "place }}{% endfor %}")
+    assert Template(text).render("a", 1, {}) == "# a\n012\n"
