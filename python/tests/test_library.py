@@ -2,14 +2,12 @@
 program's."""
 import os
 import pickle
-import subprocess
-import sys
 from pathlib import Path
 
 import pytest
 
 import dnlab
-from conftest import EXAMPLES, ROOT
+from conftest import EXAMPLES
 from dnlab import library
 from dnlab.io.files import read_beside
 
@@ -43,8 +41,11 @@ def test_a_file_that_is_no_library(monkeypatch: pytest.MonkeyPatch, tmp_path: Pa
 def test_words_that_do_not_go_together(words: dict[str, object]) -> None:
     with pytest.raises(ValueError, match="no workers"):
         dnlab.run(FAULTY, engine="library", **words)  # type: ignore[arg-type]
-    with pytest.raises(ValueError, match="'thread'"):
-        dnlab.run(FAULTY, engine="thread")
+    with pytest.raises(ValueError, match="no program"):
+        dnlab.live("it", engine="library")
+    for call in lambda: dnlab.run(FAULTY, engine="thread"), lambda: dnlab.live(engine="thread"):
+        with pytest.raises(ValueError, match="'thread'"):
+            call()
 
 
 def test_a_fault_passes_between_processes() -> None:
@@ -111,14 +112,6 @@ def test_more_experiments_than_the_library_takes_at_once() -> None:
     with pytest.raises(dnlab.ProgramError) as failed:
         dnlab.run(text + "@5 end\n", engine="library")
     assert failed.value.said.startswith("line 601: afterend")
-
-
-@there
-def test_without_packages_of_others() -> None:
-    words = "from dnlab import library; print(library.check(b''))"
-    done = subprocess.run([sys.executable, "-S", "-B", "-c", words], capture_output=True, text=True,
-                          check=False, env={**os.environ, "PYTHONPATH": str(ROOT / "python")})
-    assert (done.stdout, done.returncode) == ("b'ok 0 0\\n'\n", 0), done.stderr
 
 
 @there
@@ -189,10 +182,3 @@ def test_a_session_here_that_was_interrupted(monkeypatch: pytest.MonkeyPatch) ->
             link.until(6)
         session.transport.kill()
     assert session.transport.has_ended
-
-
-def test_words_of_a_session_that_do_not_go_together() -> None:
-    with pytest.raises(ValueError, match="no program"):
-        dnlab.live("it", engine="library")
-    with pytest.raises(ValueError, match="'thread'"):
-        dnlab.live(engine="thread")

@@ -54,7 +54,7 @@ ELSEWHERE = {
     ("docs/howto/many_machines.md",
      "tools/sweep link.tmpl"): "a cluster; with workers of this machine by test_sweep_runs.py",
     ("docs/howto/many_machines.md", "python3 python/examples/queues.py 1000"): "8000 experiments",
-    ("docs/howto/own_protocol.md", "$ ./dnlab live"): "by test_live_page.py",
+    ("docs/howto/own_protocol.md", "$ ./dnlab live"): "by test_a_session_by_hand",
     ("docs/howto/page_loads.md", "apt-get install"): "root",
     ("docs/howto/page_loads.md",
      "tools/sweep loads.yaml --set http=1,2 --set loss=0,0.01,0.02"): "72 loads of a page, five minutes",
@@ -215,6 +215,18 @@ def test_a_page(page: Path, folder: Path, given: Path, program: str, request: py
                 said, shown), f"$ {text}\n{said}"
 
 
+def test_a_session_by_hand(program: str) -> None:
+    """Typed lines and their answers alternate in the block."""
+    page = (ROOT / "docs/howto/own_protocol.md").read_text()
+    shown = re.search(r"    \$ \./dnlab live\n((?:    .*\n)+)", page)
+    assert shown
+    lines = [line[4:] for line in shown[1].splitlines()]
+    typed = [line for line in lines if re.match(r"experiment \S+ seed|@|#>", line)]
+    done = subprocess.run([program, "live"], input="\n".join([*typed, ""]), capture_output=True, text=True,
+                          check=True)
+    assert done.stdout.splitlines() == [line for line in lines if line not in typed]
+
+
 def test_what_is_not_run_is_there() -> None:
     shown = [(str(page.relative_to(ROOT)), text) for page in PAGES
              for kind, text, _ in STEPS[page] if kind == "command"]
@@ -226,20 +238,6 @@ def test_no_command_hides_in_another_block() -> None:
     """The commands of a block `sh` or `bash` would not be found."""
     for page in PAGES:
         assert not {"sh", "bash", "shell"} & {part[0] for part in PART.findall(page.read_text())}, page
-
-
-def test_what_is_found() -> None:
-    assert same("one\ntwo\nthree\n", "one\n...\nthree\n") and same("one \n", "one\n") and same("", "")
-    assert same("one\nthree\n", "one\n...\nthree\n")
-    assert (not same("one\ntwo\n", "one\n") and not same("one\n", "on.\n")
-            and not same("one\ntwo\n", "...\none\n"))
-    page = ("One:\n\n    tools/a b \\\n      c\n    said\n    $ DNLAB=x ./dnlab y\n\n```console\n$ tools/d "
-            "\\\n  e\nsaid\n$ f\n```\n\n    ./dnlab g\n\n```text\n    tools/e\n```\n- `tools/f`\n\n```text "
-            "title=\"h\"\ni\n```\n\n```python\nj\n```\n\n    k\n")
-    assert [*steps_of(page)] == [
-        ("command", "tools/a b       c", ""), ("command", "$ DNLAB=x ./dnlab y", ""),
-        ("console", "tools/d   e", "said\n"), ("console", "f", ""), ("command", "./dnlab g", ""),
-        ("file", "h", "i\n"), ("python", "j\n", "k\n")]
 
 
 def text_of(name: str) -> str:

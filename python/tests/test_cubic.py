@@ -7,15 +7,12 @@ from dnlab.senders.windows import CubicCurve, curve, plateau_time
 
 def test_the_curve() -> None:
     """W_max = 100 and a window of 70: K is the cube root of 30 / 0.4 = 75, which is between 4.217163^3 =
-    74.999983 and 4.217164^3 = 75.000036."""
+    74.999983 and 4.217164^3 = 75.000036. 0.4 (t - K)^3 + 100 at 0: 0.4 * -75; at 2: 0.4 * -10.899161
+    (2.217163^3); at 6: 0.4 * 5.666758 (1.782837^3)."""
     plateau = plateau_time(100, 70)
     assert 4.217163 < plateau < 4.217164
-    # 0.4 (t - K)^3 + 100 at 0: 0.4 * -75; at 2: 0.4 * -10.899161 (2.217163^3); at 6: 0.4 * 5.666758
-    # (1.782837^3).
-    assert curve(0, 100, plateau) == pytest.approx(70)
-    assert curve(2, 100, plateau) == pytest.approx(95.640336, abs=1e-6)
-    assert curve(plateau, 100, plateau) == 100
-    assert curve(6, 100, plateau) == pytest.approx(102.266703, abs=1e-6)
+    assert [curve(time, 100, plateau) for time in (0, 2, plateau, 6)] == pytest.approx(
+        [70, 95.640336, 100, 102.266703], abs=1e-6)
     # A window at or above W_max starts at the plateau.
     assert plateau_time(70, 70) == plateau_time(60, 70) == 0
 
@@ -33,30 +30,19 @@ def test_slow_start_and_a_loss() -> None:
     assert window.cwnd == pytest.approx(70 + 9 / 17 / 70)
 
 
-def test_concave_growth() -> None:
-    """2 s after the epoch and with 0.1 s of RTT the target is the curve at 2.1 s: 0.4 * (2.1 - 4.217163)^3 +
-    100 = 0.4 * -9.489932 + 100 = 96.204027; the window 80 grows by 16.204027 / 80 = 0.202550."""
-    window = CubicCurve(80.0, 70.0, top=100.0, plateau=plateau_time(100, 70), epoch=10.0, friendly=70.0,
+@pytest.mark.parametrize("cwnd, time, rtt, wanted", [
+    # The target is the curve at 2.1 s: 0.4 * (2.1 - 4.217163)^3 + 100 = 0.4 * -9.489932 + 100 = 96.204027;
+    # the window 80 grows by 16.204027 / 80 = 0.202550.
+    (80.0, 2, 0.1, 80.202550),
+    # At 20 s the curve is far above the limit of 1.5 * 80 = 120, so the window grows by 40 / 80.
+    (80.0, 20, 0.1, 80.5),
+    # At 2 s the curve is at 95.64, below the window, which does not change.
+    (97.0, 2, 0.01, 97.0)])
+def test_growth(cwnd: float, time: float, rtt: float, wanted: float) -> None:
+    window = CubicCurve(cwnd, 70.0, top=100.0, plateau=plateau_time(100, 70), epoch=10.0, friendly=70.0,
                         prior=100.0)
-    window.acknowledged(12.0, 0.1)
-    assert window.cwnd == pytest.approx(80.202550, abs=1e-6)
-
-
-def test_the_target_is_at_most_half_more() -> None:
-    """20 s after the epoch the curve is far above the limit of 1.5 * 80 = 120, so the window grows by 40 /
-    80."""
-    window = CubicCurve(80.0, 70.0, top=100.0, plateau=plateau_time(100, 70), epoch=10.0, friendly=70.0,
-                        prior=100.0)
-    window.acknowledged(30.0, 0.1)
-    assert window.cwnd == 80.5
-
-
-def test_the_target_isn_t_below_the_window() -> None:
-    """At 2 s the curve is at 95.64, below the window of 97, which does not change."""
-    window = CubicCurve(97.0, 70.0, top=100.0, plateau=plateau_time(100, 70), epoch=10.0, friendly=70.0,
-                        prior=100.0)
-    window.acknowledged(12.0, 0.01)
-    assert window.cwnd == 97
+    window.acknowledged(10.0 + time, rtt)
+    assert window.cwnd == pytest.approx(wanted, abs=1e-6)
 
 
 def test_fast_convergence() -> None:
@@ -75,10 +61,8 @@ def test_a_timeout() -> None:
     window = CubicCurve(50.0, 30.0, top=60.0)
     window.timed_out(40)
     assert (window.cwnd, window.ssthresh) == (1, pytest.approx(28))
-    for _ in range(27):
+    for _ in range(28):
         window.acknowledged(1.0, 0.1)
-    assert window.cwnd == 28
-    window.acknowledged(1.0, 0.1)
     assert (window.top, window.plateau) == (28, 0)
     # 3 s later the target is 0.4 * 3.1^3 + 28 = 39.9164, below the limit of half more, 42.
     before = window.cwnd
@@ -90,8 +74,7 @@ def test_as_reno_once_it_has_come_back() -> None:
     """W_est grows by 9/17 per window up to the window before the loss, and by 1 afterwards."""
     window = CubicCurve(100.0, 70.0, top=1000.0, plateau=100.0, epoch=0.0, friendly=99.999, prior=100.0)
     window.acknowledged(100.0, 0.1)
-    slow = window.friendly
+    slow, was = window.friendly, window.cwnd
     assert slow == pytest.approx(99.999 + 9 / 17 / 100)
-    was = window.cwnd
     window.acknowledged(100.0, 0.1)
     assert window.friendly == pytest.approx(slow + 1 / was)
