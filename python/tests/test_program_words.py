@@ -3,8 +3,6 @@ their help."""
 import json
 import os
 import re
-import shutil
-import stat
 import subprocess
 import sys
 from pathlib import Path
@@ -23,10 +21,9 @@ REPORT = (EXAMPLES / "one_packet" / "expected.txt").read_bytes()
 FAULTY = "experiment a seed 0 budget 10\n@0 pipe 1 config bw 10Mbps\n@5 shw\n@9 end\n"
 
 
-def dnlab(program: str, *words: object, text: bytes = b"",
-          script: Path = ROOT / "dnlab") -> tuple[int, bytes, str]:
+def dnlab(program: str, *words: object, text: bytes = b"") -> tuple[int, bytes, str]:
     """Runs the script ./dnlab, which starts a program. Returns status, standard output and standard error."""
-    done = subprocess.run([script, *map(str, words)], input=text, capture_output=True, timeout=60,
+    done = subprocess.run([ROOT / "dnlab", *map(str, words)], input=text, capture_output=True, timeout=60,
                           check=False, env={**os.environ, "DNLAB": program})
     return done.returncode, done.stdout, done.stderr.decode()
 
@@ -51,22 +48,6 @@ def test_files_that_can_not_be_read(tmp_path: Path, program: str) -> None:
     # The program itself refuses an argument that it doesn't know.
     assert dnlab(program, "alone", "--nothing")[0] == 2
     assert dnlab(program, "alone", "--json", PACKET)[0] == 2
-
-
-@pytest.mark.skipif(os.geteuid() != 0 or not shutil.which("setpriv"), reason="only root becomes another user")
-def test_a_file_that_may_not_be_read(program: str) -> None:
-    place = Path("/tmp") / f"dnlab-test-{os.getpid()}.txt"
-    place.write_bytes(PACKET.read_bytes())
-    place.chmod(0)
-    code = ("import os, sys; os.setgid(65534); os.setuid(65534); os.environ['PYTHONDONTWRITEBYTECODE'] = "
-            "'1'; sys.path.insert(0, sys.argv[1]); from dnlab.cli.program import open_as_input; "
-            "open_as_input(sys.argv[2])")
-    try:
-        done = subprocess.run([sys.executable, "-B", "-c", code, str(ROOT / "python"), str(place)],
-                              capture_output=True, text=True, check=False)
-    finally:
-        place.unlink()
-    assert f"Permission denied: '{place}'" in done.stderr
 
 
 def test_which_words_are_files() -> None:
@@ -152,22 +133,3 @@ def test_what_can_not_be_written(words: str, output: str, program: str) -> None:
     done = subprocess.run(shell, input=PACKET.read_bytes(), capture_output=True, timeout=60, check=False,
                           env={**os.environ, "DNLAB": program})
     assert (done.returncode, done.stdout, done.stderr) == (3, b"", b"write\n")
-
-
-def test_where_it_is_installed(tmp_path: Path, program: str) -> None:
-    """It works as installed by tools/install: the script in bin, the program in libexec, the package in
-    share."""
-    (tmp_path / "bin").mkdir()
-    script = Path(shutil.copy(ROOT / "dnlab", tmp_path / "bin"))
-    (tmp_path / "libexec/dnlab").mkdir(parents=True)
-    (tmp_path / "libexec/dnlab/dnlab").symlink_to(program)
-    shutil.copytree(ROOT / "python/dnlab", tmp_path / "share/dnlab/python/dnlab",
-                    ignore=shutil.ignore_patterns("__pycache__"))
-    assert dnlab("/none", "alone", PACKET, script=script) == (0, REPORT, "")
-    assert dnlab("/none", "alone", text=PACKET.read_bytes(), script=script) == (0, REPORT, "")
-    assert dnlab("/none", "program", script=script)[1].decode() == f"{tmp_path}/libexec/dnlab/dnlab\n"
-    out = dnlab("/none", "--help", script=script)[1]
-    assert b" FILE" in out and b"\n  prove " not in out
-    assert json.loads(dnlab("/none", "check", "--json", text=FAULTY.encode(),
-                            script=script)[1])[0]["column"] == 21
-    assert script.stat().st_mode & stat.S_IXUSR

@@ -2,6 +2,7 @@
 import os
 import re
 import shutil
+import signal
 import stat
 import subprocess
 import sys
@@ -55,8 +56,9 @@ def test_help_needs_no_package(name: str) -> None:
     assert (help_bare.returncode, help_bare.stdout, help_bare.stderr) == (0, help_there.stdout, "")
     assert (version.returncode, version.stdout) == (0, f"dnlab-{name} {dnlab.__version__}\n")
     if NEEDS[name]:
-        assert (other.returncode == 3 and other.stderr.startswith(f"{name}: {NEEDS[name][0]} is missing in ")
-                and not other.stdout)
+        needed = NEEDS[name][0]
+        assert (other.returncode, other.stdout, other.stderr.count("\n")) == (3, "", 1)
+        assert other.stderr.startswith(f"{name}: {needed} is missing in {sys.executable} (pip install ")
 
 
 def test_a_named_program_comes_first(tmp_path: Path, monkeypatch: pytest.MonkeyPatch) -> None:
@@ -127,17 +129,6 @@ def test_all_say_the_same_version() -> None:
         assert (done.stdout, done.stderr, done.returncode) == (f"dnlab-{command} {number}\n", "", 0)
 
 
-def test_a_missing_module_is_said_in_one_line(tmp_path: Path) -> None:
-    # A Python without third-party packages.
-    done = subprocess.run([sys.executable, "-S", "-B", str(ROOT / "tools" / "summary"), "report.txt"],
-                          capture_output=True, text=True, check=False)
-    assert done.returncode == 3 and done.stdout == ""
-    assert done.stderr.startswith(
-        f"summary: numpy is missing in {sys.executable} (pip install numpy; Debian, for /usr/bin/python3: "
-        "apt-get install python3-numpy")
-    assert done.stderr.count("\n") == 1
-
-
 def test_another_python_is_told_how_to_take_debians(monkeypatch: pytest.MonkeyPatch) -> None:
     monkeypatch.setattr(sys, "executable", "/opt/python/bin/python3")
     assert said_of("summary",
@@ -151,13 +142,51 @@ def test_help_names_the_installed_commands(tmp_path: Path) -> None:
     text = "usage: tools/plot [-h] REPORT\n\nExample: ./dnlab alone < s.txt | tools/plot - s.txt"
     assert (renamed(
         text) == "usage: dnlab-plot [-h] REPORT\n\nExample: dnlab alone < s.txt | dnlab-plot - s.txt")
-    place = copied(tmp_path / "lib")
-    for command in COMMANDS:
-        code = (f"import sys; sys.path.insert(0, {str(place)!r}); from dnlab.__main__ import main; "
-                f"main([{command!r}, '--help'])")
-        said = subprocess.run([sys.executable, "-B", "-c", code], capture_output=True, text=True,
-                              check=False).stdout
-        assert f"dnlab-{command}" in said and "tools/" not in said and "./dnlab" not in said, command
+    code = (f"import sys; sys.path.insert(0, {str(copied(tmp_path))!r}); from dnlab.__main__ import main; "
+            "main()")
+    said = subprocess.run([sys.executable, "-B", "-c", code, "summary", "--help"], capture_output=True,
+                          text=True, check=False).stdout
+    assert "dnlab-summary" in said and "tools/" not in said and "./dnlab" not in said
+
+
+def test_ctrl_c_ends_a_start_by_the_signal(tmp_path: Path) -> None:
+    """The signal arrives when a script's first module of the package is loaded, before the command handles
+    signals."""
+    (tmp_path / "tools").mkdir()
+    (tmp_path / "tools/command").write_bytes((ROOT / "tools/command").read_bytes())
+    (tmp_path / "share/dnlab/python/dnlab").mkdir(parents=True)
+    (tmp_path / "share/dnlab/python/dnlab/__init__.py").write_text("import os\nos.kill(os.getpid(), 2)\n")
+    done = subprocess.run([sys.executable, tmp_path / "tools/command"], capture_output=True, text=True,
+                          timeout=60, check=False,
+                          preexec_fn=lambda: signal.signal(signal.SIGINT, signal.SIG_DFL))
+    assert (done.returncode, done.stderr) == (-signal.SIGINT, "")
+
+
+@pytest.mark.parametrize("name", ["dnlab-from-ipfw", "link"])
+def test_a_script_is_named_after_its_command(name: str, tmp_path: Path) -> None:
+    """A link to it may have any name."""
+    (tmp_path / name).symlink_to(ROOT / "tools/from-ipfw")
+    done = subprocess.run([tmp_path / name, "--version"], capture_output=True, text=True, timeout=60,
+                          check=False)
+    assert done.stdout.startswith("dnlab-from-ipfw ")
+
+
+RUN = """import dnlab
+report = dnlab.run("experiment a seed 1 budget 9\\n@9 end\\n")
+assert list(report) == ["a"] and "Report" in repr(report) and report.origin is not None
+"""
+
+
+@pytest.mark.parametrize("more,wanted", [("", set()), ("report['a'].packets()", {"numpy", "pandas"})],
+                         ids=["run", "table"])
+def test_a_run_loads_them_for_a_table(more: str, wanted: set[str], program: str) -> None:
+    """Running a scenario needs no package for tables; only these take them."""
+    done = subprocess.run([sys.executable, "-X", "importtime", "-c", RUN + more], capture_output=True,
+                          text=True, timeout=120, check=False,
+                          env={**os.environ, "PYTHONPATH": str(ROOT / "python"), "DNLAB": program})
+    assert done.returncode == 0, done.stderr
+    found = {line.rpartition("|")[2].strip() for line in done.stderr.splitlines()}
+    assert found & {"numpy", "pandas"} == wanted
 
 
 def test_pip_install_of_the_sources(tmp_path: Path) -> None:

@@ -130,6 +130,23 @@ def test_a_flow_that_gets_nothing_counts_in_jain(alone) -> None:
     assert rows["there"]["jain"] == rows["all"]["jain"] == 0.5
 
 
+CHANGING = b"""experiment changing seed 0 budget 9
+@0 pipe 1 config bw 8Mbit/s delay 1
+@0 add 100 pipe 1 ip from any to any
+@0 inject udp 10.0.0.1 1 10.0.0.2 2 1000
+@1000000 pipe 1 config bw 4Mbit/s delay 1
+@MOMENT inject udp 10.0.0.1 1 10.0.0.2 2 1000
+@9000000 end
+"""
+
+
+@pytest.mark.parametrize("moment, wanted", [(b"1000000", 1.0), (b"2000000", 0.8)])
+def test_utilisation_by_what_the_link_could_carry(moment: bytes, wanted: float) -> None:
+    """1000 bytes take 1 ms, then 2 ms: the link is always busy, or 16000 of 20000 bits until 4 ms."""
+    view, = views_of(CHANGING.replace(b"MOMENT", moment))
+    assert rows_of(view)["pipe 1.0"]["utilisation"] == wanted
+
+
 def test_windows() -> None:
     view, = views_of(BOTH)
     rows = [row for row in windows_of(view, 2000001) if row["sender"] == "flow 1"]

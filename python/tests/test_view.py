@@ -8,15 +8,14 @@ import re
 import shutil
 import subprocess
 from pathlib import Path
-from typing import Any, Callable
+from typing import Any
 
 import numpy as np
 import pytest
-from conftest import EXAMPLES, ROOT, report_of, rows_file, tool, view_of
+from conftest import EXAMPLES, ROOT, report_of, rows_file, tool, view_of, views_of
 
 from dnlab.plot.page import Blocks, drawn
 
-Alone = Callable[[bytes], bytes]
 COOKBOOK = ROOT / "cookbook"
 BROWSER = shutil.which("chromium") or ""
 browsing = pytest.mark.skipif(not BROWSER, reason="Chromium is missing (Debian: chromium)")
@@ -197,41 +196,6 @@ def test_a_picture_of_each_of_the_cookbook(folder: Path, tmp_path: Path) -> None
         assert len({one["form"] for one in traces.values()}) == len(traces) > 0
 
 
-@browsing
-def test_keys_chooser_and_a_phone(tmp_path: Path) -> None:
-    folder = COOKBOOK / "bufferbloat"
-    page = page_of(tmp_path, rows_file(folder / "scenario.txt", tmp_path), folder / "scenario.txt")
-    key = "document.body.dispatchEvent(new KeyboardEvent('keydown', {key: '%s', bubbles: true}));"
-    range_of = (
-        "await new Promise((next) => setTimeout(next, 500)); told.%s = "
-        "document.getElementById('range').textContent;")
-    found = read_back(page, "".join(key % one + range_of % name for one, name in
-                                    (("+", "near"), ("ArrowLeft", "left"), ("ArrowRight", "right"),
-                                     ("-", "far"), ("0", "all"))))
-    # 0 to 1238 ms, then the middle half of it, then half of that to the left and back.
-    assert [found[name].removeprefix("in sight: ") for name in ("near", "left", "right", "far", "all")] == [
-        "309.5 ms to 928.5 ms", "0 ms to 619 ms", "309.5 ms to 928.5 ms", "0 ms to 1238 ms",
-        "0 ms to 1238 ms"]
-    choose = (
-        "const menu = document.getElementById('experiment'); menu.value = 1; menu.dispatchEvent(new "
-        "Event('change'));await new Promise((next) => setTimeout(next, 1000)); told.tabs = "
-        "[...document.querySelectorAll('select, button, input')].map((one) => one.tabIndex);")
-    found = read_back(page, choose)
-    assert found["name"] == "codel" and "codel target" in found["about"] and found["tabs"] == [0] * 11
-    assert near(found["panels"]["sequence"]["flow 1: dropped"]["points"],
-                drops_of((folder / "report.txt").read_text()), (1250, 30000))
-    # In a frame with the width of a phone nothing is wider than the frame.
-    inner = page.read_text().replace("</body>", "<script>setTimeout(() => parent.postMessage(`${innerWidth} "
-                                     "${document.documentElement.scrollWidth} "
-                                     "${document.body.dataset.drawn}`, '*'), 3000)</script></body>")
-    (tmp_path / "inner.html").write_text(inner)
-    (tmp_path / "phone.html").write_text(
-        '<!DOCTYPE html><body><iframe src="inner.html" width="360" height="700" style="border:0"></iframe>'
-        "<script>addEventListener('message', (event) => document.title = "
-        "event.data)</script>")
-    assert "<title>360 360 deep</title>" in browse(tmp_path / "phone.html", "--dump-dom")
-
-
 # A train of 20000 packets every 10 us, at a rate that serves one every 8 us; and 30 packets of 1500 bytes,
 # 120 us each, every 200 us from 99.505 ms on, so that for 6 ms more packets arrive than are served.
 LONG = """experiment long seed 0 budget 1000
@@ -243,32 +207,19 @@ LONG = """experiment long seed 0 budget 1000
 """
 
 
-def longest() -> float:
-    """Returns the maximum delay of the first train (ms): each packet waits until all earlier ones are
-    served."""
-    came = sorted([(10000 * k, 8000) for k in range(20000)]
-                  + [(99505000 + 200000 * k, 120000) for k in range(30)])
-    free, most = 0, 0
-    for moment, service in came:
-        free = max(free, moment) + service
-        most = max(most, free - moment if service == 8000 else 0)
-    return (most + 10**6) / 10**6
-
-
 @browsing
-def test_what_is_thinned(traced: Alone, tmp_path: Path) -> None:
+def test_what_is_thinned(tmp_path: Path) -> None:
     """The maximum delay is drawn in the whole picture, and each packet in a short span."""
     (tmp_path / "s").write_text(LONG)
-    (tmp_path / "r").write_bytes(traced(LONG.encode()))
     (tmp_path / "r.npy").write_bytes(report_of(LONG.encode(), "--format", "npy"))
+    table = views_of(LONG.encode())[0].packets
+    own = np.char.equal(np.array(table.names)[table.who], "train 1")
     page = page_of(tmp_path, tmp_path / "r.npy", tmp_path / "s")
-    found = read_back(page)
-    points = found["panels"]["delay"]["train 1"]["points"]
-    assert 100 < len(points) <= 800 and abs(max(y for _, y in points) - longest()) < 0.002
-    deliveries = [int(line.split()[0])
-                  for line in (tmp_path / "r").read_text().split("\n") if "deliver" in line]
+    points = read_back(page)["panels"]["delay"]["train 1"]["points"]
+    longest = int(table.delay[own].max()) / 1e6
+    assert 100 < len(points) <= 800 and abs(max(y for _, y in points) - longest) < 0.002
     near_by = read_back(page, address="#long,50000000,51000000")
-    wanted = [moment / 1e6 for moment in deliveries if 50000000 <= moment <= 51000000]
+    wanted = [moment / 1e6 for moment in table.ended[own].tolist() if 50000000 <= moment <= 51000000]
     got = [x for x, _ in near_by["panels"]["delay"]["train 1"]["points"]]
     assert len(got) == len(wanted) == 100 and np.abs(np.subtract(got, wanted)).max() < 0.001
 
@@ -303,13 +254,6 @@ def test_files_and_no_network(tmp_path: Path) -> None:
     assert len(single) > 10**6 and not beside.exists() and 'src="dnlab' not in single
     status, _, err = tool("view", RENO / "expected.txt", "--out", tmp_path / "none" / "a.html")
     assert status == 3 and "a.html" in err
-    (tmp_path / "bad").write_text("experiment a\n0 okay 0\n")
-    status, out, err = tool("view", tmp_path / "bad", "--out", tmp_path / "bad.html")
-    assert status == 2 and "line 2" in err and not out and not (tmp_path / "bad.html").exists()
-    assert tool("view", EXAMPLES / "four_experiments" / "expected.txt", "--out", tmp_path / "four.html",
-                "--experiment", "none")[0] == 2
-    status, out, _ = tool("view", "--help")
-    assert status == 0 and "Example:" in out and "Exit status" in out
 
 
 @browsing

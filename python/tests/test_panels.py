@@ -4,20 +4,23 @@ Of `reno_four_segments` the four segments of 1500 bytes are delivered at 11.2, 1
 after they were made: 11.2, 12.4, 13.6 and 11.2 ms; the acknowledgements of 40 bytes take 10 ms each.
 """
 from pathlib import Path
+from typing import Callable
 
 import numpy as np
 import pytest
-from conftest import EXAMPLES, records_in, rows_file, text_of, tool, view_of
+from conftest import EXAMPLES, records_in, rows_file, text_of, text_view, tool, view_of
 from hypothesis import given
 from hypothesis import strategies as some
 
+from dnlab.analysis.distributions import link_rates, overlaid
 from dnlab.analysis.metrics import MORE
-from dnlab.analysis.series import Panel, Series, Span, fewest, panel_of, within
-from dnlab.analysis.distributions import overlaid
+from dnlab.analysis.series import Panel, Series, Span, fewest, panel_of, windows, within
 from dnlab.analysis.view import View
 from dnlab.errors import InputError
+from dnlab.plot import pictures
 
 MS = 10**6
+Alone = Callable[[bytes], bytes]
 
 
 def drawn(what: str, span: Span = Span(), every: "int | None" = None) -> dict[str, list[tuple[float, float]]]:
@@ -37,7 +40,7 @@ def test_throughput() -> None:
                     "throughput").title.startswith("Throughput in intervals of 2 ms")
 
 
-def test_shares() -> None:
+def test_distributions() -> None:
     lines = drawn("cdf:sojourn")
     assert lines["flow 1"] == [(11.2, .25), (11.2, .5), (12.4, .75), (13.6, 1)]
     assert lines["flow 1 acks"] == [(10, .25), (10, .5), (10, .75), (10, 1)]
@@ -121,7 +124,6 @@ def test_overlaid() -> None:
 
 
 def test_axes() -> None:
-    from dnlab.plot import pictures
     view, span = view_of("reno_four_segments"), Span(10 * MS, 30 * MS)
     panels = [panel_of(view, what, span, 10 * MS, acks=True)
               for what in ("cdf:sojourn", "box:sojourn", "throughput", "window")]
@@ -135,6 +137,91 @@ def test_axes() -> None:
     assert (throughput.get_ylabel() == "Throughput (Mbit/s)"
             and throughput.get_xlim() == window.get_xlim() == (10, 30))
     assert window.get_xlabel() == "Time (ms)"
+
+
+# A link of 8 Mbit/s with 10 ms in each direction: flow 1 may have 3000 bytes in flight, flow 2 has one
+# segment.
+NARROW = b"""experiment narrow seed 0 budget 99
+@0 pipe 1 config bw 8Mbit/s delay 10
+@0 add 100 pipe 1 tcp from any to 10.0.0.2
+@0 add 200 allow tcp from 10.0.0.2 to any
+@0 flow 1 10.0.0.1 1 10.0.0.2 2 smss 1000 segments 6 window 3000
+@0 flow 2 10.0.0.3 1 10.0.0.2 2 smss 1000 segments 1
+@90000000 end
+"""
+
+
+def seen(text: bytes, traced: Alone) -> View:
+    return text_view(traced(text), text)
+
+
+def test_the_effective_window(traced: Alone) -> None:
+    """cwnd starts with 4 segments and grows by one for each acknowledgement; 3000 bytes may always be in
+    flight. Flow 2, whose window is larger than cwnd, has no such line."""
+    panel = windows(seen(NARROW, traced))
+    lines = {one.label: one for one in panel.series}
+    assert lines["cwnd 1"].values.tolist() == [4000 + 1000 * k for k in range(7)]
+    assert lines["effective 1"].values.tolist() == [3000] * 7 and lines["effective 1"].under == "cwnd 1"
+    # Both thresholds stay at 65535, above the axis of at most 11000 bytes.
+    assert set(lines) == {"cwnd 1", "effective 1", "cwnd 2"}
+    assert [one.label for one in panel_of(seen(NARROW, traced), "window").series] == ["cwnd 1", "cwnd 2"]
+
+
+def test_windows_are_in_segments(traced: Alone) -> None:
+    """A segment has 1000 bytes. If segments differ in size, the axis is in kB."""
+    axes, = pictures.figure_of([seen(NARROW, traced)], ["window"]).axes
+    assert axes.get_ylabel() == "Congestion window (segments)"
+    assert [line.get_ydata().tolist()
+            for line in axes.get_lines() if line.get_label() == "cwnd 1"] == [[4, 5, 6, 7, 8, 9, 10]]
+    axes, = pictures.figure_of([seen(NARROW.replace(b"smss 1000 segments 1\n", b"smss 500 segments 1\n"),
+                                     traced)], ["window"]).axes
+    assert axes.get_ylabel() == "Congestion window (kB)"
+    assert [line.get_ydata().tolist()
+            for line in axes.get_lines() if line.get_label() == "cwnd 1"] == [[4, 5, 6, 7, 8, 9, 10]]
+
+
+def many(flows: int) -> bytes:
+    lines = "".join(f"@{flow} flow {flow} 10.0.0.1 {flow} 10.0.0.2 80 smss 100 segments 3 ssthresh 200\n"
+                    for flow in range(1, flows + 1))
+    return ("experiment many seed 0 budget 999\n@0 pipe 1 config bw 8Mbit/s delay 10 queue 200\n@0 add 1 "
+            "pipe 1 ip from 10.0.0.1 to 10.0.0.2\n@0 add 2 allow ip from any to "
+            f"any\n{lines}@900000000 end\n").encode()
+
+
+def test_thresholds_of_sixteen_flows(traced: Alone) -> None:
+    """Each flow has a line and a threshold that can be distinguished. A note says that the seventeenth flow
+    is left out. `--of 'flow 3'` applies too."""
+    view = seen(many(17), traced)
+    assert len([one for one in windows(view).series if one.label.startswith("cwnd")]) == 16
+    assert "window: 17 lines are too many" in view.more_notes[0].text
+    view.senders = [(name, packets) for name, packets in view.senders if name == "flow 3"]
+    assert [one.label for one in windows(view).series] == ["cwnd 3", "ssthresh 3"]
+    axes, = pictures.figure_of([seen(many(16), traced)], ["window"]).axes
+    looks = {(line.get_color(), str(line._unscaled_dash_pattern))
+             for line in axes.get_lines() if line.get_label()[:4] == "cwnd"}
+    assert len(looks) == 16
+
+
+CHANGING = b"""experiment changing seed 0 budget 9
+@0 pipe 1 config bw 8Mbit/s delay 1
+@0 add 100 pipe 1 ip from any to any
+@0 inject udp 10.0.0.1 1 10.0.0.2 2 1000
+@1000000 pipe 1 config bw 4Mbit/s delay 1
+@1000000 inject udp 10.0.0.1 1 10.0.0.2 2 1000
+@4000000 pipe 1 config bw 0 delay 1
+@5000000 inject udp 10.0.0.1 1 10.0.0.2 2 1000
+@9000000 end
+"""
+
+
+def test_the_rate_of_the_link(traced: Alone) -> None:
+    """8, then 4 Mbit/s, then no limit, which is not a number. It is drawn with the throughput."""
+    view = seen(CHANGING, traced)
+    rate, = link_rates(view)
+    assert (rate.moments[:3].tolist() == [0, MS, 4 * MS] and rate.values[:2].tolist() == [8, 4]
+            and np.isnan(rate.values[2:]).all())
+    assert [one.label
+            for one in panel_of(view, "throughput").series] == ["delivered (injected)", "rate of pipe 1"]
 
 
 def test_senders_are_chosen(tmp_path: Path) -> None:
@@ -171,11 +258,10 @@ def test_too_many_side_by_side(tmp_path: Path) -> None:
     assert tool("plot", tmp_path / "report", "--overlay", *words)[0] == 0
 
 
-@pytest.mark.parametrize("words",
-                         [["--from", "2s", "--to", "1s"], ["--from", "5"], ["--to", "0"], ["--bin", "1ms"],
-                                   ["--what", "cdf"], ["--what", "box:window"],
-                          ["--bin", "0s", "--what", "throughput"]],
-                         ids=" ".join)
+@pytest.mark.parametrize("words", [
+    ["--from", "2s", "--to", "1s"], ["--from", "5"], ["--to", "0"], ["--bin", "1ms"], ["--what", "cdf"],
+    ["--what", "box:window"], ["--what", "windows"], ["--out", "x"],
+    ["--bin", "0s", "--what", "throughput"]], ids=" ".join)
 def test_wrong_words(words: list[str], tmp_path: Path) -> None:
     (tmp_path / "report").write_bytes(report_of(1))
     status, out, err = tool("plot", tmp_path / "report", *words)
