@@ -202,22 +202,6 @@ files:
                      (tmp_path / "run/transcript.txt").read_text())
 
 
-def test_goodput_is_that_of_iperf3(kernel: Path, program: str, tmp_path: Path) -> None:
-    if shutil.which("iperf3") is None:
-        pytest.skip("missing programs: iperf3")
-    status, _, err = tool("hosts", EXAMPLES / "bbr_beside_cubic.yaml", "--out", tmp_path / "run",
-                          DNLAB=program)
-    assert status == 0, err
-    status, out, err = tool("hosts", "--table", tmp_path / "run")
-    assert status == 0, err
-    found_rows = {line[:line.index("  ")]: line.split() for line in out.splitlines()}
-    for name, port in ("cubic", 5201), ("bbr", 5202):
-        found = json.loads((tmp_path / f"run/hosts/{name}/iperf3.0.stdout").read_text())["end"]
-        # The table's time starts with the control connection, and ends with the last byte.
-        goodput = float(found_rows[f"{name}:* > server:{port}"][-1])
-        assert goodput == pytest.approx(found["sum_received"]["bits_per_second"] / 1e6, rel=0.02)
-
-
 COUNTED = """  two:
     ip_addr: 10.0.0.2
     processes: [{path: /usr/bin/python3, args: server.py}]

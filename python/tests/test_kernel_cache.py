@@ -109,12 +109,6 @@ def test_two_calls_build_once(caller: Caller) -> None:
     assert sum("another call builds the kernel; waiting for it" in err for _, err in said) == 1
 
 
-def test_a_line_says_that_it_is_not_proved(caller: Caller) -> None:
-    line = ("hosts: libdnlab is the checked build of the sources, not proved: run ./dnlab prove to build "
-            "the proved one\n")
-    assert line in caller.call("checked")[2] and caller.call("checked")[2] == line
-
-
 @pytest.mark.parametrize("how, said", [
     ("missing", "hosts: the guest's kernel needs Debian packages; type: apt-get install flex bison\n"),
     ("failing", "hosts: the guest's kernel cannot be built: compiling: no space left\n"),

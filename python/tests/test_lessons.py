@@ -34,16 +34,6 @@ def delays(lines: list[list[str]], gap: int, first: int = 0, load: str = "plain"
     return [Fraction(at - first - k * gap, 10**6) for k, at in enumerate(came)]
 
 
-def test_there_are_five() -> None:
-    assert list(LESSONS) == ["packet", "queue", "bufferbloat", "sawtooth", "codel"]
-    for name, text in LESSONS.items():
-        title, question, answer, _ = text.split("\n---\n")
-        assert title and question.count("\n") >= 2 and answer.count("\n") >= 1, name
-        # Questions and answers have the same numbers.
-        assert re.findall(r"^(\d)\.", question,
-                          re.MULTILINE) == re.findall(r"^(\d)\.", answer, re.MULTILINE), name
-
-
 def test_a_packet(alone: Alone) -> None:
     """1000 * 8 bits at 1 Mbit/s take 8 ms, and the delay is 10 ms."""
     assert delays(report(alone, "packet")[0], 0) == [18]

@@ -234,12 +234,6 @@ def test_what_is_not_run_is_there() -> None:
         assert any(name.startswith(of) and command.startswith(begun) for name, command in shown), (of, begun)
 
 
-def test_no_command_hides_in_another_block() -> None:
-    """The commands of a block `sh` or `bash` would not be found."""
-    for page in PAGES:
-        assert not {"sh", "bash", "shell"} & {part[0] for part in PART.findall(page.read_text())}, page
-
-
 def text_of(name: str) -> str:
     """Returns a scenario of the tutorial, which makes two of them from others with sed."""
     if name == "rate.txt":

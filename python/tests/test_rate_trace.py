@@ -73,15 +73,6 @@ def test_an_outage_holds_packets(tmp_path: Path, alone: Run) -> None:
     assert len(found) == 30
 
 
-def test_an_outage_fills_the_queue(tmp_path: Path, alone: Run) -> None:
-    """One is in service and five wait, so those at 1.6 to 2.0 s find the queue full."""
-    trace, scenario = files(tmp_path, OUTAGE, "5")
-    _, text, _ = tool("rate-trace", trace, "--scenario", scenario, "--outage", "hold")
-    report = alone(text.encode()).decode()
-    dropped = [int(line.split()[0]) // 10**8 for line in report.splitlines() if line.endswith(" full")]
-    assert dropped == [16, 17, 18, 19, 20]
-
-
 def test_an_outage_that_comes_to_an_idle_link(tmp_path: Path, alone: Run) -> None:
     """A packet that arrives in the middle of the outage, between two steps, is late by less than a step."""
     trace, scenario = files(tmp_path, OUTAGE)

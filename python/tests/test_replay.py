@@ -3,7 +3,6 @@ calculated by hand."""
 import csv
 import shutil
 import struct
-import subprocess
 from pathlib import Path
 from typing import Callable, Iterable
 
@@ -80,19 +79,6 @@ def test_a_capture_leaves_a_link(tmp_path: Path) -> None:
     assert [(moment, length) for moment, length, _ in left(tmp_path / "out.pcap")] == [
         (18000000, 1014), (26000000, 1014), (34000000, 1014)]
     assert left(tmp_path / "out.pcap")[0][2] == ETHERNET + udp(1000)
-
-
-def test_other_programs_read_it(tmp_path: Path) -> None:
-    """tcpdump shows times, sequence numbers and lengths. By hand: 1000 bytes take 8 ms and 500 take 4, and
-    both 10 ms more."""
-    if not shutil.which("tcpdump"):
-        pytest.skip("tcpdump is missing (Debian: tcpdump)")
-    came = pcap(tmp_path / "in.pcap", [(0, tcp(1000, 5)), (500, udp(500))])
-    assert tool("replay", came, *LINK, "--out", tmp_path / "out.pcap")[0] == 0
-    words = ["tcpdump", "-r", tmp_path / "out.pcap", "--nano", "-tt", "-n", "-S"]
-    first, second = subprocess.run(words, capture_output=True, text=True, check=True).stdout.splitlines()
-    assert first.startswith("1700000000.018000000 IP 10.0.0.1.1000 > 10.0.1.1.80: ") and "seq 5:965," in first
-    assert second == "1700000000.022000000 IP 10.0.0.1.1000 > 10.0.1.1.2000: UDP, length 472"
 
 
 @pytest.mark.parametrize("form", [pcapng, lambda path, packets: pcap(path, packets, nano=True)])
@@ -239,12 +225,15 @@ def test_a_link_of_ones_own(tmp_path: Path) -> None:
     ("moment,size\n5,x\n", "line 2"), ("moment,size\n5,40\n1.5,40\n", "line 3"), ("size\n40\n", "line 1"),
     ("", "line 1"), ("moment,size\n", "no TCP or UDP packet"), ("moment,size,colour\n1,40,red\n", "colour"),
     ("moment,size,source\n1,40,10.0.0.300\n", "line 2"), ("moment,size\n1,40\n1,40,7,8\n", "line 3"),
-    ("moment,size\n1,1501\n", "--large")])
+    ("moment,size\n1,1501\n", "--large"), ("moment,size\nInfinity,100\n", "line 2"),
+    ("moment,size\n1,100\n1e999999999,100\n", "line 3"), ("moment,size\n1e999999,100\n", "line 2"),
+    ("moment,size\nNaN,100\n", "line 2"), ("moment,size\n" + "1" * 200000 + ",100\n", "line")],
+    ids=lambda text: text[:40])
 def test_wrong_tables(text: str, wanted: str, tmp_path: Path) -> None:
     came = tmp_path / "in.csv"
     came.write_text(text)
     status, said, told = tool("replay", came, *LINK, "--out", tmp_path / "out.pcap")
-    assert (status, said) == (2, "") and wanted in told and "Traceback" not in told, told
+    assert (status, said) == (2, "") and wanted in told and told.count("\n") == 1 and len(told) < 1000, told
     assert not (tmp_path / "out.pcap").exists()
 
 
@@ -266,9 +255,12 @@ def test_wrong_captures(tmp_path: Path) -> None:
 
 def test_wrong_links(tmp_path: Path) -> None:
     came = pcap(tmp_path / "in.pcap", [(0, udp(1000))])
-    for link, wanted in (("bw 10Mbps", "--link"), ("queue 5000", "outofrange")):
+    for link, wanted in (("bw 10Mbps", "--link"), ("queue 5000", "outofrange"),
+                         ("bw 1Mbit/s\x1b[2J", "--link"),
+                         ("bw 1Mbit/s\n@0 add 1 deny ip from any to any", "--link")):
         status, said, told = tool("replay", came, "--link", link, "--out", tmp_path / "out.pcap")
         assert (status, said) == (2, "") and wanted in told and not (tmp_path / "out.pcap").exists()
+        assert "\x1b" not in told
     status, _, told = tool("replay", came, *LINK, "--out", tmp_path / "out.pcap",
                            DNLAB=shutil.which("false") or "")
     assert status == 3 and "Traceback" not in told

@@ -1,8 +1,8 @@
 """tools/spread: it has the bytes, the errors and the status of `dnlab alone`, however a scenario is split.
 
-Runs all scenarios of examples/ and cookbook/ in parts: those with many experiments in 1, 2, 3 and 300, the
-others in one of these in turn; 256 experiments of theirs joined to one text under names of their own, and
-texts that the program itself refuses for their length. Needs GNU parallel (Debian: parallel)."""
+Runs all scenarios of examples/ and cookbook/ in parts, those with many experiments in 1, 2, 3 and 300, the
+others in one of these in turn; and texts that the program itself refuses for their length. Needs GNU parallel
+(Debian: parallel)."""
 import os
 from pathlib import Path
 
@@ -33,47 +33,6 @@ def test_each_scenario(turn: int, program: str) -> None:
     want = ended([program, "alone"], text)
     for parts in ways(turn, text):
         assert spread("--parts", parts, text=text, program=program) == want
-
-
-def joined(experiments: list[list[bytes]]) -> bytes:
-    """Returns a text in which each experiment has its own name, with comments, blank lines and spaces in
-    between."""
-    lines = [b"# joined", b""]
-    for number, one in enumerate(experiments):
-        _, _, *rest = one[0].split()
-        lines += [b"  experiment  n%d " % number + b"  ".join(rest), *one[1:], b"   ", b"  # experiment none"]
-    return b"\n".join(lines) + b"\n"
-
-
-@pytest.fixture(scope="module")
-def experiments(program: str) -> list[list[bytes]]:
-    """Returns the experiments of the texts without a fault, each as a list of lines, with those of the
-    largest text last."""
-    found = []
-    for file in FILES:
-        text = file.read_bytes()
-        if ended([program, "check"], text)[2] == 0 and begins(text):
-            lines, starts = text.split(b"\n")[:-1], begins(text)
-            found.append([lines[a:b] for a, b in zip(starts, starts[1:] + [len(lines)])])
-    return [one for many in sorted(found, key=len) for one in many]
-
-
-@pytest.mark.parametrize("parts", [2, 3, 300])
-def test_256_experiments(parts: int, experiments, program: str) -> None:
-    text = joined(experiments[:MOST])
-    want = ended([program, "alone"], text)
-    assert want[2] == 0 and spread("--parts", parts, text=text, program=program) == want
-
-
-def test_faults_in_256_experiments(experiments, program: str) -> None:
-    text = joined(experiments[:MOST])
-    line = b"line %d: afterend\n" % (text + b"@1 end\n").count(b"\n")
-    assert spread("--parts", 3, text=text + b"@1 end\n", program=program) == (b"", line, 1)
-    first = begins(text)[MOST // 2] + 1
-    lines = text.split(b"\n")
-    lines[first - 1] = lines[first - 1].replace(b"budget", b"buget")
-    assert spread("--parts", 3, text=b"\n".join(lines),
-                  program=program) == (b"", b"line %d: badword\n" % first, 1)
 
 
 # Three times as many small experiments as a text for the program can have.

@@ -43,7 +43,8 @@ def fake(tmp_path: Path, program: str) -> Path:
 FAILURES = [("a status", "echo memory >&2; exit 3\n", b"status 3, memory"),
             ("a signal", "kill -9 $$\n", b"ended by SIGKILL"),
             ("a lost machine", "exit 255\n", b"status 255"),
-            ("a cut report", "echo experiment bad; echo '0 ok 0'; exit 0\n", b"cut")]
+            ("a cut report", "echo experiment bad; echo '0 ok 0'; exit 0\n", b"cut"),
+            ("another report", "echo experiment other; echo counters 0 0; exit 0\n", b"another scenario")]
 
 
 @pytest.mark.parametrize("name,broken,why", FAILURES, ids=[failure[0] for failure in FAILURES])
@@ -73,16 +74,6 @@ def test_a_part_fails(name: str, broken: str, why: bytes, tmp_path: Path, fake: 
     assert not work.exists() and [found.name for found in tmp_path.glob("report.*")] == ["report.json"]
 
 
-def test_a_report_that_is_not_the_parts(tmp_path: Path, program: str, fake: Path) -> None:
-    for broken, why in [(f"printf '%s' \"$text\" | {program} alone; exit 9\n", b"status 9"),
-                        ("echo experiment other; echo counters 0 0; exit 0\n", b"another scenario")]:
-        (tmp_path / "broken").write_text(broken)
-        out, err, status = spread("--parts", 3, program=fake)
-        assert status == 3 and not out and b"part 2 of 3" in err and why in err
-    (tmp_path / "broken").write_text("exit 3\n")
-    assert spread("--parts", 2, program=fake)[::2] == (b"", 3)
-
-
 def test_a_changed_moment_is_seen(tmp_path: Path, program: str, fake: Path) -> None:
     """The packet of `bad` arrives at 7, although its link delivers it at 6: like every reader of reports,
     spread detects that."""
@@ -94,20 +85,6 @@ def test_a_changed_moment_is_seen(tmp_path: Path, program: str, fake: Path) -> N
         b"spread: part 2 of 3 failed (experiments bad to bad): its report does not match its scenario: "
         b"experiment bad:"
         b" line 4 of its report: ")
-
-
-@pytest.mark.parametrize("commands,want",
-                         [((9, 1, 1, 1), [9, 3]), ((1, 1, 1, 9), [3, 9]), ((3, 3, 3, 3), [6, 6])])
-def test_shares(commands: tuple[int, ...], want: list[int], tmp_path: Path, fake: Path) -> None:
-    """By hand: with 9, 1, 1, 1 commands, two parts have 9 and 3; with 3, 3, 3, 3 they have 6 and 6."""
-    (tmp_path / "broken").write_text("exit 3\n")
-    names = ["a", "b", "c", "d"]
-    names[commands.index(max(commands))] = "bad"
-    text = "".join(f"experiment {name} seed 0 budget 1\n" + "@0 show\n" * (many - 1) + "@1 end\n"
-                   for name, many in zip(names, commands)).encode()
-    work = tmp_path / "shares"
-    spread("--parts", 2, "--work", work, text=text, program=fake)
-    assert [(work / f"{part}.txt").read_bytes().count(b"@") for part in (1, 2)] == want
 
 
 def test_ended_from_outside(tmp_path: Path, fake: Path) -> None:

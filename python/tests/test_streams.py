@@ -98,22 +98,6 @@ def test_a_kept_file_without_room(tmp_path: Path, program: str) -> None:
         subprocess.run(["umount", disk], check=True)
 
 
-@pytest.mark.parametrize("text, link, line", [
-    ("moment,size\nInfinity,100\n", None, "line 2"),
-    ("moment,size\n1,100\n1e999999999,100\n", None, "line 3"),
-    ("moment,size\n1e999999,100\n", None, "line 2"), ("moment,size\nNaN,100\n", None, "line 2"),
-    ("moment,size\n" + "1" * 200000 + ",100\n", None, "line"),
-    (TABLE, "bw 1Mbit/s\n@0 add 1 deny ip from any to any", "--link"),
-    (TABLE, "bw 1Mbit/s\x1b[2J", "--link")], ids=range(7))
-def test_what_replay_refuses(text: str, link: "str | None", line: str, tmp_path: Path, program: str) -> None:
-    table = tmp_path / "t.csv"
-    table.write_text(text)
-    status, out, told = tool("replay", table, "--link", link or LINK[1], "--out", tmp_path / "o.csv",
-                             DNLAB=program)
-    assert ((status, out) == (2, "") and line in told and told.count("\n") == 1 and "\x1b" not in told
-            and len(told) < 1000)
-
-
 def test_names_that_steer_a_terminal(tmp_path: Path, report: list[str]) -> None:
     """Standard error has no control characters, and neither has standard output if it is a terminal."""
     name = tmp_path / "a\x1b]0;title\x07\x9b2J\u202ertl\r.txt"

@@ -250,14 +250,3 @@ def test_how_far_it_is_on_a_terminal(monkeypatch: pytest.MonkeyPatch) -> None:
     assert (re.fullmatch("spread: #{15} +3 of 4 parts, ETA [0-9:]+ *", lines[1])
             and "\n" not in shown.getvalue())
     assert not lines[-1] and not lines[-2].strip()
-
-
-def test_without_tqdm_nothing_is_said_of_how_far_it_is(tmp_path: Path, program: str) -> None:
-    """A Python without tqdm prints the table, and the line about the runs."""
-    code = ("import sys; sys.modules['tqdm'] = None; from dnlab.__main__ import main; "
-            "sys.exit(main(sys.argv[1:]))")
-    done = subprocess.run([sys.executable, "-B", "-c", code, "sweep", str(template(tmp_path)), "--set",
-                           "delay=5,7", "--of", "train 1",
-                           "--stat", "delay.p95"], capture_output=True, text=True, check=False,
-                          env={**os.environ, "DNLAB": program, "PYTHONPATH": str(ROOT / "python")})
-    assert done.returncode == 0 and done.stdout.startswith("delay  train 1 delay.p95 ms\n"), done.stderr
