@@ -83,19 +83,6 @@ def test_three_digits_unless_exact() -> None:
     assert pair(Fraction(0), Fraction(0)).shown(exact=False) == ["0ns", "0ns", "-"]
 
 
-def test_exact_goes_with_the_table(two: list[Path], traced: Alone) -> None:
-    """The last of five packets of 1000 bytes at 7 Mbit/s and 8 takes 5714286 ns (40000 bits, rounded up once)
-    and 5000000."""
-    report, plan, other, seven = two
-    seven.write_text(TRAIN.replace("8Mbit/s", "7Mbit/s"))
-    other.write_bytes(traced(seven.read_bytes()))
-    rows = [line.split() for words in ((), ("--exact",))
-            for line in tool("compare", report, other, plan, seven, "--of", "train 9", *words)[1].splitlines()
-            if " delay.max " in line]
-    assert [row[-4:-1] for row in rows] == [["15ms", "15.714ms", "1.048"],
-                                            ["15ms", "15.714286ms", "1.04761907"]]
-
-
 def test_where_they_part(two: list[Path]) -> None:
     a, plan, b, other = two
     status, out, _ = tool("compare", a, b, plan, other, "--lines", "1")
@@ -114,13 +101,6 @@ def test_where_they_part(two: list[Path]) -> None:
     assert json.loads(tool("compare", a, b, plan, other, "--json")[1])["partings"] == [
         {"experiment": "a", "moment": 10**6, "a": "line 16: 1000000 ns finish train 9 packet 0 at 1.0",
          "b": "line 16: 2000000 ns finish train 9 packet 0 at 1.0"}]
-
-
-def test_the_same(two: list[Path]) -> None:
-    a, plan, *_ = two
-    status, out, err = tool("compare", a, a, plan)
-    first, last = out.split("\n")[0], out.split("\n")[-2].split()
-    assert status == 0 and not err and first == "a: the same, line by line" and last[0] == last[2]
 
 
 @pytest.mark.parametrize("tolerances, status, said", [

@@ -50,14 +50,6 @@ def test_ipfw_takes_it_back(tmp_path: Path) -> None:
     assert commands == ["one_pass 1", *wanted, "add 65534 deny ip from any to any"]
 
 
-def test_ipfw_refuses_what_acts_twice(tmp_path: Path) -> None:
-    file = text_file(tmp_path, SCENARIO)
-    status, said, told = tool("to-ipfw", file, "--if", "em1=172.16.0.0/12", "--out", tmp_path / "rules.sh")
-    assert ((status, said) == (2, "") and "line 4" in told and "--host" in told
-            and not (tmp_path / "rules.sh").exists())
-    assert tool("to-ipfw", file, "--host")[0] == 0
-
-
 def test_ipfw_rules_of_any(tmp_path: Path) -> None:
     """A rule between any addresses matches every incoming and outgoing packet, whatever addresses are behind
     an interface."""
@@ -86,15 +78,6 @@ def test_ipfw_directions(ends: str, behind: list[str], wanted: str, tmp_path: Pa
         assert status == 0 and f"\nipfw -q add 5 pipe 1 ip {ends} {wanted}\n" in script
     else:
         assert (status, script) == (2, "") and "line 3" in told and "both its ends are behind em0" in told
-
-
-def test_ipfw_says_what_it_removes(tmp_path: Path) -> None:
-    """The comments at the start of the script state what it does to the machine's own rules."""
-    _, script, _ = tool("to-ipfw", text_file(tmp_path, SCENARIO), "--host")
-    head = script[:script.index("\nkldload")]
-    assert ("removes all existing rules and pipes" in head and "`65534 deny ip from any to any`" in head
-            and "incoming packets" in head)
-    assert all(line.startswith("#") for line in head.splitlines())
 
 
 def test_ipfw_moments(tmp_path: Path) -> None:

@@ -40,20 +40,6 @@ def test_pairs_that_dont_belong_together(which: str, old: str, new: str, said: s
     assert said in str(refused.value)
 
 
-def test_packets_by_hand() -> None:
-    table = view_of("reno_four_segments").packets
-    made = [(table.names[who], moment, size) for who, moment, size in zip(table.who, table.made, table.size)]
-    # Three segments at once; each delivery creates an acknowledgement; the fourth segment is sent at the
-    # first of these.
-    assert made == [("flow 1", 0, 1500), ("flow 1", 0, 1500), ("flow 1", 0, 1500),
-                    ("flow 1 acks", 11200000, 40), ("flow 1 acks", 12400000, 40),
-                    ("flow 1 acks", 13600000, 40), ("flow 1", 21200000, 1500), ("flow 1 acks", 32400000, 40)]
-    timeouts = view_of("reno_timeouts").packets
-    assert timeouts.made.tolist() == [0, 0, 0, 10**9, 3 * 10**9]
-    # Both timeouts send the first segment again.
-    assert timeouts.retransmission.tolist() == [False, False, False, True, True]
-
-
 def visits(view: View, packet: int) -> list[tuple[str, int, int, int]]:
     table = view.visits
     return [(instance_name(int(table.pipe[k])), int(table.arrival[k]), int(table.finish[k]),

@@ -61,14 +61,6 @@ def test_another_scenario_is_refused(stored: tuple[Path, Path, Path], tmp_path: 
     assert tool("summary", report, other)[0] == 0 and dnlab.read(report, plan).origin is None
 
 
-def test_what_makes_no_difference(stored: tuple[Path, Path, Path], tmp_path: Path) -> None:
-    report, *_ = stored
-    first, second = TEXT.split("experiment b")
-    (tmp_path / "1").write_text("# two texts\n\n" + first.replace("@0 add", "  @0   add"))
-    (tmp_path / "2").write_text("experiment b" + second)
-    assert tool("summary", report, tmp_path / "2", tmp_path / "1")[0] == 0
-
-
 def test_a_report_that_was_changed(stored: tuple[Path, Path, Path]) -> None:
     report, plan, _ = stored
     report.write_bytes(report.read_bytes().replace(b"experiment a", b"experiment c"))
@@ -100,9 +92,3 @@ def test_files_that_are_something_else(stored: tuple[Path, Path, Path]) -> None:
     beside(report).write_text('{"dnlab report": 1, "scenario": 5}')
     status, _, err = tool("summary", report, plan)
     assert status == 2 and "it is not a valid record of what made" in err and len(err.splitlines()) == 1
-
-
-def test_a_run_that_fails_leaves_nothing(program: str, tmp_path: Path) -> None:
-    with pytest.raises(dnlab.ProgramError):
-        dnlab.run(TEXT.replace("train 9", "trian 9"), out=tmp_path / "r", dnlab=program)
-    assert not list(tmp_path.iterdir())

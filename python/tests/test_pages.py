@@ -278,17 +278,6 @@ def test_the_answer_of_another_target(folder: Path, program: str) -> None:
 
 SCENARIOS = {path.parent.name: path.read_text()
              for path in sorted((ROOT / "cookbook").glob("*/scenario.txt"))}
-TITLED = {f"{page.name} {name}": text for page in PAGES for kind, name, text in STEPS[page]
-          if kind == "file" and name.endswith(".txt") and text.startswith("experiment ")}
-
-
-@pytest.mark.parametrize("name", [*SCENARIOS, *TITLED])
-def test_no_text_of_a_page_has_a_seed_that_is_warned_of(name: str, program: str) -> None:
-    """Readers type these first. A warning about the pages' own habits would hide the important warnings."""
-    text = {**SCENARIOS, **TITLED}[name]
-    done = subprocess.run([program, "check", "--explain"], input=text, capture_output=True, text=True,
-                          check=False)
-    assert done.returncode in (0, 1) and "its seed" not in done.stderr
 
 
 def test_the_cookbook_is_as_it_is_meant(program: str) -> None:

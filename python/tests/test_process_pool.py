@@ -1,5 +1,4 @@
 """The pool of worker processes: results, errors, ends of workers and of their parent."""
-import gc
 import os
 import re
 import signal
@@ -25,15 +24,6 @@ class OneWayError(Exception):
 
 def doubled(number: int) -> int:
     return 2 * number
-
-
-def opened_and_collected(folder: str) -> int:
-    """Opens and closes files, so that numbers of descriptors are used again, and collects garbage."""
-    for _ in range(20):
-        files = [open(f"{folder}/{number}", "wb") for number in range(50)]
-        del files
-        gc.collect()
-    return os.getpid()
 
 
 def refused(line: int) -> None:
@@ -72,17 +62,6 @@ def test_results_have_their_tokens(pool: ProcessPool[Any]) -> None:
     assert len(pool) == 0
     with pytest.raises(TimeoutError):
         pool.next_result(0.01)
-
-
-def test_a_worker_outlives_its_garbage(tmp_path: Path) -> None:
-    """A worker that watches a descriptor by an object would end when the object is collected and its number
-    is used again."""
-    with ProcessPool[int](1) as pool:
-        found = set()
-        for number in range(3):
-            pool.submit(number, opened_and_collected, str(tmp_path))
-            found.add(pool.next_result(60).get())
-    assert len(found) == 1
 
 
 def test_an_exception_has_its_cause(pool: ProcessPool[Any]) -> None:

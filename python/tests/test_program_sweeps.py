@@ -60,12 +60,6 @@ def test_wrong_words(words: tuple[str, ...], said: str) -> None:
     assert status == 2 and said in err
 
 
-def test_seeds_that_change_nothing_are_named(mine: str) -> None:
-    err = tool("sweep", "--run", mine.replace("{{ seed }}", "1"), "--set", "rate=1Mbit/s", "--seeds",
-               "1-2")[2]
-    assert "the seeds change nothing: there is no {{ seed }} in it" in err
-
-
 def test_a_statistic_of_ones_own_gets_the_folder(mine: str, tmp_path: Path) -> None:
     pytest.importorskip("cloudpickle", reason="cloudpickle is missing (Debian: python3-cloudpickle)")
     (tmp_path / "own.py").write_text(

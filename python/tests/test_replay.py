@@ -141,15 +141,6 @@ def test_no_frame_is_cut(tmp_path: Path) -> None:
     assert kept == 1514 and struct.unpack("<I", data[16:20])[0] == 65535
 
 
-def test_a_capture_and_a_table(tmp_path: Path) -> None:
-    """One run writes both. By hand: 1000 bytes take 8 ms at 1 Mbit/s, and the delay is 10 ms."""
-    came = pcap(tmp_path / "in.pcap", [(0, udp(1000))])
-    assert tool("replay", came, *LINK, "--out", tmp_path / "out.pcap", "--out", tmp_path / "out.csv")[0] == 0
-    assert [moment for moment, _, _ in left(tmp_path / "out.pcap")] == [18000000]
-    with open(tmp_path / "out.csv", encoding="ascii") as file:
-        assert [(row["left"], row["fate"]) for row in csv.DictReader(file)] == [("18000000", "delivered")]
-
-
 @pytest.mark.parametrize("names, wanted", [
     (["out.txt"], ".pcap"), (["out.pcapng"], ".csv"), (["out.pcap", "out"], ".csv"),
     (["out.csv", "out.csv"], "with different names")])

@@ -138,14 +138,6 @@ def test_web() -> None:
     assert len(few.lines()) == 40
 
 
-def test_it_hangs_on_the_seed_alone() -> None:
-    def drawn(seed: int) -> list[str]:
-        one = Traffic(Chance(seed))
-        one.web(3, SECOND, 20 * SECOND, "flow {flow} {segments}")
-        return one.lines()
-    assert drawn(1) == drawn(1) != drawn(2)
-
-
 @pytest.mark.parametrize("source, wanted", [
     ('traffic.every(0, 9, "show")', "gap"), ('traffic.at(1.5, "show")', "whole number"),
     ('traffic.at(1, "a\\nb")', "one command"),

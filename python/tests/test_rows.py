@@ -12,7 +12,6 @@ from conftest import EXAMPLES, records_in, report_of, text_of, text_view, tool, 
 import dnlab
 from hand_calculated import FLOWS, TRAIN
 from dnlab.errors import ParseError, RowError
-from dnlab.io.pieces import pieces
 from dnlab.io.rows import ROW, ends_of, header_of, join, kinds_of, opened
 
 Traced = Callable[[bytes], bytes]
@@ -145,18 +144,6 @@ def test_spread_joins_rows(tmp_path: Path) -> None:
     assert tool("summary", tmp_path / "r.npy", scenario)[0] == 0
 
 
-def test_a_program_that_writes_a_text(tmp_path: Path, program: str) -> None:
-    """A program that ignores --format is no answer without values."""
-    (tmp_path / "old").write_text(
-        f'#!/bin/sh\nif [ "$1" = alone ]; then exec {program} alone; fi\nexec {program} "$@"\n')
-    (tmp_path / "old").chmod(0o755)
-    (tmp_path / "t").write_text(
-        "experiment {{ name }} seed {{ seed }} budget 9\n@0 train 1 udp 10.0.0.1 1 10.0.0.2 2 100 count 1 "
-        "gap 0\n@9 end\n")
-    status, out, err = tool("sweep", tmp_path / "t", "--seeds", "1", DNLAB=str(tmp_path / "old"))
-    assert (status, out) == (3, "") and "must know --format npy" in err
-
-
 def test_without_the_scenario(data: bytes) -> None:
     """Experiments have numbers instead of names, and packets their senders."""
     experiment, = records_in(data)
@@ -179,10 +166,3 @@ def test_tools_on_rows(name: str, tmp_path: Path, traced: Traced) -> None:
     assert tool("summary", "-", scenario, "--json", text=rows)[1] == wanted[1]
     status, out, _ = tool("compare", tmp_path / "r.npy", tmp_path / "r.txt", scenario, scenario)
     assert status == 0 and "they diverge" not in out
-
-
-def test_a_piece_is_read_by_its_rows(data: bytes, tmp_path: Path) -> None:
-    (tmp_path / "r").write_bytes(data)
-    piece, = pieces(tmp_path / "r", names=["train"])
-    assert (piece.name, piece.begin, piece.end, piece.size()) == ("train", 0, 23, 920)
-    assert len(piece.read()) == 23 and piece.read().where(3) == "rows[3]"

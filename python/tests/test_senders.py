@@ -64,13 +64,6 @@ def test_a_chain(program: str) -> None:
     assert [row["fct"] for row in network.rows()][:2] == [20_832_001, 20_832_001]
 
 
-def test_then_is_called_at_once_if_it_is_done(program: str) -> None:
-    called: list[str] = []
-    _, flow = on_link(program, lambda network: network.flow(100))
-    flow.then(lambda: called.append("then")).on_arrival(lambda: called.append("arrived"))
-    assert called == ["then", "arrived"]
-
-
 def test_requests(program: str) -> None:
     """300 bytes there: 340 bytes at 10 Mbit/s take 0.272 ms, and 20 ms; 5 ms of work; 1000 bytes back through
     a pipe without a rate, 20 ms. Each step takes 1 ns more. Then 2 ms of think time."""
@@ -125,11 +118,6 @@ def test_arrivals_are_a_poisson_process(program: str) -> None:
             and table.retransmissions.sum() == 0)
     goodput = table["bytes"].astype(float) * 8e9 / table.fct.astype(float)
     assert (abs(goodput - table.goodput.astype(float)) <= 1).all()
-
-
-def test_steps_that_are_spent_are_told(program: str) -> None:
-    with pytest.raises(dnlab.InputError, match="its steps were spent"):
-        on_link(program, lambda network: network.flow(10**6), steps=100)
 
 
 def test_a_window_of_one_s_own(program: str) -> None:

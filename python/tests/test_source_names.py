@@ -142,14 +142,6 @@ def test_what_is_refused(files: tuple[Path, Path], words: list[str], said: str) 
     assert found.startswith("summary: name ") and said in found and len(found.splitlines()) == 1
 
 
-@pytest.mark.parametrize("name, more", [("plot", ["--out", "none.svg"]), ("expect", ["all: drops == 1"])])
-def test_the_others_refuse_it_too(files: tuple[Path, Path], name: str, more: list[str]) -> None:
-    status, out, said = tool(name, *files, "--name", "10.0.0.9=mine", *more)
-    assert (status, out) == (2, "") and SOURCES in said
-    status, _, said = tool(name, files[0], "--name", "10.0.0.1=mine", *more)
-    assert status == 2 and "only the scenario says which packets were injected" in said
-
-
 def test_of_several_experiments(tmp_path: Path, traced: Alone) -> None:
     """In the second experiment port 1000 of 10.0.0.1 is port 3000. A name must match a packet of the
     requested experiments."""

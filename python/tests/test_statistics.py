@@ -9,7 +9,6 @@ from conftest import tool
 from hand_calculated import TRAIN
 
 import dnlab
-from dnlab.cli.sweep import progress_text
 
 # TRAIN with a queue that is open.
 TEMPLATE = TRAIN.scenario.decode().replace("experiment train seed 0",
@@ -51,14 +50,6 @@ def test_what_a_function_answers_is_never_kept(template: Path, tmp_path: Path, p
             return wanted
         swept = dnlab.sweep(template, queue=[2], stat=mine, kept=tmp_path / "kept", dnlab=program)
         assert swept.table()["mean"].tolist() == [wanted]
-
-
-def test_what_is_said_where_it_ends_early() -> None:
-    """Results of functions are not cached, so there is no hint about resuming."""
-    assert progress_text(dnlab.sweep(TEMPLATE, queue=[2], of="all", stat="lost"), "k") == (
-        "0 of 1 experiments are kept in k; the same command continues")
-    assert "are not kept, so the same command starts again" in progress_text(
-        dnlab.sweep(TEMPLATE, queue=[2], stat=made), "k")
 
 
 @pytest.mark.parametrize("body, status, said", [

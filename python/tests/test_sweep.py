@@ -1,7 +1,6 @@
 """Sweeps: tables, intervals, pictures and the texts that they run. Values are calculated by hand, with grep
 on the report, or from the formulas of Student's t with numbers of a table."""
 import hashlib
-import importlib.util
 import json
 import math
 import os
@@ -9,7 +8,6 @@ import pickle
 import random
 import re
 from pathlib import Path
-from typing import Callable
 
 import pytest
 from conftest import tool
@@ -117,41 +115,6 @@ def test_intervals_by_another_way() -> None:
     assert interval([4.0]) == Interval(1, 4) and interval([]) == Interval(0, None)
 
 
-def test_counts_by_grep(tmp_path: Path, program: str, alone: Callable[[bytes], bytes]) -> None:
-    """Compares the losses and deliveries of flows and the call with the lines of the report."""
-    each = tmp_path / "each.csv"
-    words = ["--set", "length=2", "--set", "queue=10,200 codel", "--seeds", "3", "--kept", tmp_path / "k",
-             "--each", each]
-    stats = ["--of", "flows", "--stat",
-             "lost,delivered,drops.full,drops.codel,drops.lost,retransmissions,packets", "--of", "train 9",
-             "--stat", "delivered,lost,delay.mean,delay.max"]
-    assert tool("sweep", BOTTLENECK, *words, *stats, DNLAB=program)[0] == 0
-    rows = rows_of(each.read_text())
-    made = dnlab.sweep(BOTTLENECK, length=2, queue=[10, "200 codel"], seed=3)
-    assert ([row["sender"] for row in rows] == ["flows", "train 9"] * 2
-            and rows[0]["experiment"] == "length2-queue10-s3")
-    for case, flows, call in zip(made.cases, rows[::2], rows[1::2]):
-        report = alone(made.text(case).encode()).decode()
-
-        def count(pattern: str) -> str:
-            return str(len(re.findall(pattern, report, re.MULTILINE)))
-
-        assert (flows["lost"] == count(r"^\d+ drop \d+ data ")
-                and flows["delivered"] == count(r"^\d+ deliver \d+ data "))
-        for cause in "full", "codel", "lost":
-            assert flows[f"drops.{cause}"] == count(rf"^\d+ drop \d+ data .* {cause}$")
-        assert (call["delivered"] == count(r"^\d+ deliver \d+ plain$")
-                and call["lost"] == count(r"^\d+ drop \d+ plain"))
-        # Packet k of the call is created at 20 ms * k, and they are delivered in order.
-        lost = {int(one) for one in re.findall(r"^\d+ drop (\d+) plain", report, re.MULTILINE)}
-        plain = [(int(one), int(moment))
-                 for moment, one in re.findall(r"^(\d+) deliver (\d+) plain", report, re.MULTILINE)]
-        made_at = dict(zip(sorted([one for one, _ in plain] + list(lost)), range(0, 10**10, 20_000_000)))
-        times = [moment - made_at[one] for one, moment in plain]
-        assert float(call["delay.mean"]) == pytest.approx(sum(times) / len(times), rel=1e-12)
-        assert call["delay.max"] == str(max(times)) and call["drops.full"] == "" and flows["delay.mean"] == ""
-
-
 def test_flows_together(tmp_path: Path, program: str) -> None:
     """Two flows of 4 and 2 segments over links that are never full: 1000 bytes take 8 ms at 1 Mbit/s, and 10
     ms back."""
@@ -221,14 +184,6 @@ def test_the_same_bytes(tmp_path: Path, program: str) -> None:
     assert (len(rows_of(files[0][1].decode())) == 8 == len(json.loads(files[0][2]))
             and files[0][3].startswith(b"<?xml"))
     assert [len(list(tmp_path.glob(f"{turn}.*"))) for turn in "ab"] == [4, 4]
-
-
-def test_parquet_needs_pyarrow(tmp_path: Path, program: str) -> None:
-    if importlib.util.find_spec("pyarrow") is not None:
-        pytest.skip("pyarrow is there")
-    status, _, err = tool("sweep", template(tmp_path), "--set", "delay=5", "--parquet",
-                          tmp_path / "x.parquet", DNLAB=program)
-    assert status == 3 and "pyarrow" in err and "--csv" in err and os.listdir(tmp_path) == ["one.tmpl"]
 
 
 def test_dry_run(tmp_path: Path) -> None:

@@ -9,7 +9,6 @@ from conftest import tool
 from sweeps import WIDE, template
 
 import dnlab
-from dnlab.analysis import names
 from dnlab.errors import InputError
 from dnlab.plot import curves
 from dnlab.plot.style import Look, check_panels
@@ -54,15 +53,6 @@ def test_means_of_numbers_and_words() -> None:
     assert [axes.get_title("left") for axes in figure.axes] == ["the call", "all flows"]
     assert figure._suptitle.get_text() == "Comparison by queue limit"
     assert figure._supxlabel.get_text() == "Points: means of 20 seeds; bars: 95 % intervals"
-
-
-def test_one_sender_is_named_once() -> None:
-    rows = pd.concat([table(), table().assign(stat="delay.p50")])
-    figure = curves.figure_of(rows[rows["sender"] == "train 9"], ["queue"],
-                              Look(labels=LABELS, title="", legend="none"))
-    assert [axes.get_title("left") for axes in figure.axes] == ["", ""] and figure._suptitle is None
-    assert [axes.get_ylabel() for axes in figure.axes] == ["95th percentile of delay (ms)",
-                                                           "Median delay (ms)"]
 
 
 def test_long_times_are_in_seconds() -> None:
@@ -135,16 +125,6 @@ def test_boxes() -> None:
     assert ([text.get_text() for text in axes.get_xticklabels()] == ["10", "50"]
             and axes.get_xlabel() == "Queue limit (packets)")
     assert axes.get_ylabel() == "Flow completion time (ms)"
-
-
-def test_labels_of_settings() -> None:
-    """A label comes from the option whose value the setting is, and from the unit after it. An expression has
-    no label."""
-    text = ("@0 pipe 1 config bw {{ rate }}Mbit/s delay {{delay}} queue {{ queue }} plr {{ loss }}\n@{{ up | "
-            "s }} pipe 1 delete\n@{{ 2 * x }} end\n")
-    assert names.of_template(text, ["rate", "delay", "queue", "loss", "up", "x"]) == {
-        "rate": "Link rate (Mbit/s)", "delay": "Link delay (ms)", "queue": "Queue limit (packets)",
-        "loss": "Packet loss ratio", "up": "Up (s)"}
 
 
 @pytest.mark.parametrize("words,said", [

@@ -1,12 +1,9 @@
 """How a sweep runs: cached results, other machines, signals, and progress."""
 import importlib.util
-import io
 import os
 import re
 import sqlite3
 import subprocess
-import sys
-import time
 from pathlib import Path
 
 import pytest
@@ -230,23 +227,3 @@ def test_how_far_it_is(capsys: pytest.CaptureFixture[str]) -> None:
     progress.step()
     progress.close()
     assert re.fullmatch("sweep: 2 of 9 experiments, ETA [0-9:]+\n", capsys.readouterr().err)
-
-
-@pytest.mark.skipif(importlib.util.find_spec("tqdm") is None, reason="tqdm is missing (Debian: python3-tqdm)")
-def test_how_far_it_is_on_a_terminal(monkeypatch: pytest.MonkeyPatch) -> None:
-    """A line with a bar is rewritten in place, and at the end it is removed."""
-    class Terminal(io.StringIO):
-        def isatty(self) -> bool:
-            return True
-
-    shown = Terminal()
-    monkeypatch.setattr(sys, "stderr", shown)
-    with Progress("spread", 4, 1, "parts") as progress:
-        progress.step()
-        assert not shown.getvalue()
-        time.sleep(0.6)
-        progress.step()
-    lines = shown.getvalue().split("\r")
-    assert (re.fullmatch("spread: #{15} +3 of 4 parts, ETA [0-9:]+ *", lines[1])
-            and "\n" not in shown.getvalue())
-    assert not lines[-1] and not lines[-2].strip()

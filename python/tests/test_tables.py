@@ -3,7 +3,6 @@ import pytest
 from conftest import records_in, text_of, view_of, views_of
 
 from dnlab.analysis.intervals import losses, windows_of
-from dnlab.analysis.metrics import times_of
 from dnlab.analysis.names import varied
 from dnlab.analysis.summary import grouped
 from dnlab.analysis.tables import Tables
@@ -16,32 +15,10 @@ def rows_of(view: View, percentiles=(50, 99)):
     return {row["sender"]: row for row in Tables(view, percentiles).rows()}
 
 
-def test_codel_one_drop() -> None:
-    rows = rows_of(view_of("codel_one_drop"), (50, 95, 99))
-    # The k-th packet that is served ends at 8 ms * k + 1 ns, k from 1 to 29: the 15th is the median, the 28th
-    # the minimum that 95 % don't exceed (27.55 of 29).
-    train = rows["train 1"]
-    assert list(rows) == ["train 1", "pipe 1.0", "all"]
-    assert [train[name] for name in times_of((50, 95, 99))] == [8000001, 120000001, 224000001, 232000001,
-                                                                232000001]
-    assert (train["bytes"], train["time"], train["codel"]) == (29000, 232000001, 1)
-    assert train["rate"] == train["goodput"] == 29000 * 8 * 10**9 // 232000001
-    assert (rows["pipe 1.0"]["packets"], rows["pipe 1.0"]["codel"], rows["pipe 1.0"]["full"]) == (29, 1, 0)
-    assert (train["ended"], train["warnings"], train["retransmissions"],
-            train["jain"]) == ("end", "", None, None)
-
-
 def test_untraced_and_without_the_scenario() -> None:
     bare = Tables(View(records_in(text_of("codel_one_drop", "expected.txt"))[0])).rows()[0]
     assert (bare["sender"], bare["packets"], bare["codel"], bare["bytes"], bare["p50"], bare["seed"]) == (
         "plain", 30, 1, None, None, None)
-
-
-def test_traced_burst() -> None:
-    rows = rows_of(View(records_in(text_of("traced_burst", "expected.txt"))[0]))
-    assert (rows["pipe 1.0"]["full"], rows["pipe 1.0"]["lost"]) == (1, 0)
-    # 8 ms in service, the second packet after the first; then 1 ns in the delay line.
-    assert (rows["pipe 1.0"]["min"], rows["pipe 1.0"]["max"]) == (8 * 10**6 + 1, 16 * 10**6 + 1)
 
 
 def test_a_flow() -> None:
