@@ -58,9 +58,12 @@ def test_slow_start_and_fast_retransmit() -> None:
     # 8 segments are in flight and the window is 4 + 3: the next duplicates make it 8 and 9, and a ninth
     # segment is sent.
     assert ack(fake, flow, 4) == [] and ack(fake, flow, 4) == [12]
+    before = flow.timeout.smoothed
     # The missing segment has arrived: recovery ends with a window of 4, and 3 segments after 10 are in
     # flight.
     assert ack(fake, flow, 10) == [13] and flow.retransmissions == 1
+    # RFC 6298, section 3: a segment that was sent again is no sample.
+    assert flow.timeout.smoothed == before
 
 
 def test_reno_waits_where_newreno_sends() -> None:

@@ -122,11 +122,13 @@ def test_what_the_link_could_have_carried(tmp_path: Path, traced: Run) -> None:
 
 
 def test_options_are_kept(tmp_path: Path) -> None:
-    trace, scenario = files(tmp_path, "seconds,rate\n0.5,2Mbit/s\n1,2Mbit/s\n")
+    trace, scenario = files(tmp_path, "seconds,rate\n0.5,2Mbit/s\n9,3Mbit/s\n9.5,3Mbit/s\n")
     scenario.write_text(SCENARIO.format("7"))
     _, text, _ = tool("rate-trace", trace, "--scenario", scenario)
     assert "@500000000 pipe 1 config bw 2Mbit/s queue 7 codel target 9s\n" in text
-    assert text.endswith("@9000000000 end\n") and "budget 1000 steps 1000000\n" in text
+    # What comes with the end or later is left out.
+    assert text.endswith("@9000000000 end\n") and "3Mbit" not in text
+    assert "budget 1000 steps 1000000\n" in text
 
 
 @pytest.mark.parametrize("trace, wanted", [

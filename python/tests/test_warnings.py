@@ -45,6 +45,8 @@ MARKS = [
     ("a second config that names all",
      BOTH + TRAIN + "@50000000 pipe 1 config bw 5Mbit/s delay 20 queue 50\n", 5 * 10**9, ""),
     ("a delay alone", BOTH + TRAIN + "@50000000 pipe 1 config delay 40\n", 5 * 10**9, "reconfigured"),
+    ("a delay that was none before", BOTH + TRAIN + "@50000000 pipe 1 config bw 10Mbit/s delay 0 queue 50\n"
+     "@60000000 pipe 1 config bw 10Mbit/s queue 50\n", 5 * 10**9, ""),
     ("at one moment, one behind the other", LINK + "@0 pipe 1 config queue 10\n" + BACK + THERE + TRAIN,
      5 * 10**9, "reconfigured"),
     ("an outage by plr, and its end", BOTH + TRAIN + "@50000000 pipe 1 config bw 10Mbit/s delay 20 plr 1\n"
