@@ -1,4 +1,4 @@
-"""The memory of a process of its own, as of a command."""
+"""How commands and their workers allocate memory."""
 import ctypes
 import sys
 
@@ -7,8 +7,8 @@ _TRIM_THRESHOLD, _MMAP_THRESHOLD = (-1, 2**31 - 1), (-3, 1 << 25)
 
 
 def keep_freed() -> None:
-    """Keeps memory that is freed, which tables need again for their next columns: to give megabytes back to
-    the system, and to get them again as pages of zeros, takes longer than to compute with them."""
+    """Keeps freed memory in this process, because the next columns of a table need it again. Returning
+    megabytes to the system and getting them back as zeroed pages takes longer than computing with them."""
     mallopt = getattr(ctypes.CDLL(None), "mallopt", None) if sys.platform == "linux" else None
     if mallopt is not None:
         mallopt(*_TRIM_THRESHOLD)

@@ -108,7 +108,8 @@ class ResultCache:
                 base = sqlite3.connect(":memory:" if self.path is None else self.path, timeout=60)
                 # Bytes that are not text are a damaged result, not an error of the file.
                 base.text_factory = bytes
-                # Each result would wait for the disk, so that a few are not lost if the system fails.
+                # Otherwise each result waits for the disk. A killed process loses nothing; a failure of the
+                # system may damage the file, which is then refused, or a result, which then runs again.
                 base.execute("PRAGMA synchronous=OFF")
                 base.execute(_MADE)
                 self._base = base

@@ -23,7 +23,7 @@ MOST_KEPT = 2**28
 _PATIENCE = 6.0
 # A text that takes this many seconds is worth a process of its own.
 _LONG = 0.05
-# A text's name, seed and settings, and what tells it from others.
+# A text's name, seed and settings, and the key that identifies it.
 _Request = tuple[str, int, Mapping[str, Any]]
 _Key = tuple[Any, ...]
 
